@@ -1,0 +1,46 @@
+-- Decimal numbers as document 01 prints them, and `Var`'s Display of src/ppl.rs, as bytes.
+-- Assumes nothing.
+use mathlib.Core.Path.{_≡_}
+use mathlib.Core.Bool.{Bool, true, false}
+use mathlib.Core.List.{List, [], _∷_, _++_}
+use Prim.Native.Nat.{ℕ, zero, suc, _+_, _/_, _%_, _≤_}
+use lib.Dec.{ltb}
+use lib.ListN.{length, drop}
+use lib.IntN.{ℤ, pos, negsuc}
+use Rattle.text.specs.declared.Text.{Text}
+
+abbrev pub pick : Bool → List ℕ → List ℕ → List ℕ
+pick true a b = a
+pick false a b = b
+
+-- '0' to '9'
+abbrev pub digit : ℕ → ℕ
+digit d = 48 + d
+
+-- the decimal digits of n, the highest first, where k of them are enough
+unfoldable pub digitsWithin : ℕ → ℕ → List ℕ
+digitsWithin zero n = []
+digitsWithin (suc k) n =
+    let higher = digitsWithin k (n / 10) in
+    pick (ltb n 10) (digit n ∷ []) (higher ++ (digit (n % 10) ∷ []))
+
+-- a number of 64 bits has at most 20 digits
+abbrev pub mostDigits : ℕ
+mostDigits = 20
+
+unfoldable pub decimal : ℕ → List ℕ
+decimal n = digitsWithin mostDigits n
+
+-- '-' and the size, where the number is negative
+unfoldable pub signedDecimal : ℤ → List ℕ
+signedDecimal (pos n) = decimal n
+signedDecimal (negsuc n) = 45 ∷ decimal (suc n)
+
+-- if i < 26 { 'a' + i } else { "x_{i}" }
+unfoldable pub display : ℕ → List ℕ
+display v = pick (ltb v 26) (97 + v ∷ []) (120 ∷ 95 ∷ decimal v)
+
+-- a short text holds these bytes
+pub record Written (t : Text) (bytes : List ℕ) : Type 0 where
+  pub text : drop (t .start) (t .bytes) ≡ bytes
+  pub within : t .start ≤ length (t .bytes)

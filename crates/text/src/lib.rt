@@ -1,0 +1,58 @@
+// Numbers and variables as text, byte by byte.
+ghost use mathlib.Core.Path.{_≡_};
+ghost use Rattle.text.specs.Text.{Written, decimal, signedDecimal, display};
+
+// The bytes of a short text stand at the end of the array, from start on.
+pub struct Text {
+    pub bytes: [u8; 24],
+    pub start: usize,
+}
+
+// The decimal digits, written from the last to the first.
+pub fn decimal_text(n: u64) -> Text
+    ensures { λ r. ⌜ Written r (decimal n) ⌝ }
+{
+    let mut bytes = [0u8; 24];
+    let mut start = 23;
+    let mut rest = n;
+    bytes[start] = (48 + rest % 10) as u8;
+    while 10 <= rest {
+        rest = rest / 10;
+        start -= 1;
+        bytes[start] = (48 + rest % 10) as u8;
+    }
+    Text { bytes, start }
+}
+
+// One byte more in front.
+fn before(byte: u8, text: Text) -> Text
+    requires { ⌜ 0 < text .start ⌝ }
+    ensures { λ r. ⌜ r .start ≡ text .start - 1 ⌝ }
+{
+    let mut out = text;
+    let at = out.start - 1;
+    out.bytes[at] = byte;
+    out.start = at;
+    out
+}
+
+pub fn signed_text(z: i64) -> Text
+    ensures { λ r. ⌜ Written r (signedDecimal z) ⌝ }
+{
+    if z < 0 {
+        return before(b'-', decimal_text(literal::size(z)));
+    }
+    decimal_text(literal::size(z))
+}
+
+// `Var`'s Display.
+pub fn variable_text(v: u64) -> Text
+    ensures { λ r. ⌜ Written r (display v) ⌝ }
+{
+    if v < 26 {
+        let mut bytes = [0u8; 24];
+        bytes[23] = (97 + v) as u8;
+        return Text { bytes, start: 23 };
+    }
+    before(b'x', before(b'_', decimal_text(v)))
+}
