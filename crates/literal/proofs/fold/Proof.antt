@@ -1,21 +1,32 @@
+-- `literal::fold` meets its contract: the size is compared with the greatest literal.
+-- Assumes nothing.
+use mathlib.Core.Path.{_≡_, _∙_, ap}
+use lib.IntN.{natAbs}
+use native.Mathlib.Omega.{arith}
 use borrow.Author.Needs.{needs}
+use mir.Syntax.{w64}
+use mir.Val.{toZ, ofZ}
+use mir.ValLaws.{toZ-ofZ}
+use Rattle.literal.proofs.Folds.{folds, refuses}
 use Rattle.literal.proofs.fold.Statement.{statement}
 use Rattle.literal.proofs.fold.Tie as tie
-use Rattle.literal.proofs.fold.Reads as reads
-use Rattle.literal.proofs.fold.Lts as lts
-use Rattle.literal.proofs.size.Reads as size-reads
 
--- src/lib.rt:51:8
 size-requires : tie.Need-size-requires
 size-requires c κs = search needs
 
--- src/lib.rt:52:9
 returns : tie.Need-returns
-returns c = ?
+returns c =
+    let z = c .before .before .args .z in
+    let e : toZ w64 (ofZ w64 z) ≡ z = toZ-ofZ w64 z (c .before .before .fits .z) in
+    let s : c .before .size .result ≡ natAbs z = c .before .size .ensures ∙ ap natAbs e in
+    rw e (folds z (omega (arith, s, c .if1 .taken)))
 
--- src/lib.rt:48:1
 returns-2 : tie.Need-returns-2
-returns-2 c = ?
+returns-2 c =
+    let z = c .before .before .args .z in
+    let e : toZ w64 (ofZ w64 z) ≡ z = toZ-ofZ w64 z (c .before .before .fits .z) in
+    let s : c .before .size .result ≡ natAbs z = c .before .size .ensures ∙ ap natAbs e in
+    refuses z (omega (arith, s, c .if1 .left))
 
 pub fold-spec : {M : Type 1} → statement M
 fold-spec = tie.close (tie.spec size-requires returns returns-2)

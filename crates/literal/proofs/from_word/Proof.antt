@@ -1,33 +1,43 @@
+-- `literal::from_word` meets its contract: a word with its highest bit set lies as far below the highest word as its number below -1.
+-- Assumes nothing.
+use mathlib.Core.Path.{_≡_, ap}
+use Prim.Native.Nat.{ℕ, _-_, _^_, _<_}
+use lib.IntN.{ℤ, pos, negsuc, _-ℤ_}
+use native.Mathlib.Omega.{arith}
 use borrow.Author.Needs.{needs}
+use mir.Syntax.{w64}
+use mir.Val.{SFits, toZ, ofZ, hbits, bits}
+use mir.ValLaws.{toZ-ofZ, toZ-pos}
+use borrow.Author.Tests.{le-ltb}
+use Rattle.literal.proofs.Sizes.{down-from-minus-one}
 use Rattle.literal.proofs.from_word.Statement.{statement}
 use Rattle.literal.proofs.from_word.Tie as tie
-use Rattle.literal.proofs.from_word.Reads as reads
-use Rattle.literal.proofs.from_word.Lts as lts
 
--- src/lib.rt:136:16
 cast-result : tie.Need-cast-result
 cast-result c = search needs
 
--- src/lib.rt:136:9
 returns : tie.Need-returns
 returns c = search needs
 
--- src/lib.rt:138:12
 sub-result : tie.Need-sub-result
 sub-result c = search needs
 
--- src/lib.rt:138:11
 cast-result-2 : tie.Need-cast-result-2
 cast-result-2 c = search needs
 
--- src/lib.rt:138:5
 sub-result-2 : tie.Need-sub-result-2
-sub-result-2 c = ?
+sub-result-2 c =
+    let k = 2 ^ bits w64 - 1 - c .before .args .w in
+    let h : k < 2 ^ hbits w64 = omega arith in
+    rw (toZ-pos w64 k h, down-from-minus-one k) (record { sfits = h })
 
--- src/lib.rt:132:1
 returns-2 : tie.Need-returns-2
-returns-2 c = ?
+returns-2 c =
+    let w = c .before .args .w in
+    let k = 2 ^ bits w64 - 1 - w in
+    let h : k < 2 ^ hbits w64 = omega arith in
+    let f : SFits w64 (negsuc k) = record { sfits = h } in
+    rw (toZ-pos w64 k h, down-from-minus-one k, toZ-ofZ w64 (negsuc k) f, le-ltb w (2 ^ hbits w64) (c .if1 .left)) (ap negsuc (omega arith))
 
 pub from-word-spec : {M : Type 1} → statement M
-from-word-spec =
-    tie.close (tie.spec cast-result returns sub-result cast-result-2 sub-result-2 returns-2)
+from-word-spec = tie.close (tie.spec cast-result returns sub-result cast-result-2 sub-result-2 returns-2)

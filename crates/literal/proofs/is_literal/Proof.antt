@@ -1,17 +1,21 @@
+-- `literal::is_literal` meets its contract: the size is compared with the greatest literal.
+-- Assumes nothing.
+use mathlib.Core.Path.{_∙_, ap}
+use lib.IntN.{natAbs}
+use lib.Dec.{leb}
+use Prim.Native.Nat.{ℕ}
 use borrow.Author.Needs.{needs}
+use mir.Syntax.{w64}
+use mir.ValLaws.{toZ-ofZ}
+use Rattle.literal.specs.Literal.{greatest}
 use Rattle.literal.proofs.is_literal.Statement.{statement}
 use Rattle.literal.proofs.is_literal.Tie as tie
-use Rattle.literal.proofs.is_literal.Reads as reads
-use Rattle.literal.proofs.is_literal.Lts as lts
-use Rattle.literal.proofs.size.Reads as size-reads
 
--- src/lib.rt:29:5
 size-requires : tie.Need-size-requires
 size-requires c κs = search needs
 
--- src/lib.rt:26:1
 returns : tie.Need-returns
-returns c = ?
+returns c = ap (λ (n : ℕ). leb n greatest) (c .size .ensures ∙ ap natAbs (toZ-ofZ w64 (c .before .args .z) (c .before .fits .z)))
 
 pub is-literal-spec : {M : Type 1} → statement M
 is-literal-spec = tie.close (tie.spec size-requires returns)

@@ -1,62 +1,88 @@
+-- `literal::sum` meets its contract: numbers of one sign add their sizes, and a sum of unlike numbers lies between them, so it fits.
+-- Assumes nothing.
+use mathlib.Core.Path.{_≡_, ap}
+use lib.IntN.{ℤ, _+ℤ_, +ℤ-comm}
 use borrow.Author.Needs.{needs}
+use mir.Syntax.{w64}
+use mir.Val.{SFits, toZ, ofZ}
+use mir.ValLaws.{toZ-ofZ}
+use Rattle.literal.specs.Literal.{folded}
+use Rattle.literal.proofs.Sizes.{alike-below, alike-above, unlike-fits}
 use Rattle.literal.proofs.sum.Statement.{statement}
 use Rattle.literal.proofs.sum.Tie as tie
-use Rattle.literal.proofs.sum.Reads as reads
-use Rattle.literal.proofs.sum.Lts as lts
-use Rattle.literal.proofs.fold.Reads as fold-reads
-use Rattle.literal.proofs.sum_alike.Reads as sum-alike-reads
 
--- src/lib.rt:78:13
 sum-alike-requires : tie.Need-sum-alike-requires
-sum-alike-requires c κs = ?
+sum-alike-requires c κs =
+    let a = c .before .before .args .a in
+    let ea : toZ w64 (ofZ w64 a) ≡ a = toZ-ofZ w64 a (c .before .before .fits .a) in
+    let b = c .before .before .args .b in
+    let eb : toZ w64 (ofZ w64 b) ≡ b = toZ-ofZ w64 b (c .before .before .fits .b) in
+    rw (ea, eb) (alike-below a b (rw ea at (c .before .if1 .taken)) (rw eb at (c .if2 .taken)))
 
--- src/lib.rt:78:13
 returns : tie.Need-returns
-returns c = ?
+returns c =
+    let a = c .before .before .before .args .a in
+    let ea : toZ w64 (ofZ w64 a) ≡ a = toZ-ofZ w64 a (c .before .before .before .fits .a) in
+    let b = c .before .before .before .args .b in
+    let eb : toZ w64 (ofZ w64 b) ≡ b = toZ-ofZ w64 b (c .before .before .before .fits .b) in
+    rw (ea, eb) at (c .sum-alike .ensures)
 
--- src/lib.rt:80:21
 add-fold : tie.Need-add-fold
-add-fold c = ?
+add-fold c =
+    let a = c .before .before .args .a in
+    let ea : toZ w64 (ofZ w64 a) ≡ a = toZ-ofZ w64 a (c .before .before .fits .a) in
+    let b = c .before .before .args .b in
+    let eb : toZ w64 (ofZ w64 b) ≡ b = toZ-ofZ w64 b (c .before .before .fits .b) in
+    rw (ea, eb) (unlike-fits a b (c .before .before .fits .a) (c .before .before .fits .b) (rw ea at (c .before .if1 .taken)) (rw eb at (c .if2 .left)))
 
--- src/lib.rt:80:9
 fold-requires : tie.Need-fold-requires
 fold-requires c κs = search needs
 
--- src/lib.rt:80:9
 returns-2 : tie.Need-returns-2
-returns-2 c = ?
+returns-2 c =
+    let a = c .before .before .before .args .a in
+    let ea : toZ w64 (ofZ w64 a) ≡ a = toZ-ofZ w64 a (c .before .before .before .fits .a) in
+    let b = c .before .before .before .args .b in
+    let eb : toZ w64 (ofZ w64 b) ≡ b = toZ-ofZ w64 b (c .before .before .before .fits .b) in
+    let f = unlike-fits a b (c .before .before .before .fits .a) (c .before .before .before .fits .b) (rw ea at (c .before .before .if1 .taken)) (rw eb at (c .before .if2 .left)) in
+    rw (ea, eb, toZ-ofZ w64 (a +ℤ b) f) at (c .fold .ensures)
 
--- src/lib.rt:83:21
 add-fold-2 : tie.Need-add-fold-2
-add-fold-2 c = ?
+add-fold-2 c =
+    let a = c .before .before .args .a in
+    let ea : toZ w64 (ofZ w64 a) ≡ a = toZ-ofZ w64 a (c .before .before .fits .a) in
+    let b = c .before .before .args .b in
+    let eb : toZ w64 (ofZ w64 b) ≡ b = toZ-ofZ w64 b (c .before .before .fits .b) in
+    let f = unlike-fits b a (c .before .before .fits .b) (c .before .before .fits .a) (rw eb at (c .if3 .taken)) (rw ea at (c .before .if1 .left)) in
+    rw (ea, eb, +ℤ-comm a b) f
 
--- src/lib.rt:83:9
 fold-requires-2 : tie.Need-fold-requires-2
 fold-requires-2 c κs = search needs
 
--- src/lib.rt:83:9
 returns-3 : tie.Need-returns-3
-returns-3 c = ?
+returns-3 c =
+    let a = c .before .before .before .args .a in
+    let ea : toZ w64 (ofZ w64 a) ≡ a = toZ-ofZ w64 a (c .before .before .before .fits .a) in
+    let b = c .before .before .before .args .b in
+    let eb : toZ w64 (ofZ w64 b) ≡ b = toZ-ofZ w64 b (c .before .before .before .fits .b) in
+    let f = unlike-fits b a (c .before .before .before .fits .b) (c .before .before .before .fits .a) (rw eb at (c .before .if3 .taken)) (rw ea at (c .before .before .if1 .left)) in
+    rw (ea, eb, toZ-ofZ w64 (a +ℤ b) (rw (+ℤ-comm a b) f)) at (c .fold2 .ensures)
 
--- src/lib.rt:85:5
 sum-alike-requires-2 : tie.Need-sum-alike-requires-2
-sum-alike-requires-2 c κs = ?
+sum-alike-requires-2 c κs =
+    let a = c .before .before .args .a in
+    let ea : toZ w64 (ofZ w64 a) ≡ a = toZ-ofZ w64 a (c .before .before .fits .a) in
+    let b = c .before .before .args .b in
+    let eb : toZ w64 (ofZ w64 b) ≡ b = toZ-ofZ w64 b (c .before .before .fits .b) in
+    rw (ea, eb) (alike-above a b (rw ea at (c .before .if1 .left)) (rw eb at (c .if3 .left)))
 
--- src/lib.rt:73:1
 returns-4 : tie.Need-returns-4
-returns-4 c = ?
+returns-4 c =
+    let a = c .before .before .before .args .a in
+    let ea : toZ w64 (ofZ w64 a) ≡ a = toZ-ofZ w64 a (c .before .before .before .fits .a) in
+    let b = c .before .before .before .args .b in
+    let eb : toZ w64 (ofZ w64 b) ≡ b = toZ-ofZ w64 b (c .before .before .before .fits .b) in
+    rw (ea, eb) at (c .sum-alike2 .ensures)
 
 pub sum-spec : {M : Type 1} → statement M
-sum-spec =
-    tie.close
-    (tie.spec
-    sum-alike-requires
-    returns
-    add-fold
-    fold-requires
-    returns-2
-    add-fold-2
-    fold-requires-2
-    returns-3
-    sum-alike-requires-2
-    returns-4)
+sum-spec = tie.close (tie.spec sum-alike-requires returns add-fold fold-requires returns-2 add-fold-2 fold-requires-2 returns-3 sum-alike-requires-2 returns-4)

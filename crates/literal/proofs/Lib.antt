@@ -1,0 +1,4 @@
+pub mod Sizes
+pub mod Folds
+pub mod Theorems
+pub mod Examples
