@@ -5,6 +5,7 @@ ghost use Rattle.residue.specs.Residue.{Modulus, residue, sumOf, product
 
 // The greatest modulus, and the fixed one of document 01.
 pub const MODULUS_MAX: u64 = 2_147_483_647;
+
 pub const MODULUS: u64 = MODULUS_MAX;
 
 // A quotient, or the refusal number of document 01.
