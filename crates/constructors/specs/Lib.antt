@@ -1,0 +1,4 @@
+pub mod Terms
+pub mod Patterns
+pub mod Tables
+pub mod Build

@@ -1,0 +1,1 @@
+// The definitions of the constructors, in specs/; there is no code here.
