@@ -41,47 +41,47 @@ build c (lit z) = literal (folded z)
 build c (lit-exp z) = literal (expOf z)
 build c (lit-log z) = literal (logOf z)
 build c (add s t) = do
-    a ← build c s
-    b ← build c t
-    c .add-at a b
+  a ← build c s
+  b ← build c t
+  c .add-at a b
 build c (mul s t) = do
-    a ← build c s
-    b ← build c t
-    c .mul-at a b
+  a ← build c s
+  b ← build c t
+  c .mul-at a b
 build c (exp t) = do
-    a ← build c t
-    c .exp-at a
+  a ← build c t
+  c .exp-at a
 build c (log t) = do
-    a ← build c t
-    c .log-at a
+  a ← build c t
+  c .log-at a
 build c (pow t e) = do
-    a ← build c t
-    exponent (leb e greatestExponent) (c .pow-at a e)
+  a ← build c t
+  exponent (leb e greatestExponent) (c .pow-at a e)
 build c (Add s t) = do
-    a ← build c s
-    b ← build c t
-    append (node.Add a b)
+  a ← build c s
+  b ← build c t
+  append (node.Add a b)
 build c (Mul s t) = do
-    a ← build c s
-    b ← build c t
-    append (node.Mul a b)
+  a ← build c s
+  b ← build c t
+  append (node.Mul a b)
 build c (Div s t) = do
-    a ← build c s
-    b ← build c t
-    append (node.Div a b)
+  a ← build c s
+  b ← build c t
+  append (node.Div a b)
 build c (Max s t) = do
-    a ← build c s
-    b ← build c t
-    append (node.Max a b)
+  a ← build c s
+  b ← build c t
+  append (node.Max a b)
 build c (Exp t) = do
-    a ← build c t
-    append (node.Exp a)
+  a ← build c t
+  append (node.Exp a)
 build c (Log t) = do
-    a ← build c t
-    append (node.Log a)
+  a ← build c t
+  append (node.Log a)
 build c (Pow t e) = do
-    a ← build c t
-    append (node.Pow a e)
+  a ← build c t
+  append (node.Pow a e)
 
 -- 14. "A constructor would run at depth 201": none is left
 abbrev pub noCalls : Calls
@@ -94,7 +94,7 @@ noCalls =
       neg-at = λ arg. refuse tooDeep;
       exp-at = λ arg. refuse tooDeep;
       log-at = λ arg. refuse tooDeep;
-      pow-at = λ base e. refuse tooDeep
+      pow-at = λ base e. refuse tooDeep;
     }
 
 -- each constructor runs its table on the pool as it finds it; "a constructor called inside a constructor is one deeper"
@@ -108,7 +108,7 @@ deeper c =
       neg-at = λ arg P. build c (negTable (nodeAt P) arg) P;
       exp-at = λ arg P. build c (expTable (nodeAt P) arg) P;
       log-at = λ arg P. build c (logTable (nodeAt P) arg) P;
-      pow-at = λ base e P. build c (powTable (nodeAt P) base e) P
+      pow-at = λ base e P. build c (powTable (nodeAt P) base e) P;
     }
 
 unfoldable pub calls : ℕ → Calls

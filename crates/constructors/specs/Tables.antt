@@ -57,18 +57,18 @@ module _ (at : ℕ → Node) where
       or (do
         ((a, b), (c, d)) ← add? lhs & add? rhs
         inside (
-          -- (Lit(b), Lit(d)) => return add(add(a, c), lit(b + d))
-          (do
-            (b, d) ← lit? b & lit? d
-            return (add (add (# a) (# c)) (lit (b +ℤ d))))
-          -- (Lit(_), _) => return add(add(a, rhs), b)
-          or (do
-            _ ← lit? b
-            return (add (add (# a) (# rhs)) (# b)))
-          -- (_, Lit(_)) => return add(add(lhs, c), d)
-          or (do
-            _ ← lit? d
-            return (add (add (# lhs) (# c)) (# d)))))
+            -- (Lit(b), Lit(d)) => return add(add(a, c), lit(b + d))
+            (do
+              (b, d) ← lit? b & lit? d
+              return (add (add (# a) (# c)) (lit (b +ℤ d))))
+            -- (Lit(_), _) => return add(add(a, rhs), b)
+            or (do
+              _ ← lit? b
+              return (add (add (# a) (# rhs)) (# b)))
+            -- (_, Lit(_)) => return add(add(lhs, c), d)
+            or (do
+              _ ← lit? d
+              return (add (add (# lhs) (# c)) (# d)))))
 
   abbrev pub addTable : ℕ → ℕ → Term
   addTable lhs rhs = addArms lhs rhs then Add (# lhs) (# rhs)
@@ -118,34 +118,34 @@ module _ (at : ℕ → Node) where
       (do
         ((a1, a2), b) ← (mul? lhs & exp? rhs) or swap (exp? lhs & mul? rhs)
         inside (
-          -- if let Exp(a2) = a2 { return mul(a1, exp(add(a2, b))) }
-          (do
-            a2 ← exp? a2
-            return (mul (# a1) (exp (add (# a2) (# b)))))
-          -- if let Exp(a1) = a1 { return mul(a2, exp(add(a1, b))) }
-          or (do
-            a1 ← exp? a1
-            return (mul (# a2) (exp (add (# a1) (# b)))))))
+            -- if let Exp(a2) = a2 { return mul(a1, exp(add(a2, b))) }
+            (do
+              a2 ← exp? a2
+              return (mul (# a1) (exp (add (# a2) (# b)))))
+            -- if let Exp(a1) = a1 { return mul(a2, exp(add(a1, b))) }
+            or (do
+              a1 ← exp? a1
+              return (mul (# a2) (exp (add (# a1) (# b)))))))
       -- (Mul(a1, a2), Mul(b1, b2)) => match (a1, a2, b1, b2) {
       or (do
         ((a1, a2), (b1, b2)) ← mul? lhs & mul? rhs
         inside (
-          -- (Exp(a1), _, Exp(b1), _) => return mul(mul(a2, b2), exp(add(a1, b1)))
-          (do
-            (x, y) ← exp? a1 & exp? b1
-            return (mul (mul (# a2) (# b2)) (exp (add (# x) (# y)))))
-          -- (Exp(a1), _, _, Exp(b2)) => return mul(mul(a2, b1), exp(add(a1, b2)))
-          or (do
-            (x, y) ← exp? a1 & exp? b2
-            return (mul (mul (# a2) (# b1)) (exp (add (# x) (# y)))))
-          -- (_, Exp(a2), Exp(b1), _) => return mul(mul(a1, b2), exp(add(a2, b1)))
-          or (do
-            (x, y) ← exp? a2 & exp? b1
-            return (mul (mul (# a1) (# b2)) (exp (add (# x) (# y)))))
-          -- (_, Exp(a2), _, Exp(b2)) => return mul(mul(a1, b1), exp(add(a2, b2)))
-          or (do
-            (x, y) ← exp? a2 & exp? b2
-            return (mul (mul (# a1) (# b1)) (exp (add (# x) (# y)))))))
+            -- (Exp(a1), _, Exp(b1), _) => return mul(mul(a2, b2), exp(add(a1, b1)))
+            (do
+              (x, y) ← exp? a1 & exp? b1
+              return (mul (mul (# a2) (# b2)) (exp (add (# x) (# y)))))
+            -- (Exp(a1), _, _, Exp(b2)) => return mul(mul(a2, b1), exp(add(a1, b2)))
+            or (do
+              (x, y) ← exp? a1 & exp? b2
+              return (mul (mul (# a2) (# b1)) (exp (add (# x) (# y)))))
+            -- (_, Exp(a2), Exp(b1), _) => return mul(mul(a1, b2), exp(add(a2, b1)))
+            or (do
+              (x, y) ← exp? a2 & exp? b1
+              return (mul (mul (# a1) (# b2)) (exp (add (# x) (# y)))))
+            -- (_, Exp(a2), _, Exp(b2)) => return mul(mul(a1, b1), exp(add(a2, b2)))
+            or (do
+              (x, y) ← exp? a2 & exp? b2
+              return (mul (mul (# a1) (# b1)) (exp (add (# x) (# y)))))))
 
   -- ---- fn mul: moving literals left
   unfoldable pub mulLeft : ℕ → ℕ → Arm Term

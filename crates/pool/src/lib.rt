@@ -3,8 +3,8 @@ mod node;
 mod table;
 
 pub use node::Node;
-pub use node::kind_of;
 pub use node::decode;
+pub use node::kind_of;
 pub use node::word_of;
 pub use table::LIMIT;
 pub use table::Made;

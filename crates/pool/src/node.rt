@@ -5,6 +5,7 @@ ghost use Rattle.pool.specs.Nodes.{decode, kindOf, wordOf, pair, allBelo
 
 // The greatest variable number, and the least exponent of a Pow.
 pub const VARIABLE_MAX: u64 = 65_535;
+
 pub const EXPONENT_MIN: u32 = 2;
 
 // Half a word: what a node number or an exponent has.
