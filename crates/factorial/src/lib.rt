@@ -4,8 +4,10 @@ ghost use lib.IntN.{pos};
 ghost use Rattle.literal.specs.Literal.{folded};
 ghost use Rattle.factorial.specs.Factorial.{factorialOf};
 
-// 0! to 18!, the factorials that are literals.
-const FACTORIALS: [i64; 19] = [
+// How many factorials are literals: 0! to 18!.
+const LITERAL_FACTORIALS: usize = 19;
+
+const FACTORIALS: [u64; LITERAL_FACTORIALS] = [
     1,
     1,
     2,
@@ -31,9 +33,9 @@ const FACTORIALS: [i64; 19] = [
 pub fn factorial(n: u64) -> literal::Folded
     ensures { λ r. ⌜ r ≡ folded (pos (factorialOf n)) ⌝ }
 {
-    if n < 19 {
-        let at = n as usize;
-        return literal::Folded::Value(FACTORIALS[at]);
+    let at = n as usize;
+    if at < LITERAL_FACTORIALS {
+        return literal::Folded::Value(FACTORIALS[at] as i64);
     }
     literal::Folded::Refused(refusals::OUT_OF_RANGE)
 }

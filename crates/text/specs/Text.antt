@@ -13,6 +13,19 @@ abbrev pub pick : Bool → List ℕ → List ℕ → List ℕ
 pick true a b = a
 pick false a b = b
 
+-- the bytes of '-', 'a', 'x' and '_'
+abbrev pub minus : ℕ
+minus = 45
+
+abbrev pub letterA : ℕ
+letterA = 97
+
+abbrev pub letterX : ℕ
+letterX = 120
+
+abbrev pub underscore : ℕ
+underscore = 95
+
 -- '0' to '9'
 abbrev pub digit : ℕ → ℕ
 digit d = 48 + d
@@ -34,13 +47,26 @@ decimal n = digitsWithin mostDigits n
 -- '-' and the size, where the number is negative
 unfoldable pub signedDecimal : ℤ → List ℕ
 signedDecimal (pos n) = decimal n
-signedDecimal (negsuc n) = 45 ∷ decimal (suc n)
+signedDecimal (negsuc n) = minus ∷ decimal (suc n)
+
+-- how many variables have a letter for a name
+abbrev pub letters : ℕ
+letters = 26
 
 -- if i < 26 { 'a' + i } else { "x_{i}" }
 unfoldable pub display : ℕ → List ℕ
-display v = pick (ltb v 26) (97 + v ∷ []) (120 ∷ 95 ∷ decimal v)
+display v = pick (ltb v letters) ((letterA + v) ∷ []) (letterX ∷ underscore ∷ decimal v)
+
+-- how many bytes a short text has room for
+abbrev pub room : ℕ
+room = 24
+
+-- the bytes from the start on
+abbrev pub content : Text → List ℕ
+content t = drop (t .start) (t .bytes)
 
 -- a short text holds these bytes
 pub record Written (t : Text) (bytes : List ℕ) : Type 0 where
-  pub text : drop (t .start) (t .bytes) ≡ bytes
-  pub within : t .start ≤ length (t .bytes)
+  pub text : content t ≡ bytes
+  pub within : t .start ≤ room
+  pub whole : length (t .bytes) ≡ room

@@ -1,10 +1,15 @@
 // Numbers and variables as text, byte by byte.
 ghost use mathlib.Core.Path.{_≡_};
-ghost use Rattle.text.specs.Text.{Written, decimal, signedDecimal, display};
+ghost use mathlib.Core.List.{_∷_};
+ghost use Prim.Native.Nat.{_<_};
+ghost use Rattle.text.specs.Text.{Written, content, decimal, signedDecimal, display};
+
+// Room for the longest text: `x_` and 20 digits.
+pub const ROOM: usize = 24;
 
 // The bytes of a short text stand at the end of the array, from start on.
 pub struct Text {
-    pub bytes: [u8; 24],
+    pub bytes: [u8; ROOM],
     pub start: usize,
 }
 
@@ -12,8 +17,8 @@ pub struct Text {
 pub fn decimal_text(n: u64) -> Text
     ensures { λ r. ⌜ Written r (decimal n) ⌝ }
 {
-    let mut bytes = [0u8; 24];
-    let mut start = 23;
+    let mut bytes = [0u8; ROOM];
+    let mut start = ROOM - 1;
     let mut rest = n;
     bytes[start] = (48 + rest % 10) as u8;
     while 10 <= rest {
@@ -25,9 +30,9 @@ pub fn decimal_text(n: u64) -> Text
 }
 
 // One byte more in front.
-fn before(byte: u8, text: Text) -> Text
-    requires { ⌜ 0 < text .start ⌝ }
-    ensures { λ r. ⌜ r .start ≡ text .start - 1 ⌝ }
+fn prefixed(byte: u8, text: Text) -> Text
+    requires { ⌜ (0 < text .start) × Written text (content text) ⌝ }
+    ensures { λ r. ⌜ Written r (byte ∷ content text) ⌝ }
 {
     let mut out = text;
     let at = out.start - 1;
@@ -40,7 +45,7 @@ pub fn signed_text(z: i64) -> Text
     ensures { λ r. ⌜ Written r (signedDecimal z) ⌝ }
 {
     if z < 0 {
-        return before(b'-', decimal_text(literal::size(z)));
+        return prefixed(b'-', decimal_text(literal::size(z)));
     }
     decimal_text(literal::size(z))
 }
@@ -50,9 +55,12 @@ pub fn variable_text(v: u64) -> Text
     ensures { λ r. ⌜ Written r (display v) ⌝ }
 {
     if v < 26 {
-        let mut bytes = [0u8; 24];
-        bytes[23] = (97 + v) as u8;
-        return Text { bytes, start: 23 };
+        let mut bytes = [0u8; ROOM];
+        bytes[ROOM - 1] = (97 + v) as u8;
+        return Text {
+            bytes,
+            start: ROOM - 1,
+        };
     }
-    before(b'x', before(b'_', decimal_text(v)))
+    prefixed(b'x', prefixed(b'_', decimal_text(v)))
 }

@@ -1,0 +1,4 @@
+pub mod Nans
+pub mod Powers
+pub mod Exact
+pub mod Examples

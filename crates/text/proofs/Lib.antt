@@ -1,0 +1,5 @@
+pub mod Fronts
+pub mod Digits
+pub mod Forms
+pub mod Theorems
+pub mod Examples
