@@ -1,10 +1,13 @@
-// The pool of expressions: nodes, the two tables that hold them, and the rules of document 01.
+// The pool of expressions: nodes, and the two tables that hold them.
 mod node;
 mod table;
 
+pub use node::EXPONENT_MIN;
 pub use node::Node;
+pub use node::VARIABLE_MAX;
 pub use node::decode;
 pub use node::kind_of;
+pub use node::may_stand_at;
 pub use node::word_of;
 pub use table::LIMIT;
 pub use table::Made;

@@ -1,0 +1,3 @@
+pub mod Overwrite
+pub mod Each
+pub mod Taken

@@ -1,0 +1,79 @@
+// What a caller lends: both tables of the pool are tested and taken in, and after an accepted call the new entries are put back.
+ghost use mathlib.Core.Path.{_≡_};
+ghost use mathlib.Core.Bool.{true};
+ghost use lib.ListN.{length};
+ghost use Prim.Native.Nat.{_≤_};
+ghost use Rattle.pool.specs.Pool.{limit, entryKeeps};
+ghost use Rattle.lent.specs.Lent.{TakenIn, Between};
+use pool::LIMIT;
+
+// One entry against the rules: a node with smaller parts below the count, and zeros from the count on.
+fn entry_keeps(count: u64, i: u32, kind: u8, word: u64) -> bool
+    ensures { λ r. ⌜ r ≡ entryKeeps count i kind word ⌝ }
+{
+    if (i as u64) < count {
+        return pool::may_stand_at(i, pool::decode(kind, word));
+    }
+    if kind == 0 {
+        return word == 0;
+    }
+    false
+}
+
+// Whether the tables and the count are a pool. Where they are, both tables are copied, in the one pass that looks at them.
+pub fn take_in(
+    kinds: &[u8],
+    words: &[u64],
+    count: u64,
+    k: &mut [u8; LIMIT],
+    w: &mut [u64; LIMIT],
+) -> bool
+    requires { ⌜ length (now k) ≡ limit ⌝ }
+    requires { ⌜ length (now w) ≡ limit ⌝ }
+    ensures { λ r. ⌜ TakenIn r (now (kinds .entry)) (now (words .entry)) count (now (k .exit)) (now (w .exit)) ⌝ }
+{
+    if kinds.len() != LIMIT {
+        return false;
+    }
+    if words.len() != LIMIT {
+        return false;
+    }
+    if (LIMIT as u64) < count {
+        return false;
+    }
+    let mut i = 0;
+    while i < LIMIT {
+        let kind = kinds[i];
+        let word = words[i];
+        if !entry_keeps(count, i as u32, kind, word) {
+            return false;
+        }
+        k[i] = kind;
+        w[i] = word;
+        i += 1;
+    }
+    true
+}
+
+// The entries from one number to another, put back where the rest is the same already.
+pub fn put_back(
+    kinds: &mut [u8],
+    words: &mut [u64],
+    from: usize,
+    to: usize,
+    k: &[u8; LIMIT],
+    w: &[u64; LIMIT],
+)
+    requires { ⌜ to ≤ limit ⌝ }
+    requires { ⌜ Between from to (now kinds) (now k) ⌝ }
+    requires { ⌜ Between from to (now words) (now w) ⌝ }
+    ensures { λ _. ⌜ now (kinds .exit) ≡ now (k .entry) ⌝ }
+    ensures { λ _. ⌜ now (words .exit) ≡ now (w .entry) ⌝ }
+{
+    let mut i = from;
+    while i < to {
+        kinds[i] = k[i];
+        words[i] = w[i];
+        i += 1;
+    }
+}
