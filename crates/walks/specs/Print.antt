@@ -1,0 +1,109 @@
+-- Printing: `precedence` and `node_fmt` of src/symbolic.rs, as bytes.
+-- Assumes nothing.
+use mathlib.Core.Bool.{Bool, true, false, _||_}
+use mathlib.Core.List.{List, [], _∷_, _++_}
+use Prim.Native.Nat.{ℕ, zero, suc, _+_}
+use lib.Dec.{eqb, ltb}
+use Rattle.text.specs.Text.{decimal, signedDecimal, display}
+use Rattle.pool.specs.declared.node.Node.{Node}
+use Rattle.pool.specs.declared.node.Node.the-variants.{Empty, Variable, Lit, Add, Mul, Div, Exp, Log, Pow, Max}
+
+-- fn precedence(&self): Variable | Lit | Exp | Log | Max => 10, Add => 0, Mul | Div => 1, Pow => 2
+abbrev pub precedence : Node → ℕ
+precedence Empty = 10
+precedence (Variable v) = 10
+precedence (Lit z) = 10
+precedence (Add a b) = 0
+precedence (Mul a b) = 1
+precedence (Div a b) = 1
+precedence (Exp a) = 10
+precedence (Log a) = 10
+precedence (Pow a e) = 2
+precedence (Max a b) = 10
+
+-- the bytes of " + ", "*", "/", "^", "(", ")", "exp(" and "log("
+abbrev pub plus : List ℕ
+plus = 32 ∷ 43 ∷ 32 ∷ []
+
+abbrev pub times : List ℕ
+times = 42 ∷ []
+
+abbrev pub over : List ℕ
+over = 47 ∷ []
+
+abbrev pub hat : List ℕ
+hat = 94 ∷ []
+
+abbrev pub opening : List ℕ
+opening = 40 ∷ []
+
+abbrev pub closing : List ℕ
+closing = 41 ∷ []
+
+abbrev pub exp-opening : List ℕ
+exp-opening = 101 ∷ 120 ∷ 112 ∷ 40 ∷ []
+
+abbrev pub log-opening : List ℕ
+log-opening = 108 ∷ 111 ∷ 103 ∷ 40 ∷ []
+
+abbrev pub pick : Bool → List ℕ → List ℕ → List ℕ
+pick true a b = a
+pick false a b = b
+
+-- if cur_precedence < parent_precedence { "(" .. ")" }
+abbrev pub bracketed : Bool → List ℕ → List ℕ
+bracketed true text = opening ++ text ++ closing
+bracketed false text = text
+
+-- match node; `down parent i` is the text of a part under a precedence. No text has a Max: 10
+abbrev pub nodeText : (ℕ → ℕ → List ℕ) → Node → List ℕ
+nodeText down Empty = []
+nodeText down (Variable v) = display v
+nodeText down (Lit z) = signedDecimal z
+-- a at cur_precedence, " + ", b at cur_precedence
+nodeText down (Add a b) = down 0 a ++ plus ++ down 0 b
+nodeText down (Mul a b) = down 1 a ++ times ++ down 1 b
+-- b at cur_precedence + 1
+nodeText down (Div a b) = down 1 a ++ over ++ down 2 b
+nodeText down (Exp a) = exp-opening ++ down 0 a ++ closing
+nodeText down (Log a) = log-opening ++ down 0 a ++ closing
+-- a at cur_precedence + 1, "^", exp
+nodeText down (Pow a e) = down 3 a ++ hat ++ decimal e
+nodeText down (Max a b) = []
+
+-- fn node_fmt(node, parent_precedence), of node i below the bound: parts have smaller numbers
+unfoldable pub textBelow : (ℕ → Node) → ℕ → ℕ → ℕ → List ℕ
+textBelow at zero parent i = []
+textBelow at (suc k) parent i =
+    pick (eqb i k) (bracketed (ltb (precedence (at k)) parent) (nodeText (textBelow at k) (at k))) (textBelow at k parent i)
+
+abbrev pub textOf : (ℕ → Node) → ℕ → List ℕ
+textOf at root = textBelow at (suc root) 0 root
+
+-- 10. "Printing meets 10 if any reachable node is Max."
+abbrev pub pickTest : Bool → Bool → Bool → Bool
+pickTest true a b = a
+pickTest false a b = b
+
+abbrev pub nodeHasMax : (ℕ → Bool) → Node → Bool
+nodeHasMax down Empty = false
+nodeHasMax down (Variable v) = false
+nodeHasMax down (Lit z) = false
+nodeHasMax down (Add a b) = down a || down b
+nodeHasMax down (Mul a b) = down a || down b
+nodeHasMax down (Div a b) = down a || down b
+nodeHasMax down (Exp a) = down a
+nodeHasMax down (Log a) = down a
+nodeHasMax down (Pow a e) = down a
+nodeHasMax down (Max a b) = true
+
+unfoldable pub hasMaxBelow : (ℕ → Node) → ℕ → ℕ → Bool
+hasMaxBelow at zero i = false
+hasMaxBelow at (suc k) i = pickTest (eqb i k) (nodeHasMax (hasMaxBelow at k) (at k)) (hasMaxBelow at k i)
+
+abbrev pub hasMax : (ℕ → Node) → ℕ → Bool
+hasMax at root = hasMaxBelow at (suc root) root
+
+-- 19. "a text has more than 65,535 bytes"
+abbrev pub longestText : ℕ
+longestText = 65535
