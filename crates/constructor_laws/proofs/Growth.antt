@@ -1,0 +1,248 @@
+-- Every constructor only appends, whatever the pool, the arguments and the depth: appending does, one piece of work after another does where both do, so a term does where the calls in it do, and the rest is induction on the depth.
+-- Assumes nothing.
+use mathlib.Core.Path.{_≡_, refl, sym, ap, _∙_, subst}
+use mathlib.Core.Bool.{Bool, true, false, _&&_}
+use mathlib.Core.List.{List}
+use Prim.Native.Nat.{ℕ, zero, suc, _+_, _-_, _≤_, _<_}
+use native.Mathlib.Omega.{arith}
+use lib.Dec.{leb, ltb}
+use lib.ListN.{getD, take, drop, set, length-set}
+use lib.Seq.{take-take, drop-drop, take-set-le, drop-set-lt, getD-take}
+use borrow.Author.Tests.{ltb-true}
+use Rattle.refusals.specs.Refusals.{exponentTooLarge, tooDeep, poolFull}
+use Rattle.literal.specs.Literal.{folded, expOf, logOf}
+use Rattle.literal.specs.declared.Folded.{Folded}
+use Rattle.literal.specs.declared.Folded.the-variants.{Value, Refused}
+use Rattle.pool.specs.declared.node.Node.{Node}
+use Rattle.pool.specs.declared.node.Node.the-variants as node
+use Rattle.pool.specs.Nodes.{kindOf, wordOf, greatestExponent}
+use Rattle.pool.specs.Pool.{Pool, pool, Out, done, refused, Run, bind, yield, refuse, append, choose, limit, nodeAt, nodeIn}
+use Rattle.constructors.specs.Terms.{Term, #, lit, lit-exp, lit-log, add, mul, exp, log, pow, Add, Mul, Div, Max, Exp, Log, Pow}
+use Rattle.constructors.specs.Tables.{addTable, mulTable, divTable, negTable, expTable, logTable, powTable, maxTable}
+use Rattle.constructors.specs.Build.{Calls, literal, exponent, build, noCalls, deeper, calls}
+use Rattle.constructor_laws.specs.Grown.{SameBut, Grown, Grows}
+
+-- ---- one table
+
+pub same-but-nothing : (n : ℕ) (t : List ℕ) → SameBut n n t t
+same-but-nothing n t = record { before = refl; behind = refl; long = refl }
+
+-- what is the same in both steps is the same in the whole
+pub same-but-both : {a b c : ℕ} (t u v : List ℕ) → a ≤ b → b ≤ c → SameBut a b t u → SameBut b c u v → SameBut a c t v
+same-but-both {a} {b} {c} t u v ab bc first next =
+    record {
+      before = shorter-before v u (next .before) ∙ first .before;
+      behind = next .behind ∙ further-behind u t (first .behind);
+      long = next .long ∙ first .long;
+    }
+  where
+    shorter-before : (x y : List ℕ) → take b x ≡ take b y → take a x ≡ take a y
+    shorter-before x y e = sym (take-take a b x ab) ∙ ap (take a) e ∙ take-take a b y ab
+
+    reached : b + (c - b) ≡ c
+    reached = omega arith
+
+    further-behind : (x y : List ℕ) → drop b x ≡ drop b y → drop c x ≡ drop c y
+    further-behind x y e = rw (← reached) (sym (drop-drop (c - b) b x) ∙ ap (drop (c - b)) e ∙ drop-drop (c - b) b y)
+
+pub same-but-one : (n : ℕ) (t : List ℕ) (a : ℕ) → SameBut n (n + 1) t (set t n a)
+same-but-one n t a =
+    record {
+      before = take-set-le n t n a (omega arith);
+      behind = drop-set-lt (n + 1) t n a (omega arith);
+      long = length-set t n a;
+    }
+
+pub same-entry : {a b : ℕ} (t u : List ℕ) (i : ℕ) → i < a → SameBut a b t u → getD u i 0 ≡ getD t i 0
+same-entry {a} t u i h same = sym (getD-take a u i 0 h) ∙ ap (λ (l : List ℕ). getD l i 0) (same .before) ∙ getD-take a t i 0 h
+
+-- ---- pools
+
+pub grown-by-nothing : (P : Pool) → Grown P P
+grown-by-nothing P =
+    record {
+      no-fewer = omega arith;
+      kinds = same-but-nothing (P .count) (P .kinds);
+      words = same-but-nothing (P .count) (P .words);
+      end = refl;
+      within = λ h. h;
+    }
+
+pub grown-by-both : {P Q R : Pool} → Grown P Q → Grown Q R → Grown P R
+grown-by-both {P} {Q} {R} g h =
+    record {
+      no-fewer = omega (arith, g .no-fewer, h .no-fewer);
+      kinds = same-but-both (P .kinds) (Q .kinds) (R .kinds) (g .no-fewer) (h .no-fewer) (g .kinds) (h .kinds);
+      words = same-but-both (P .words) (Q .words) (R .words) (g .no-fewer) (h .no-fewer) (g .words) (h .words);
+      end = h .end ∙ g .end;
+      within = λ w. h .within (g .within w);
+    }
+
+-- every earlier expression is what it was
+pub earlier-same : {P Q : Pool} → Grown P Q → (i : ℕ) → i < P .count → nodeAt Q i ≡ nodeAt P i
+unfolding nodeIn
+earlier-same {P} {Q} g i h = rw (same-entry (P .kinds) (Q .kinds) i h (g .kinds), same-entry (P .words) (Q .words) i h (g .words))
+
+-- ---- pieces of work
+
+-- work that only appends, on any pool
+pub record Growing (run : Run) : Type 0 where
+  pub grows : (P : Pool) → Grows P (run P)
+
+pub accepted-grown : {P Q : Pool} {i : ℕ} {o : Out} → Grows P o → o ≡ done i Q → Grown P Q
+accepted-grown {P} g e = subst (Grows P) e g
+
+-- what grows from the grown pool grows from the first
+pub grows-from : {P Q : Pool} → Grown P Q → (o : Out) → Grows Q o → Grows P o
+grows-from g (done i R) h = grown-by-both g h
+grows-from g (refused k) h = tt
+
+pub bind-grows : (P : Pool) (o : Out) {next : ℕ → Run} → Grows P o → ((i : ℕ) → Growing (next i)) → Grows P (bind o next)
+bind-grows P (done i Q) {next} g h = grows-from g (next i Q) (h i .grows Q)
+bind-grows P (refused k) g h = tt
+
+-- one piece of work after the other, so that a proof is the same `do` block as the work
+infixl 1 _>>=_
+pub _>>=_ : {run : Run} {next : ℕ → Run} → Growing run → ((i : ℕ) → Growing (next i)) → Growing (λ P. bind (run P) next)
+_>>=_ {run} {next} g h = record { grows = λ P. bind-grows P (run P) (g .grows P) h }
+
+pub yield-growing : (i : ℕ) → Growing (yield i)
+yield-growing i = record { grows = grown-by-nothing }
+
+pub refuse-growing : (k : ℕ) → Growing (refuse k)
+refuse-growing k = record { grows = λ P. tt }
+
+-- the pool with one node more
+abbrev pub appended : Node → Pool → Pool
+appended n P = pool (set (P .kinds) (P .count) (kindOf n)) (set (P .words) (P .count) (wordOf n)) (P .count + 1) (P .end)
+
+-- what appending comes to: the node stands at the count, or there was no room
+pub append-comes-to :
+    (H : Out → Type 0) (n : Node) (P : Pool) → (P .count < P .end → P .count < limit → H (done (P .count) (appended n P))) → H (refused poolFull) → H (append n P)
+unfolding append
+append-comes-to H n P there full = go (ltb (P .count) (P .end)) (ltb (P .count) limit) refl refl
+  where
+    go :
+        (room below : Bool) → ltb (P .count) (P .end) ≡ room → ltb (P .count) limit ≡ below → H (choose (room && below) (done (P .count) (appended n P)) (refused poolFull))
+    go true true r b = there (ltb-true (P .count) (P .end) r) (ltb-true (P .count) limit b)
+    go true false r b = full
+    go false below r b = full
+
+pub appended-grown : (n : Node) (P : Pool) → P .count < limit → Grown P (appended n P)
+appended-grown n P below =
+    record {
+      no-fewer = omega arith;
+      kinds = same-but-one (P .count) (P .kinds) (kindOf n);
+      words = same-but-one (P .count) (P .words) (wordOf n);
+      end = refl;
+      within = λ w. omega arith;
+    }
+
+pub append-growing : (n : Node) → Growing (append n)
+append-growing n = record { grows = λ P. append-comes-to (Grows P) n P (λ room below. appended-grown n P below) tt }
+
+pub literal-growing : (f : Folded) → Growing (literal f)
+literal-growing (Value z) = append-growing (node.Lit z)
+literal-growing (Refused k) = refuse-growing k
+
+pub exponent-growing : (fits : Bool) {run : Run} → Growing run → Growing (exponent fits run)
+exponent-growing true g = g
+exponent-growing false g = refuse-growing exponentTooLarge
+
+-- ---- the constructors
+
+-- constructors that only append
+pub record AllGrow (c : Calls) : Type 0 where
+  pub add-at : (lhs rhs : ℕ) → Growing (c .add-at lhs rhs)
+  pub mul-at : (lhs rhs : ℕ) → Growing (c .mul-at lhs rhs)
+  pub div-at : (lhs rhs : ℕ) → Growing (c .div-at lhs rhs)
+  pub max-at : (lhs rhs : ℕ) → Growing (c .max-at lhs rhs)
+  pub neg-at : (arg : ℕ) → Growing (c .neg-at arg)
+  pub exp-at : (arg : ℕ) → Growing (c .exp-at arg)
+  pub log-at : (arg : ℕ) → Growing (c .log-at arg)
+  pub pow-at : (base e : ℕ) → Growing (c .pow-at base e)
+
+pub build-growing : {c : Calls} → AllGrow c → (t : Term) → Growing (build c t)
+unfolding build
+build-growing g (# a) = yield-growing a
+build-growing g (lit z) = literal-growing (folded z)
+build-growing g (lit-exp z) = literal-growing (expOf z)
+build-growing g (lit-log z) = literal-growing (logOf z)
+build-growing g (add s t) = do
+  a ← build-growing g s
+  b ← build-growing g t
+  g .add-at a b
+build-growing g (mul s t) = do
+  a ← build-growing g s
+  b ← build-growing g t
+  g .mul-at a b
+build-growing g (exp t) = do
+  a ← build-growing g t
+  g .exp-at a
+build-growing g (log t) = do
+  a ← build-growing g t
+  g .log-at a
+build-growing g (pow t e) = do
+  a ← build-growing g t
+  exponent-growing (leb e greatestExponent) (g .pow-at a e)
+build-growing g (Add s t) = do
+  a ← build-growing g s
+  b ← build-growing g t
+  append-growing (node.Add a b)
+build-growing g (Mul s t) = do
+  a ← build-growing g s
+  b ← build-growing g t
+  append-growing (node.Mul a b)
+build-growing g (Div s t) = do
+  a ← build-growing g s
+  b ← build-growing g t
+  append-growing (node.Div a b)
+build-growing g (Max s t) = do
+  a ← build-growing g s
+  b ← build-growing g t
+  append-growing (node.Max a b)
+build-growing g (Exp t) = do
+  a ← build-growing g t
+  append-growing (node.Exp a)
+build-growing g (Log t) = do
+  a ← build-growing g t
+  append-growing (node.Log a)
+build-growing g (Pow t e) = do
+  a ← build-growing g t
+  append-growing (node.Pow a e)
+
+-- a term that is chosen by the pool
+pub table-growing : {c : Calls} → AllGrow c → (table : Pool → Term) → Growing (λ P. build c (table P) P)
+table-growing g table = record { grows = λ P. build-growing g (table P) .grows P }
+
+pub deeper-grow : {c : Calls} → AllGrow c → AllGrow (deeper c)
+deeper-grow g =
+    record {
+      add-at = λ lhs rhs. table-growing g (λ P. addTable (nodeAt P) lhs rhs);
+      mul-at = λ lhs rhs. table-growing g (λ P. mulTable (nodeAt P) lhs rhs);
+      div-at = λ lhs rhs. table-growing g (λ P. divTable (nodeAt P) lhs rhs);
+      max-at = λ lhs rhs. table-growing g (λ P. maxTable (nodeAt P) lhs rhs);
+      neg-at = λ arg. table-growing g (λ P. negTable (nodeAt P) arg);
+      exp-at = λ arg. table-growing g (λ P. expTable (nodeAt P) arg);
+      log-at = λ arg. table-growing g (λ P. logTable (nodeAt P) arg);
+      pow-at = λ base e. table-growing g (λ P. powTable (nodeAt P) base e);
+    }
+
+none-grow : AllGrow noCalls
+none-grow =
+    record {
+      add-at = λ lhs rhs. refuse-growing tooDeep;
+      mul-at = λ lhs rhs. refuse-growing tooDeep;
+      div-at = λ lhs rhs. refuse-growing tooDeep;
+      max-at = λ lhs rhs. refuse-growing tooDeep;
+      neg-at = λ arg. refuse-growing tooDeep;
+      exp-at = λ arg. refuse-growing tooDeep;
+      log-at = λ arg. refuse-growing tooDeep;
+      pow-at = λ base e. refuse-growing tooDeep;
+    }
+
+-- with any depth left, every constructor only appends
+pub calls-grow : (left : ℕ) → AllGrow (calls left)
+unfolding calls
+calls-grow zero = none-grow
+calls-grow (suc left) = deeper-grow (calls-grow left)
