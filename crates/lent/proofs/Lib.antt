@@ -1,3 +1,4 @@
 pub mod Overwrite
 pub mod Each
 pub mod Taken
+pub mod Finishing

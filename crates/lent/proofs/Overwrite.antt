@@ -7,7 +7,7 @@ use native.Mathlib.Numerals.{add-one}
 use native.Mathlib.Omega.{arith}
 use lib.ListN.{length, take, drop, getD, set, length-append, length-drop, take-append-drop, drop-of-length-le}
 use lib.Seq.{length-take-le, take-suc, drop-cons, set-at, take-all}
-use Rattle.lent.specs.Lent.{Between}
+use Rattle.constructor_laws.specs.Grown.{SameBut}
 
 abbrev over : ℕ → List ℕ → List ℕ → List ℕ
 over i new old = take i new ++ drop i old
@@ -42,8 +42,8 @@ all-new {i} {new} {old} o e =
     o .is ∙ rw (take-all i new all, drop-of-length-le old none) (append-nil new)
 
 -- where the two differ only between two numbers, the overwriting may start at the one and end at the other
-pub starts-at : {from to : ℕ} {old new : List ℕ} → Between from to old new → Overwritten from new old old
-starts-at {from} {to} {old} {new} b = record { is = rw (b .below) (sym (take-append-drop from old)); same = b .long }
+pub starts-at : {from to : ℕ} {old new : List ℕ} → SameBut from to old new → Overwritten from new old old
+starts-at {from} {to} {old} {new} b = record { is = rw (b .before) (sym (take-append-drop from old)); same = b .long }
 
-pub ends-at : {from to : ℕ} {old new now : List ℕ} → Between from to old new → Overwritten to new old now → now ≡ new
-ends-at {from} {to} {old} {new} b o = o .is ∙ rw (← b .above) (take-append-drop to new)
+pub ends-at : {from to : ℕ} {old new now : List ℕ} → SameBut from to old new → Overwritten to new old now → now ≡ new
+ends-at {from} {to} {old} {new} b o = o .is ∙ rw (← b .behind) (take-append-drop to new)

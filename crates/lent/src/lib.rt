@@ -3,9 +3,19 @@ ghost use mathlib.Core.Path.{_≡_};
 ghost use mathlib.Core.Bool.{true};
 ghost use lib.ListN.{length};
 ghost use Prim.Native.Nat.{_≤_};
-ghost use Rattle.pool.specs.Pool.{limit, entryKeeps};
-ghost use Rattle.lent.specs.Lent.{TakenIn, Between};
+ghost use Rattle.pool.specs.Pool.{limit, entryKeeps, isPool};
+ghost use Rattle.pool.specs.Made.{made};
+ghost use Rattle.constructor_laws.specs.Grown.{SameBut, Grows};
+ghost use Rattle.lent.specs.Lent.{TakenIn};
+ghost use Rattle.lent.specs.Call.{left, leaves, lentPool};
 use pool::LIMIT;
+use pool::Made;
+
+// What a call from outside gives: a node number, or the refusal number.
+pub enum Answer {
+    Node(u64),
+    Refused(u32),
+}
 
 // One entry against the rules: a node with smaller parts below the count, and zeros from the count on.
 fn entry_keeps(count: u64, i: u32, kind: u8, word: u64) -> bool
@@ -64,9 +74,9 @@ pub fn put_back(
     k: &[u8; LIMIT],
     w: &[u64; LIMIT],
 )
-    requires { ⌜ to ≤ limit ⌝ }
-    requires { ⌜ Between from to (now kinds) (now k) ⌝ }
-    requires { ⌜ Between from to (now words) (now w) ⌝ }
+    requires { ⌜ (from ≤ to) × (to ≤ limit) ⌝ }
+    requires { ⌜ (length (now kinds) ≡ limit) × (length (now words) ≡ limit) ⌝ }
+    requires { ⌜ SameBut from to (now kinds) (now k) × SameBut from to (now words) (now w) ⌝ }
     ensures { λ _. ⌜ now (kinds .exit) ≡ now (k .entry) ⌝ }
     ensures { λ _. ⌜ now (words .exit) ≡ now (w .entry) ⌝ }
 {
@@ -75,5 +85,30 @@ pub fn put_back(
         kinds[i] = k[i];
         words[i] = w[i];
         i += 1;
+    }
+}
+
+// After the work: an accepted call's new entries and count are put back, a refusal leaves all as it was.
+pub fn finish(
+    kinds: &mut [u8],
+    words: &mut [u64],
+    count: &mut u64,
+    k: &[u8; LIMIT],
+    w: &[u64; LIMIT],
+    result: Made,
+) -> Answer
+    requires { ⌜ isPool (now kinds) (now words) (now count) ≡ true ⌝ }
+    requires { ⌜ Grows (lentPool (now kinds) (now words) (now count)) (made result (now k) (now w)) ⌝ }
+    ensures { λ r. ⌜ left r (now (kinds .exit)) (now (words .exit)) (now (count .exit)) ≡ leaves (now (kinds .entry)) (now (words .entry)) (now (count .entry)) (made result (now (k .entry)) (now (w .entry))) ⌝ }
+{
+    match result {
+        Made::Node { node, room } => {
+            let from = *count as usize;
+            let to = room.count as usize;
+            put_back(kinds, words, from, to, k, w);
+            *count = to as u64;
+            Answer::Node(node as u64)
+        }
+        Made::Refused(number) => Answer::Refused(number),
     }
 }
