@@ -1,0 +1,5 @@
+// The entry points: every operation of document 01, checked. These are the functions that other programs call.
+mod build;
+
+pub use build::lit;
+
