@@ -1,7 +1,12 @@
 // The constructors as calls from outside.
 ghost use mathlib.Core.Path.{_≡_};
-ghost use Rattle.lent.specs.Call.{left, onPool};
+ghost use mathlib.Core.List.{[], _∷_};
+ghost use lib.Dec.{leb};
+ghost use Rattle.pool.specs.Nodes.{greatestVariable};
+ghost use Rattle.constructors.specs.Build.{calls, depth};
+ghost use Rattle.lent.specs.Call.{left, onPool, givenNodes};
 ghost use Rattle.engine.specs.Build.{litWork, varWork};
+use constructors::DEPTH;
 use lent::Answer;
 use pool::LIMIT;
 use pool::Node;
@@ -25,5 +30,54 @@ pub fn lit(kinds: &mut [u8], words: &mut [u64], count: &mut u64, value: i64) -> 
         end: LIMIT as u32,
     };
     let made = pool::append(&mut k, &mut w, room, Node::Lit(value));
+    lent::finish(kinds, words, count, &k, &w, made)
+}
+
+// Whether a variable number is given.
+fn is_variable(number: u64) -> bool
+    ensures { λ r. ⌜ r ≡ leb number greatestVariable ⌝ }
+{
+    number <= pool::VARIABLE_MAX
+}
+
+// A variable becomes a node.
+pub fn var(kinds: &mut [u8], words: &mut [u64], count: &mut u64, number: u64) -> Answer
+    ensures { λ r. ⌜ left r (now (kinds .exit)) (now (words .exit)) (now (count .exit)) ≡ onPool (varWork number) (now (kinds .entry)) (now (words .entry)) (now (count .entry)) ⌝ }
+{
+    let mut k = [0u8; LIMIT];
+    let mut w = [0u64; LIMIT];
+    let n = *count;
+    if !lent::take_in(kinds, words, n, &mut k, &mut w) {
+        return Answer::Refused(refusals::BROKEN_POOL);
+    }
+    if !is_variable(number) {
+        return Answer::Refused(refusals::UNKNOWN_VARIABLE);
+    }
+    let room = Room {
+        count: n as u32,
+        end: LIMIT as u32,
+    };
+    let made = pool::append(&mut k, &mut w, room, Node::Variable(number as u32));
+    lent::finish(kinds, words, count, &k, &w, made)
+}
+
+// `SymGenFunKind::add`.
+pub fn add(kinds: &mut [u8], words: &mut [u64], count: &mut u64, lhs: u64, rhs: u64) -> Answer
+    ensures { λ r. ⌜ left r (now (kinds .exit)) (now (words .exit)) (now (count .exit)) ≡ onPool (givenNodes (lhs ∷ rhs ∷ []) (calls depth .add-at lhs rhs)) (now (kinds .entry)) (now (words .entry)) (now (count .entry)) ⌝ }
+{
+    let mut k = [0u8; LIMIT];
+    let mut w = [0u64; LIMIT];
+    let n = *count;
+    if !lent::take_in(kinds, words, n, &mut k, &mut w) {
+        return Answer::Refused(refusals::BROKEN_POOL);
+    }
+    if !lent::both_given(n, lhs, rhs) {
+        return Answer::Refused(refusals::UNKNOWN_NODE);
+    }
+    let room = Room {
+        count: n as u32,
+        end: LIMIT as u32,
+    };
+    let made = adds::add_in(&mut k, &mut w, room, DEPTH, lhs as u32, rhs as u32);
     lent::finish(kinds, words, count, &k, &w, made)
 }

@@ -1,5 +1,6 @@
 // The entry points: every operation of document 01, checked. These are the functions that other programs call.
 mod build;
 
+pub use build::add;
 pub use build::lit;
-
+pub use build::var;

@@ -2,14 +2,15 @@
 -- Assumes nothing.
 use mathlib.Core.Path.{_≡_, refl, sym, ap, ap₂, _∙_}
 use mathlib.Core.Bool.{Bool, true, false, _&&_}
-use mathlib.Core.List.{List}
-use Prim.Native.Nat.{ℕ, _≤_}
+use mathlib.Core.List.{List, [], _∷_}
+use Prim.Native.Nat.{ℕ, _≤_, _<_}
 use native.Mathlib.Omega.{arith}
-use lib.Dec.{eqb, leb}
+use lib.Dec.{eqb, leb, ltb}
 use lib.ListN.{length}
-use borrow.Author.Tests.{eqb-true, leb-true}
+use borrow.Author.Tests.{eqb-true, leb-true, ltb-true}
 use Rattle.pool.specs.Pool.{limit, each, isPool, entryKeeps}
 use Rattle.pool.specs.Made.{made}
+use Rattle.pool.specs.Nodes.{allBelow}
 use Rattle.pool.specs.declared.table.Made.{Made}
 use Rattle.pool.specs.declared.table.Made.the-variants as made-as
 use Rattle.pool.specs.declared.table.Room.{Room}
@@ -63,3 +64,11 @@ module _ (ks ws : List ℕ) (n : ℕ) (k w : List ℕ) {r : Made} where
 
   pub refused-leaves : {m : ℕ} → r ≡ made-as.Refused m → left (Refused m) ks ws n ≡ leaves ks ws n (made r k w)
   refused-leaves e = rw e
+
+-- numbers that were found to be given are below the count
+pub one-is-below : {n a : ℕ} → allBelow n (a ∷ []) ≡ true → a < n
+one-is-below {n} {a} e = ltb-true a n (and-left (ltb a n) true e)
+
+pub both-are-below : {n a b : ℕ} → allBelow n (a ∷ b ∷ []) ≡ true → (a < n) × (b < n)
+both-are-below {n} {a} {b} e =
+    (ltb-true a n (and-left (ltb a n) _ e), ltb-true b n (and-left (ltb b n) true (and-right (ltb a n) _ e)))

@@ -1,10 +1,12 @@
 // What a caller lends: both tables of the pool are tested and taken in, and after an accepted call the new entries are put back.
 ghost use mathlib.Core.Path.{_≡_};
 ghost use mathlib.Core.Bool.{true};
+ghost use mathlib.Core.List.{[], _∷_};
 ghost use lib.ListN.{length};
 ghost use Prim.Native.Nat.{_≤_};
 ghost use Rattle.pool.specs.Pool.{limit, entryKeeps, isPool};
 ghost use Rattle.pool.specs.Made.{made};
+ghost use Rattle.pool.specs.Nodes.{allBelow};
 ghost use Rattle.constructor_laws.specs.Grown.{SameBut, Grows};
 ghost use Rattle.lent.specs.Lent.{TakenIn};
 ghost use Rattle.lent.specs.Call.{left, leaves, lentPool};
@@ -111,4 +113,21 @@ pub fn finish(
         }
         Made::Refused(number) => Answer::Refused(number),
     }
+}
+
+// Whether a given node number is below the count.
+pub fn one_given(count: u64, node: u64) -> bool
+    ensures { λ r. ⌜ r ≡ allBelow count (node ∷ []) ⌝ }
+{
+    node < count
+}
+
+// Whether two given node numbers are below the count.
+pub fn both_given(count: u64, lhs: u64, rhs: u64) -> bool
+    ensures { λ r. ⌜ r ≡ allBelow count (lhs ∷ rhs ∷ []) ⌝ }
+{
+    if lhs < count {
+        return rhs < count;
+    }
+    false
 }
