@@ -1,1 +1,4 @@
 pub mod Growth
+pub mod Rules
+pub mod Coding
+pub mod Appending
