@@ -1,23 +1,22 @@
 -- Appending one fine node keeps the rules of the pool: entries before the count and behind the new one stay, and the new one reads back as the node.
 -- Assumes nothing.
-use mathlib.Core.Path.{_≡_, refl, sym, ap, _∙_}
+use mathlib.Core.Path.{_≡_, refl, _∙_}
 use mathlib.Core.Logic.{_≢_}
 use mathlib.Core.Bool.{Bool, true, false}
 use mathlib.Core.List.{List}
-use Prim.Native.Nat.{ℕ, _+_, _≤_, _<_}
+use Prim.Native.Nat.{ℕ, _+_, _<_}
 use native.Mathlib.Omega.{arith}
 use native.Mathlib.Decide.{ℕ-discrete}
 use lib.Dec.{ltb}
 use borrow.Author.Tests.{ltb-true, ltb-false, lt-ltb, le-ltb}
-use lib.ListN.{length, getD, set, length-set}
+use lib.ListN.{getD, set, length-set}
 use lib.Seq.{getD-set-same, getD-set-other}
 use Rattle.pool.specs.declared.node.Node.{Node}
-use Rattle.pool.specs.Nodes.{half, decode, kindOf, wordOf, mayStandAt}
+use Rattle.pool.specs.Nodes.{kindOf, wordOf}
 use Rattle.pool.specs.Pool.{Pool, limit, append}
-use Rattle.constructor_laws.specs.Grown.{Grown}
 use Rattle.constructor_laws.specs.Keeps.{Keeps, Kept, KeptBy}
 use Rattle.constructor_laws.proofs.Growth.{appended, append-comes-to, appended-grown}
-use Rattle.constructor_laws.proofs.Rules.{Rules, rules-kept, kept-rules, entryAt, entry-before, entry-behind}
+use Rattle.constructor_laws.proofs.Rules.{Rules, rules-kept, kept-rules, entryAt, entry-before}
 use Rattle.constructor_laws.proofs.Coding.{Fine, fine-stands, fine-is-read}
 
 -- one node more puts no other number on the other side of the count

@@ -1,16 +1,21 @@
--- A node whose parts are nodes of the pool and whose number, literal or exponent is in range may stand at the count, and is read back as it was written.
+-- A node whose parts are nodes of the pool and whose number, literal or exponent is in range may stand at the count, is read back as it was written, and has a word of 64 bits.
 -- Assumes nothing.
 use mathlib.Core.Path.{_≡_, refl}
-use mathlib.Core.Bool.{Bool, true, and-eq-true-iff}
+use mathlib.Core.Bool.{true, and-eq-true-iff}
 use Prim.Native.Nat.{ℕ, _≤_, _<_}
 use native.Mathlib.Omega.{arith}
-use borrow.Author.Tests.{le-leb, lt-ltb}
-use Rattle.literal.specs.Literal.{isLiteral}
+use lib.IntN.{natAbs}
+use mir.Syntax.{w64}
+use mir.Val.{Fits}
+use mir.ValLaws.{ofZ-fits}
+use borrow.Author.Tests.{leb-true, le-leb, lt-ltb}
+use Rattle.literal.specs.Literal.{greatest, isLiteral}
+use Rattle.literal.proofs.Folds.{literal-fits}
 use Rattle.literal.proofs.Theorems.{literal-word-read}
 use Rattle.pool.specs.declared.node.Node.{Node}
 use Rattle.pool.specs.declared.node.Node.the-variants.{Empty, Variable, Lit, Add, Mul, Div, Exp, Log, Pow, Max}
 use Rattle.pool.specs.Nodes.{greatestVariable, leastExponent, greatestExponent, half, pair, lowOf, highOf, decode, kindOf, wordOf, parts, allBelow, isNode, mayStandAt}
-use Rattle.constructor_laws.proofs.Rules.{AllBelow, below-all}
+use Rattle.constructor_laws.proofs.Rules.{AllBelow, below-all, all-below-more}
 
 -- an exponent of the table of kinds
 pub record Exponent (e : ℕ) : Type 0 where
@@ -34,6 +39,9 @@ InRange (Max a b) = Unit {0}
 pub record Fine (n : ℕ) (node : Node) : Type 0 where
   pub below : AllBelow n (parts node)
   pub range : InRange node
+
+pub fine-with-more : {n m : ℕ} {node : Node} → n ≤ m → Fine n node → Fine m node
+fine-with-more {n} {m} {node} more f = record { below = all-below-more (parts node) more (f .below); range = f .range }
 
 in-range-is-node : (node : Node) → InRange node → isNode node ≡ true
 in-range-is-node Empty r = absurd r
@@ -64,21 +72,42 @@ high-of-pair a b h = omega arith
 pair-read : (make : ℕ → ℕ → Node) (a b : ℕ) → a < half → make (lowOf (pair a b)) (highOf (pair a b)) ≡ make a b
 pair-read make a b h = rw (low-of-pair a b h, high-of-pair a b h)
 
-pub fine-is-read : {n : ℕ} {node : Node} → n ≤ half → Fine n node → decode (kindOf node) (wordOf node) ≡ node
-unfolding decode
-fine-is-read {n} {node} small f = read node (f .below) (f .range)
-  where
-    short : {a : ℕ} → a < n → a < half
-    short h = omega arith
+pair-fits : (a b : ℕ) → a < half → b < half → Fits w64 (pair a b)
+pair-fits a b h k = record { fits = omega arith }
 
-    read : (node : Node) → AllBelow n (parts node) → InRange node → decode (kindOf node) (wordOf node) ≡ node
-    read Empty h r = absurd r
-    read (Variable v) h r = rw (le-leb v greatestVariable r)
-    read (Lit z) h r = rw (literal-word-read z r, r)
-    read (Add a b) h r = pair-read Add a b (short (h .0))
-    read (Mul a b) h r = pair-read Mul a b (short (h .0))
-    read (Div a b) h r = pair-read Div a b (short (h .0))
-    read (Exp a) h r = rw (lt-ltb a half (short (h .0)))
-    read (Log a) h r = rw (lt-ltb a half (short (h .0)))
-    read (Pow a e) h r = rw (high-of-pair a e (short (h .0)), low-of-pair a e (short (h .0)), le-leb leastExponent e (r .least))
-    read (Max a b) h r = pair-read Max a b (short (h .0))
+-- ---- a node and its word, in a pool whose numbers have half a word
+module _ {n : ℕ} (small : n ≤ half) where
+  short : {a : ℕ} → a < n → a < half
+  short h = omega arith
+
+  read-back : (node : Node) → AllBelow n (parts node) → InRange node → decode (kindOf node) (wordOf node) ≡ node
+  unfolding decode
+  read-back Empty h r = absurd r
+  read-back (Variable v) h r = rw (le-leb v greatestVariable r)
+  read-back (Lit z) h r = rw (literal-word-read z r, r)
+  read-back (Add a b) h r = pair-read Add a b (short (h .0))
+  read-back (Mul a b) h r = pair-read Mul a b (short (h .0))
+  read-back (Div a b) h r = pair-read Div a b (short (h .0))
+  read-back (Exp a) h r = rw (lt-ltb a half (short (h .0)))
+  read-back (Log a) h r = rw (lt-ltb a half (short (h .0)))
+  read-back (Pow a e) h r = rw (high-of-pair a e (short (h .0)), low-of-pair a e (short (h .0)), le-leb leastExponent e (r .least))
+  read-back (Max a b) h r = pair-read Max a b (short (h .0))
+
+  pub fine-is-read : {node : Node} → Fine n node → decode (kindOf node) (wordOf node) ≡ node
+  fine-is-read {node} f = read-back node (f .below) (f .range)
+
+  word-fits : (node : Node) → AllBelow n (parts node) → InRange node → Fits w64 (wordOf node)
+  word-fits Empty h r = absurd r
+  word-fits (Variable v) h r = record { fits = omega arith }
+  word-fits (Lit z) h r = ofZ-fits w64 z (literal-fits z (leb-true (natAbs z) greatest r))
+  word-fits (Add a b) h r = pair-fits a b (short (h .0)) (short (h .1 .0))
+  word-fits (Mul a b) h r = pair-fits a b (short (h .0)) (short (h .1 .0))
+  word-fits (Div a b) h r = pair-fits a b (short (h .0)) (short (h .1 .0))
+  word-fits (Exp a) h r = record { fits = omega (arith, short (h .0)) }
+  word-fits (Log a) h r = record { fits = omega (arith, short (h .0)) }
+  word-fits (Pow a e) h r = pair-fits a e (short (h .0)) (omega (arith, r .most))
+  word-fits (Max a b) h r = pair-fits a b (short (h .0)) (short (h .1 .0))
+
+  -- what a word of 64 bits holds
+  pub fine-word-fits : {node : Node} → Fine n node → Fits w64 (wordOf node)
+  fine-word-fits {node} f = word-fits node (f .below) (f .range)

@@ -1,19 +1,19 @@
 -- The rules of the pool taken apart and put together: the tests of `isPool` as facts about each entry, and what they say of every node that can be read.
 -- Assumes nothing.
-use mathlib.Core.Path.{_≡_, refl, sym, ap, _∙_, subst}
+use mathlib.Core.Path.{_≡_, refl, sym, _∙_}
 use mathlib.Core.Logic.{_⊎_, inl, inr}
 use mathlib.Core.Bool.{Bool, true, false, _&&_, and-eq-true-iff}
 use mathlib.Core.List.{List, [], _∷_}
-use Prim.Native.Nat.{ℕ, zero, suc, _+_, _≤_, _<_}
+use Prim.Native.Nat.{ℕ, zero, suc, _≤_, _<_}
 use native.Mathlib.Nat.{eq-or-lt-of-le}
 use native.Mathlib.Omega.{arith}
 use lib.Dec.{leb, ltb, eqb}
-use lib.ListN.{length, getD}
+use lib.ListN.{length, getD, replicate, length-replicate, getD-replicate}
 use borrow.Author.Tests.{ltb-true, ltb-false, leb-true, eqb-true, lt-ltb, le-ltb, le-leb, eq-eqb}
 use Rattle.pool.specs.declared.node.Node.{Node}
-use Rattle.pool.specs.declared.node.Node.the-variants as node
+use Rattle.pool.specs.declared.node.Node.the-variants.{Empty}
 use Rattle.pool.specs.Nodes.{decode, parts, allBelow, isNode, mayStandAt, pick}
-use Rattle.pool.specs.Pool.{Pool, limit, nodeAt, nodeIn, pickTest, entryKeeps, each, isPool}
+use Rattle.pool.specs.Pool.{Pool, pool, limit, nodeAt, nodeIn, entryKeeps, each, isPool}
 use Rattle.constructor_laws.specs.Keeps.{Keeps}
 
 -- ---- tests
@@ -31,6 +31,7 @@ each-at (suc m) test i h e = go (eq-or-lt-of-le (at-most i m h)) (and-eq-true-if
   where
     at-most : (i m : ℕ) → i < suc m → i ≤ m
     at-most i m h = omega arith
+
     go : (i ≡ m) ⊎ (i < m) → (each m test ≡ true) × (test m ≡ true) → (i < m → each m test ≡ true → test i ≡ true) → test i ≡ true
     go (inl same) both earlier = rw same (both .1)
     go (inr less) both earlier = earlier less (both .0)
@@ -101,35 +102,68 @@ kept-rules ks ws n r =
 
 -- ---- nodes
 
+pub rules-of : {P : Pool} → Keeps P → Rules (P .kinds) (P .words) (P .count)
+rules-of {P} k = rules-kept (P .kinds) (P .words) (P .count) (k .rules)
+
+-- "Each part of a node has a smaller number than the node"
+pub node-stands : {P : Pool} → Keeps P → (i : ℕ) → i < P .count → mayStandAt i (nodeAt P i) ≡ true
+unfolding nodeIn
+node-stands {P} k i h =
+    let l : i < limit = omega (arith, rules-of k .within) in
+    rw (lt-ltb i limit l) (sym (entry-before (P .kinds) (P .words) (P .count) i h) ∙ rules-of k .entries i l)
+
+-- an entry of 0 in both tables is no node
+empty-entry : (k w : ℕ) → (eqb k 0 && eqb w 0) ≡ true → decode k w ≡ Empty
+unfolding decode
+empty-entry k w e = rw (eqb-true k 0 (and-eq-true-iff (eqb k 0) (eqb w 0) .0 e .0))
+
+-- from the count on there is no node
+pub nothing-behind : {P : Pool} → Keeps P → (i : ℕ) → P .count ≤ i → nodeAt P i ≡ Empty
+unfolding nodeIn
+nothing-behind {P} k i h = go (ltb i limit) refl
+  where
+    go : (t : Bool) → ltb i limit ≡ t → pick t (decode (getD (P .kinds) i 0) (getD (P .words) i 0)) Empty ≡ Empty
+    go true t = empty-entry (getD (P .kinds) i 0) (getD (P .words) i 0) (sym (entry-behind (P .kinds) (P .words) (P .count) i h) ∙ rules-of k .entries i (ltb-true i limit t))
+    go false t = refl
+
 pub standing-parts-below : (i : ℕ) (n : Node) → mayStandAt i n ≡ true → AllBelow i (parts n)
 unfolding mayStandAt
 standing-parts-below i n e = all-below i (parts n) (and-eq-true-iff (isNode n) (allBelow i (parts n)) .0 e .1)
 
--- an entry of 0 in both tables is no node and has no parts
-pub nothing-below : (n k w : ℕ) → (eqb k 0 && eqb w 0) ≡ true → AllBelow n (parts (decode k w))
-unfolding decode
-nothing-below n k w e =
-    let both = and-eq-true-iff (eqb k 0) (eqb w 0) .0 e in
-    rw (eqb-true k 0 (both .0)) tt
+-- whatever number is read, the parts found there are below n
+abbrev pub PartsBelow : ℕ → (ℕ → Node) → Type 0
+PartsBelow n at = (i : ℕ) → AllBelow n (parts (at i))
 
--- whatever number is read, the parts found there are nodes of the pool
-pub parts-below : {P : Pool} → Keeps P → (i : ℕ) → AllBelow (P .count) (parts (nodeAt P i))
-unfolding nodeIn
-parts-below {P} k i = in-table (ltb i limit) refl
+pub parts-below : {P : Pool} → Keeps P → PartsBelow (P .count) (nodeAt P)
+parts-below {P} k i = go (ltb i (P .count)) refl
   where
-    rules : Rules (P .kinds) (P .words) (P .count)
-    rules = rules-kept (P .kinds) (P .words) (P .count) (k .rules)
-
-    entry : Node
-    entry = decode (getD (P .kinds) i 0) (getD (P .words) i 0)
-
-    in-pool : (t : Bool) → ltb i (P .count) ≡ t → entryAt (P .kinds) (P .words) (P .count) i ≡ true → AllBelow (P .count) (parts entry)
-    in-pool true t e =
+    go : (t : Bool) → ltb i (P .count) ≡ t → AllBelow (P .count) (parts (nodeAt P i))
+    go true t =
         let h : i < P .count = ltb-true i (P .count) t in
-        all-below-more (parts entry) (omega arith) (standing-parts-below i entry (sym (entry-before (P .kinds) (P .words) (P .count) i h) ∙ e))
-    in-pool false t e =
-        nothing-below (P .count) (getD (P .kinds) i 0) (getD (P .words) i 0) (sym (entry-behind (P .kinds) (P .words) (P .count) i (ltb-false i (P .count) t)) ∙ e)
+        all-below-more (parts (nodeAt P i)) (omega arith) (standing-parts-below i (nodeAt P i) (node-stands k i h))
+    go false t = rw (nothing-behind k i (ltb-false i (P .count) t)) tt
 
-    in-table : (t : Bool) → ltb i limit ≡ t → AllBelow (P .count) (parts (pick t entry node.Empty))
-    in-table true t = in-pool (ltb i (P .count)) refl (rules .entries i (ltb-true i limit t))
-    in-table false t = tt
+-- ---- there is such a pool: the empty one
+
+unfoldable pub zeros : List ℕ
+zeros = replicate limit 0
+
+zeros-long : length zeros ≡ limit
+unfolding zeros
+zeros-long = length-replicate {A = ℕ} limit 0
+
+zero-at : (i : ℕ) → i < limit → getD zeros i 0 ≡ 0
+unfolding zeros
+zero-at i h = getD-replicate {A = ℕ} limit i 0 0 h
+
+pub empty-keeps : (full : ℕ) → full ≤ limit → Keeps (pool zeros zeros 0 full)
+empty-keeps full h = record { rules = kept-rules zeros zeros 0 rules; end = h }
+  where
+    rules : Rules zeros zeros 0
+    rules =
+        record {
+          kinds-long = zeros-long;
+          words-long = zeros-long;
+          within = omega arith;
+          entries = λ i l. entry-behind zeros zeros 0 i (omega arith) ∙ rw (zero-at i l);
+        }
