@@ -28,8 +28,8 @@ pub same-but-nothing : (n : ℕ) (t : List ℕ) → SameBut n n t t
 same-but-nothing n t = record { before = refl; behind = refl; long = refl }
 
 -- what is the same in both steps is the same in the whole
-pub same-but-both : {a b c : ℕ} (t u v : List ℕ) → a ≤ b → b ≤ c → SameBut a b t u → SameBut b c u v → SameBut a c t v
-same-but-both {a} {b} {c} t u v ab bc first next =
+pub same-but-both : {a b c : ℕ} {t u v : List ℕ} → a ≤ b → b ≤ c → SameBut a b t u → SameBut b c u v → SameBut a c t v
+same-but-both {a} {b} {c} {t} {u} {v} ab bc first next =
     record {
       before = shorter-before v u (next .before) ∙ first .before;
       behind = next .behind ∙ further-behind u t (first .behind);
@@ -53,8 +53,8 @@ same-but-one n t a =
       long = length-set t n a;
     }
 
-pub same-entry : {a b : ℕ} (t u : List ℕ) (i : ℕ) → i < a → SameBut a b t u → getD u i 0 ≡ getD t i 0
-same-entry {a} t u i h same = sym (getD-take a u i 0 h) ∙ ap (λ (l : List ℕ). getD l i 0) (same .before) ∙ getD-take a t i 0 h
+pub same-entry : {a b : ℕ} {t u : List ℕ} (i : ℕ) → i < a → SameBut a b t u → getD u i 0 ≡ getD t i 0
+same-entry {a} {b} {t} {u} i h same = sym (getD-take a u i 0 h) ∙ ap (λ (l : List ℕ). getD l i 0) (same .before) ∙ getD-take a t i 0 h
 
 -- ---- pools
 
@@ -72,8 +72,8 @@ pub grown-by-both : {P Q R : Pool} → Grown P Q → Grown Q R → Grown P R
 grown-by-both {P} {Q} {R} g h =
     record {
       no-fewer = omega (arith, g .no-fewer, h .no-fewer);
-      kinds = same-but-both (P .kinds) (Q .kinds) (R .kinds) (g .no-fewer) (h .no-fewer) (g .kinds) (h .kinds);
-      words = same-but-both (P .words) (Q .words) (R .words) (g .no-fewer) (h .no-fewer) (g .words) (h .words);
+      kinds = same-but-both (g .no-fewer) (h .no-fewer) (g .kinds) (h .kinds);
+      words = same-but-both (g .no-fewer) (h .no-fewer) (g .words) (h .words);
       end = h .end ∙ g .end;
       within = λ w. h .within (g .within w);
     }
@@ -81,7 +81,7 @@ grown-by-both {P} {Q} {R} g h =
 -- every earlier expression is what it was
 pub earlier-same : {P Q : Pool} → Grown P Q → (i : ℕ) → i < P .count → nodeAt Q i ≡ nodeAt P i
 unfolding nodeIn
-earlier-same {P} {Q} g i h = rw (same-entry (P .kinds) (Q .kinds) i h (g .kinds), same-entry (P .words) (Q .words) i h (g .words))
+earlier-same g i h = rw (same-entry i h (g .kinds), same-entry i h (g .words))
 
 -- ---- pieces of work
 
@@ -106,11 +106,11 @@ infixl 1 _>>=_
 pub _>>=_ : {run : Run} {next : ℕ → Run} → Growing run → ((i : ℕ) → Growing (next i)) → Growing (λ P. bind (run P) next)
 _>>=_ {run} {next} g h = record { grows = λ P. bind-grows P (run P) (g .grows P) h }
 
-pub yield-growing : (i : ℕ) → Growing (yield i)
-yield-growing i = record { grows = grown-by-nothing }
+pub yield-grows : (i : ℕ) → Growing (yield i)
+yield-grows i = record { grows = grown-by-nothing }
 
-pub refuse-growing : (k : ℕ) → Growing (refuse k)
-refuse-growing k = record { grows = λ P. tt }
+pub refuse-grows : (k : ℕ) → Growing (refuse k)
+refuse-grows k = record { grows = λ P. tt }
 
 -- the pool with one node more
 abbrev pub appended : Node → Pool → Pool
@@ -138,16 +138,16 @@ appended-grown n P below =
       within = λ w. omega arith;
     }
 
-pub append-growing : (n : Node) → Growing (append n)
-append-growing n = record { grows = λ P. append-comes-to (Grows P) n P (λ room below. appended-grown n P below) tt }
+pub append-grows : (n : Node) → Growing (append n)
+append-grows n = record { grows = λ P. append-comes-to (Grows P) n P (λ room below. appended-grown n P below) tt }
 
-pub literal-growing : (f : Folded) → Growing (literal f)
-literal-growing (Value z) = append-growing (node.Lit z)
-literal-growing (Refused k) = refuse-growing k
+pub literal-grows : (f : Folded) → Growing (literal f)
+literal-grows (Value z) = append-grows (node.Lit z)
+literal-grows (Refused k) = refuse-grows k
 
-pub exponent-growing : (fits : Bool) {run : Run} → Growing run → Growing (exponent fits run)
-exponent-growing true g = g
-exponent-growing false g = refuse-growing exponentTooLarge
+pub exponent-grows : (fits : Bool) {run : Run} → Growing run → Growing (exponent fits run)
+exponent-grows true g = g
+exponent-grows false g = refuse-grows exponentTooLarge
 
 -- ---- the constructors
 
@@ -162,83 +162,83 @@ pub record AllGrow (c : Calls) : Type 0 where
   pub log-at : (arg : ℕ) → Growing (c .log-at arg)
   pub pow-at : (base e : ℕ) → Growing (c .pow-at base e)
 
-pub build-growing : {c : Calls} → AllGrow c → (t : Term) → Growing (build c t)
+pub build-grows : {c : Calls} → AllGrow c → (t : Term) → Growing (build c t)
 unfolding build
-build-growing g (# a) = yield-growing a
-build-growing g (lit z) = literal-growing (folded z)
-build-growing g (lit-exp z) = literal-growing (expOf z)
-build-growing g (lit-log z) = literal-growing (logOf z)
-build-growing g (add s t) = do
-  a ← build-growing g s
-  b ← build-growing g t
+build-grows g (# a) = yield-grows a
+build-grows g (lit z) = literal-grows (folded z)
+build-grows g (lit-exp z) = literal-grows (expOf z)
+build-grows g (lit-log z) = literal-grows (logOf z)
+build-grows g (add s t) = do
+  a ← build-grows g s
+  b ← build-grows g t
   g .add-at a b
-build-growing g (mul s t) = do
-  a ← build-growing g s
-  b ← build-growing g t
+build-grows g (mul s t) = do
+  a ← build-grows g s
+  b ← build-grows g t
   g .mul-at a b
-build-growing g (exp t) = do
-  a ← build-growing g t
+build-grows g (exp t) = do
+  a ← build-grows g t
   g .exp-at a
-build-growing g (log t) = do
-  a ← build-growing g t
+build-grows g (log t) = do
+  a ← build-grows g t
   g .log-at a
-build-growing g (pow t e) = do
-  a ← build-growing g t
-  exponent-growing (leb e greatestExponent) (g .pow-at a e)
-build-growing g (Add s t) = do
-  a ← build-growing g s
-  b ← build-growing g t
-  append-growing (node.Add a b)
-build-growing g (Mul s t) = do
-  a ← build-growing g s
-  b ← build-growing g t
-  append-growing (node.Mul a b)
-build-growing g (Div s t) = do
-  a ← build-growing g s
-  b ← build-growing g t
-  append-growing (node.Div a b)
-build-growing g (Max s t) = do
-  a ← build-growing g s
-  b ← build-growing g t
-  append-growing (node.Max a b)
-build-growing g (Exp t) = do
-  a ← build-growing g t
-  append-growing (node.Exp a)
-build-growing g (Log t) = do
-  a ← build-growing g t
-  append-growing (node.Log a)
-build-growing g (Pow t e) = do
-  a ← build-growing g t
-  append-growing (node.Pow a e)
+build-grows g (pow t e) = do
+  a ← build-grows g t
+  exponent-grows (leb e greatestExponent) (g .pow-at a e)
+build-grows g (Add s t) = do
+  a ← build-grows g s
+  b ← build-grows g t
+  append-grows (node.Add a b)
+build-grows g (Mul s t) = do
+  a ← build-grows g s
+  b ← build-grows g t
+  append-grows (node.Mul a b)
+build-grows g (Div s t) = do
+  a ← build-grows g s
+  b ← build-grows g t
+  append-grows (node.Div a b)
+build-grows g (Max s t) = do
+  a ← build-grows g s
+  b ← build-grows g t
+  append-grows (node.Max a b)
+build-grows g (Exp t) = do
+  a ← build-grows g t
+  append-grows (node.Exp a)
+build-grows g (Log t) = do
+  a ← build-grows g t
+  append-grows (node.Log a)
+build-grows g (Pow t e) = do
+  a ← build-grows g t
+  append-grows (node.Pow a e)
 
 -- a term that is chosen by the pool
-pub table-growing : {c : Calls} → AllGrow c → (table : Pool → Term) → Growing (λ P. build c (table P) P)
-table-growing g table = record { grows = λ P. build-growing g (table P) .grows P }
+pub table-grows : {c : Calls} → AllGrow c → (table : Pool → Term) → Growing (λ P. build c (table P) P)
+table-grows g table = record { grows = λ P. build-grows g (table P) .grows P }
 
 pub deeper-grow : {c : Calls} → AllGrow c → AllGrow (deeper c)
 deeper-grow g =
     record {
-      add-at = λ lhs rhs. table-growing g (λ P. addTable (nodeAt P) lhs rhs);
-      mul-at = λ lhs rhs. table-growing g (λ P. mulTable (nodeAt P) lhs rhs);
-      div-at = λ lhs rhs. table-growing g (λ P. divTable (nodeAt P) lhs rhs);
-      max-at = λ lhs rhs. table-growing g (λ P. maxTable (nodeAt P) lhs rhs);
-      neg-at = λ arg. table-growing g (λ P. negTable (nodeAt P) arg);
-      exp-at = λ arg. table-growing g (λ P. expTable (nodeAt P) arg);
-      log-at = λ arg. table-growing g (λ P. logTable (nodeAt P) arg);
-      pow-at = λ base e. table-growing g (λ P. powTable (nodeAt P) base e);
+      add-at = λ lhs rhs. table-grows g (λ P. addTable (nodeAt P) lhs rhs);
+      mul-at = λ lhs rhs. table-grows g (λ P. mulTable (nodeAt P) lhs rhs);
+      div-at = λ lhs rhs. table-grows g (λ P. divTable (nodeAt P) lhs rhs);
+      max-at = λ lhs rhs. table-grows g (λ P. maxTable (nodeAt P) lhs rhs);
+      neg-at = λ arg. table-grows g (λ P. negTable (nodeAt P) arg);
+      exp-at = λ arg. table-grows g (λ P. expTable (nodeAt P) arg);
+      log-at = λ arg. table-grows g (λ P. logTable (nodeAt P) arg);
+      pow-at = λ base e. table-grows g (λ P. powTable (nodeAt P) base e);
     }
 
 none-grow : AllGrow noCalls
 none-grow =
     record {
-      add-at = λ lhs rhs. refuse-growing tooDeep;
-      mul-at = λ lhs rhs. refuse-growing tooDeep;
-      div-at = λ lhs rhs. refuse-growing tooDeep;
-      max-at = λ lhs rhs. refuse-growing tooDeep;
-      neg-at = λ arg. refuse-growing tooDeep;
-      exp-at = λ arg. refuse-growing tooDeep;
-      log-at = λ arg. refuse-growing tooDeep;
-      pow-at = λ base e. refuse-growing tooDeep;
+      add-at = λ lhs rhs. refuse-grows tooDeep;
+      mul-at = λ lhs rhs. refuse-grows tooDeep;
+      div-at = λ lhs rhs. refuse-grows tooDeep;
+      max-at = λ lhs rhs. refuse-grows tooDeep;
+      neg-at = λ arg. refuse-grows tooDeep;
+      exp-at = λ arg. refuse-grows tooDeep;
+      log-at = λ arg. refuse-grows tooDeep;
+      pow-at = λ base e. refuse-grows tooDeep;
     }
 
 -- with any depth left, every constructor only appends
