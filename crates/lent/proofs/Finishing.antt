@@ -66,9 +66,9 @@ module _ (ks ws : List ℕ) (n : ℕ) (k w : List ℕ) {r : Made} where
   refused-leaves e = rw e
 
 -- numbers that were found to be given are below the count
-pub one-is-below : {n a : ℕ} → allBelow n (a ∷ []) ≡ true → a < n
-one-is-below {n} {a} e = ltb-true a n (and-left (ltb a n) true e)
+pub one-is-below : (n a : ℕ) → allBelow n (a ∷ []) ≡ true → a < n
+one-is-below n a e = ltb-true a n (and-left (ltb a n) true e)
 
-pub both-are-below : {n a b : ℕ} → allBelow n (a ∷ b ∷ []) ≡ true → (a < n) × (b < n)
-both-are-below {n} {a} {b} e =
+pub both-are-below : (n a b : ℕ) → allBelow n (a ∷ b ∷ []) ≡ true → (a < n) × (b < n)
+both-are-below n a b e =
     (ltb-true a n (and-left (ltb a n) _ e), ltb-true b n (and-left (ltb b n) true (and-right (ltb a n) _ e)))

@@ -1,80 +1,105 @@
+-- `engine::build::add` meets its contract: the pool and the given numbers are looked at first, then the constructor works on the copies.
+-- Assumes nothing.
 use borrow.Author.Needs.{needs}
+use mathlib.Core.Path.{_≡_, sym, ap, _∙_}
+use native.Mathlib.Omega.{arith}
+use borrow.Author.Tests.{not-true, not-false}
+use mathlib.Core.List.{[], _∷_}
+use Rattle.refusals.specs.Refusals.{unknownNode}
+use Rattle.constructors.specs.Build.{calls, depth}
+use Rattle.constructor_laws.proofs.Growth.{calls-grow}
+use Rattle.lent.specs.Call.{givenNodes}
+use Rattle.lent.proofs.Finishing.{both-are-below}
+use Rattle.engine.proofs.Calling.{met, broken, demanded, is-pool, sizes, on-lent, worked, appends}
 use Rattle.engine.proofs.build.add.Statement.{statement}
 use Rattle.engine.proofs.build.add.Tie as tie
-use Rattle.engine.proofs.build.add.Reads as reads
-use Rattle.engine.proofs.build.add.Lts as lts
-use Rattle.adds.proofs.add_in.Reads as add-in-reads
-use Rattle.lent.proofs.both_given.Reads as both-given-reads
-use Rattle.lent.proofs.finish.Reads as finish-reads
-use Rattle.lent.proofs.take_in.Reads as take-in-reads
 
--- src/build.rt:71:9
 take-in-requires : tie.Need-take-in-requires
 take-in-requires c κs = search needs
 
--- src/build.rt:72:9
 same-length : tie.Need-same-length
 same-length c = search needs
 
--- src/build.rt:72:9
 same-length-2 : tie.Need-same-length-2
 same-length-2 c = search needs
 
--- src/build.rt:72:9
 returns : tie.Need-returns
-returns c = ?
+returns c =
+    let lhs = c .before .before .before .before .before .before .before .before .before .args .lhs in
+    let rhs = c .before .before .before .before .before .before .before .before .before .args .rhs in
+    broken (c .before .take-in .ensures) (givenNodes (lhs ∷ rhs ∷ []) (calls depth .add-at lhs rhs)) (not-true _ (c .if1 .taken))
 
--- src/build.rt:74:9
 both-given-requires : tie.Need-both-given-requires
 both-given-requires c κs = search needs
 
--- src/build.rt:75:9
 same-length-3 : tie.Need-same-length-3
 same-length-3 c = search needs
 
--- src/build.rt:75:9
 same-length-4 : tie.Need-same-length-4
 same-length-4 c = search needs
 
--- src/build.rt:75:9
 returns-2 : tie.Need-returns-2
-returns-2 c = ?
+returns-2 c =
+    let lhs = c .before .before .before .before .before .before .before .before .before .before .before .args .lhs in
+    let rhs = c .before .before .before .before .before .before .before .before .before .before .before .args .rhs in
+    let taken = c .before .before .before .take-in .ensures in
+    let pool-taken = not-false _ (c .before .before .if1 .left) in
+    demanded taken (givenNodes (lhs ∷ rhs ∷ []) (calls depth .add-at lhs rhs)) pool-taken (rw (sym (c .before .both-given .ensures) ∙ not-true _ (c .if2 .taken)))
 
--- src/build.rt:78:16
 cast-add-in : tie.Need-cast-add-in
-cast-add-in c = ?
+cast-add-in c =
+    let taken = c .before .before .before .take-in .ensures in
+    let pool-taken = not-false _ (c .before .before .if1 .left) in
+    record { fits = omega (arith, sizes taken pool-taken .small) }
 
--- src/build.rt:79:14
 cast-add-in-2 : tie.Need-cast-add-in-2
 cast-add-in-2 c = search needs
 
--- src/build.rt:81:58
 cast-add-in-3 : tie.Need-cast-add-in-3
-cast-add-in-3 c = ?
+cast-add-in-3 c =
+    let lhs = c .before .before .before .before .before .before .before .before .before .before .before .before .before .args .lhs in
+    let rhs = c .before .before .before .before .before .before .before .before .before .before .before .before .before .args .rhs in
+    let taken = c .before .before .before .before .before .take-in .ensures in
+    let pool-taken = not-false _ (c .before .before .before .before .if1 .left) in
+    let given = both-are-below (c .before .before .before .before .before .before .before .before .before .before .before .before .before .args .count .now) lhs rhs (sym (c .before .before .before .both-given .ensures) ∙ not-false _ (c .before .before .if2 .left)) in
+    record { fits = omega (arith, given, sizes taken pool-taken .small) }
 
--- src/build.rt:81:70
 cast-add-in-4 : tie.Need-cast-add-in-4
-cast-add-in-4 c = ?
+cast-add-in-4 c =
+    let lhs = c .before .before .before .before .before .before .before .before .before .before .before .before .before .args .lhs in
+    let rhs = c .before .before .before .before .before .before .before .before .before .before .before .before .before .args .rhs in
+    let taken = c .before .before .before .before .before .take-in .ensures in
+    let pool-taken = not-false _ (c .before .before .before .before .if1 .left) in
+    let given = both-are-below (c .before .before .before .before .before .before .before .before .before .before .before .before .before .args .count .now) lhs rhs (sym (c .before .before .before .both-given .ensures) ∙ not-false _ (c .before .before .if2 .left)) in
+    record { fits = omega (arith, given, sizes taken pool-taken .small) }
 
--- src/build.rt:81:9
 add-in-requires : tie.Need-add-in-requires
 add-in-requires c κs = search needs
 
--- src/build.rt:82:5
 finish-requires : tie.Need-finish-requires
-finish-requires c κs = ?
+finish-requires c κs =
+    let lhs = c .before .before .before .before .before .before .before .before .before .before .before .before .before .before .before .before .before .before .before .args .lhs in
+    let rhs = c .before .before .before .before .before .before .before .before .before .before .before .before .before .before .before .before .before .before .before .args .rhs in
+    let taken = c .before .before .before .before .before .before .before .before .before .before .before .take-in .ensures in
+    let pool-taken = not-false _ (c .before .before .before .before .before .before .before .before .before .before .if1 .left) in
+    let run = calls depth .add-at lhs rhs in
+    (is-pool taken pool-taken, appends (calls-grow depth .add-at lhs rhs) (on-lent taken run pool-taken (c .before .before .before .before .before .add-in .ensures)))
 
--- src/build.rt:65:1
 same-length-5 : tie.Need-same-length-5
 same-length-5 c = search needs
 
--- src/build.rt:65:1
 same-length-6 : tie.Need-same-length-6
 same-length-6 c = search needs
 
--- src/build.rt:65:1
 returns-3 : tie.Need-returns-3
-returns-3 c = ?
+returns-3 c =
+    let lhs = c .before .before .before .before .before .before .before .before .before .before .before .before .before .before .before .before .before .before .before .before .before .before .before .before .args .lhs in
+    let rhs = c .before .before .before .before .before .before .before .before .before .before .before .before .before .before .before .before .before .before .before .before .before .before .before .before .args .rhs in
+    let taken = c .before .before .before .before .before .before .before .before .before .before .before .before .before .before .before .before .take-in .ensures in
+    let pool-taken = not-false _ (c .before .before .before .before .before .before .before .before .before .before .before .before .before .before .before .if1 .left) in
+    let run = calls depth .add-at lhs rhs in
+    let given = sym (c .before .before .before .before .before .before .before .before .before .before .before .before .before .before .both-given .ensures) ∙ not-false _ (c .before .before .before .before .before .before .before .before .before .before .before .before .before .if2 .left) in
+    worked taken (givenNodes (lhs ∷ rhs ∷ []) run) pool-taken (c .before .before .before .before .finish .ensures) (on-lent taken run pool-taken (c .before .before .before .before .before .before .before .before .before .before .add-in .ensures) ∙ met unknownNode given)
 
 pub add-spec : {M : Type 1} → statement M
 add-spec =

@@ -10,7 +10,7 @@ use mir.ValLaws.{toZ-ofZ}
 use Rattle.literal.specs.Literal.{isLiteral}
 use Rattle.pool.specs.declared.node.Node.the-variants.{Lit}
 use Rattle.pool.specs.Pool.{append}
-use Rattle.constructor_laws.proofs.Growth.{append-growing}
+use Rattle.constructor_laws.proofs.Growth.{append-grows}
 use Rattle.engine.specs.Build.{litWork}
 use Rattle.engine.proofs.Calling.{met, broken, demanded, is-pool, sizes, on-lent, worked, appends}
 use Rattle.refusals.specs.Refusals.{notLiteral}
@@ -59,7 +59,7 @@ finish-requires c κs =
     let e : toZ w64 (ofZ w64 z) ≡ z = toZ-ofZ w64 z (c .before .before .before .before .before .before .before .before .before .before .before .before .before .before .before .before .before .before .before .fits .value) in
     let taken = c .before .before .before .before .before .before .before .before .before .before .before .take-in .ensures in
     let yes-pool = not-false _ (c .before .before .before .before .before .before .before .before .before .before .if1 .left) in
-    (is-pool taken yes-pool, appends (append-growing (Lit z)) (on-lent taken (append (Lit z)) yes-pool (rw e at (c .before .before .before .before .before .append .ensures))))
+    (is-pool taken yes-pool, appends (append-grows (Lit z)) (on-lent taken (append (Lit z)) yes-pool (rw e at (c .before .before .before .before .before .append .ensures))))
 
 same-length-5 : tie.Need-same-length-5
 same-length-5 c = search needs

@@ -1,76 +1,88 @@
+-- `engine::build::var` meets its contract: the pool and the number are looked at first, then one node is appended to the copies.
+-- Assumes nothing.
 use borrow.Author.Needs.{needs}
+use mathlib.Core.Path.{_≡_, sym, ap, _∙_}
+use native.Mathlib.Omega.{arith}
+use borrow.Author.Tests.{not-true, not-false}
+use borrow.Author.Tests.{leb-true}
+use Rattle.refusals.specs.Refusals.{unknownVariable}
+use Rattle.pool.specs.declared.node.Node.the-variants.{Variable}
+use Rattle.pool.specs.Nodes.{greatestVariable}
+use Rattle.pool.specs.Pool.{append}
+use Rattle.constructor_laws.proofs.Growth.{append-grows}
+use Rattle.engine.specs.Build.{varWork}
+use Rattle.engine.proofs.Calling.{met, broken, demanded, is-pool, sizes, on-lent, worked, appends}
 use Rattle.engine.proofs.build.var.Statement.{statement}
 use Rattle.engine.proofs.build.var.Tie as tie
-use Rattle.engine.proofs.build.var.Reads as reads
-use Rattle.engine.proofs.build.var.Lts as lts
-use Rattle.engine.proofs.build.is_variable.Reads as is-variable-reads
-use Rattle.lent.proofs.finish.Reads as finish-reads
-use Rattle.lent.proofs.take_in.Reads as take-in-reads
-use Rattle.pool.proofs.append.Reads as append-reads
 
--- src/build.rt:50:9
 take-in-requires : tie.Need-take-in-requires
 take-in-requires c κs = search needs
 
--- src/build.rt:51:9
 same-length : tie.Need-same-length
 same-length c = search needs
 
--- src/build.rt:51:9
 same-length-2 : tie.Need-same-length-2
 same-length-2 c = search needs
 
--- src/build.rt:51:9
 returns : tie.Need-returns
-returns c = ?
+returns c =
+    let v = c .before .before .before .before .before .before .before .before .before .args .number in
+    broken (c .before .take-in .ensures) (varWork v) (not-true _ (c .if1 .taken))
 
--- src/build.rt:53:9
 is-variable-requires : tie.Need-is-variable-requires
 is-variable-requires c κs = search needs
 
--- src/build.rt:54:9
 same-length-3 : tie.Need-same-length-3
 same-length-3 c = search needs
 
--- src/build.rt:54:9
 same-length-4 : tie.Need-same-length-4
 same-length-4 c = search needs
 
--- src/build.rt:54:9
 returns-2 : tie.Need-returns-2
-returns-2 c = ?
+returns-2 c =
+    let v = c .before .before .before .before .before .before .before .before .before .before .before .args .number in
+    let taken = c .before .before .before .take-in .ensures in
+    let pool-taken = not-false _ (c .before .before .if1 .left) in
+    demanded taken (varWork v) pool-taken (rw (sym (c .before .is-variable .ensures) ∙ not-true _ (c .if2 .taken)))
 
--- src/build.rt:57:16
 cast-t18 : tie.Need-cast-t18
-cast-t18 c = ?
+cast-t18 c =
+    let taken = c .before .before .before .take-in .ensures in
+    let pool-taken = not-false _ (c .before .before .if1 .left) in
+    record { fits = omega (arith, sizes taken pool-taken .small) }
 
--- src/build.rt:58:14
 cast-t19 : tie.Need-cast-t19
 cast-t19 c = search needs
 
--- src/build.rt:60:66
 cast-t18-2 : tie.Need-cast-t18-2
-cast-t18-2 c = ?
+cast-t18-2 c =
+    let v = c .before .before .before .before .before .before .before .before .before .before .before .before .before .args .number in
+    let small = leb-true v greatestVariable (sym (c .before .before .before .is-variable .ensures) ∙ not-false _ (c .before .before .if2 .left)) in
+    record { fits = omega (arith, small) }
 
--- src/build.rt:60:9
 append-requires : tie.Need-append-requires
 append-requires c κs = search needs
 
--- src/build.rt:61:5
 finish-requires : tie.Need-finish-requires
-finish-requires c κs = ?
+finish-requires c κs =
+    let v = c .before .before .before .before .before .before .before .before .before .before .before .before .before .before .before .before .before .before .before .args .number in
+    let taken = c .before .before .before .before .before .before .before .before .before .before .before .take-in .ensures in
+    let pool-taken = not-false _ (c .before .before .before .before .before .before .before .before .before .before .if1 .left) in
+    (is-pool taken pool-taken, appends (append-grows (Variable v)) (on-lent taken (append (Variable v)) pool-taken (c .before .before .before .before .before .append .ensures)))
 
--- src/build.rt:44:1
 same-length-5 : tie.Need-same-length-5
 same-length-5 c = search needs
 
--- src/build.rt:44:1
 same-length-6 : tie.Need-same-length-6
 same-length-6 c = search needs
 
--- src/build.rt:44:1
 returns-3 : tie.Need-returns-3
-returns-3 c = ?
+returns-3 c =
+    let v = c .before .before .before .before .before .before .before .before .before .before .before .before .before .before .before .before .before .before .before .before .before .before .before .before .args .number in
+    let taken = c .before .before .before .before .before .before .before .before .before .before .before .before .before .before .before .before .take-in .ensures in
+    let pool-taken = not-false _ (c .before .before .before .before .before .before .before .before .before .before .before .before .before .before .before .if1 .left) in
+    let known = sym (c .before .before .before .before .before .before .before .before .before .before .before .before .before .before .is-variable .ensures) ∙ not-false _ (c .before .before .before .before .before .before .before .before .before .before .before .before .before .if2 .left) in
+    worked taken (varWork v) pool-taken (c .before .before .before .before .finish .ensures) (on-lent taken (append (Variable v)) pool-taken (c .before .before .before .before .before .before .before .before .before .before .append .ensures) ∙ met unknownVariable known)
 
 pub var-spec : {M : Type 1} → statement M
 var-spec =
