@@ -81,3 +81,66 @@ pub fn add(kinds: &mut [u8], words: &mut [u64], count: &mut u64, lhs: u64, rhs: 
     let made = adds::add_in(&mut k, &mut w, room, DEPTH, lhs as u32, rhs as u32);
     lent::finish(kinds, words, count, &k, &w, made)
 }
+
+// `SymGenFunKind::div`.
+pub fn div(kinds: &mut [u8], words: &mut [u64], count: &mut u64, lhs: u64, rhs: u64) -> Answer
+    ensures { λ r. ⌜ left r (now (kinds .exit)) (now (words .exit)) (now (count .exit)) ≡ onPool (givenNodes (lhs ∷ rhs ∷ []) (calls depth .div-at lhs rhs)) (now (kinds .entry)) (now (words .entry)) (now (count .entry)) ⌝ }
+{
+    let mut k = [0u8; LIMIT];
+    let mut w = [0u64; LIMIT];
+    let n = *count;
+    if !lent::take_in(kinds, words, n, &mut k, &mut w) {
+        return Answer::Refused(refusals::BROKEN_POOL);
+    }
+    if !lent::both_given(n, lhs, rhs) {
+        return Answer::Refused(refusals::UNKNOWN_NODE);
+    }
+    let room = Room {
+        count: n as u32,
+        end: LIMIT as u32,
+    };
+    let made = logs::div_in(&mut k, &mut w, room, DEPTH, lhs as u32, rhs as u32);
+    lent::finish(kinds, words, count, &k, &w, made)
+}
+
+// `SymGenFunKind::max`.
+pub fn max(kinds: &mut [u8], words: &mut [u64], count: &mut u64, lhs: u64, rhs: u64) -> Answer
+    ensures { λ r. ⌜ left r (now (kinds .exit)) (now (words .exit)) (now (count .exit)) ≡ onPool (givenNodes (lhs ∷ rhs ∷ []) (calls depth .max-at lhs rhs)) (now (kinds .entry)) (now (words .entry)) (now (count .entry)) ⌝ }
+{
+    let mut k = [0u8; LIMIT];
+    let mut w = [0u64; LIMIT];
+    let n = *count;
+    if !lent::take_in(kinds, words, n, &mut k, &mut w) {
+        return Answer::Refused(refusals::BROKEN_POOL);
+    }
+    if !lent::both_given(n, lhs, rhs) {
+        return Answer::Refused(refusals::UNKNOWN_NODE);
+    }
+    let room = Room {
+        count: n as u32,
+        end: LIMIT as u32,
+    };
+    let made = logs::max_in(&mut k, &mut w, room, DEPTH, lhs as u32, rhs as u32);
+    lent::finish(kinds, words, count, &k, &w, made)
+}
+
+// `SymGenFunKind::log`.
+pub fn log(kinds: &mut [u8], words: &mut [u64], count: &mut u64, arg: u64) -> Answer
+    ensures { λ r. ⌜ left r (now (kinds .exit)) (now (words .exit)) (now (count .exit)) ≡ onPool (givenNodes (arg ∷ []) (calls depth .log-at arg)) (now (kinds .entry)) (now (words .entry)) (now (count .entry)) ⌝ }
+{
+    let mut k = [0u8; LIMIT];
+    let mut w = [0u64; LIMIT];
+    let n = *count;
+    if !lent::take_in(kinds, words, n, &mut k, &mut w) {
+        return Answer::Refused(refusals::BROKEN_POOL);
+    }
+    if !lent::one_given(n, arg) {
+        return Answer::Refused(refusals::UNKNOWN_NODE);
+    }
+    let room = Room {
+        count: n as u32,
+        end: LIMIT as u32,
+    };
+    let made = logs::log_in(&mut k, &mut w, room, DEPTH, arg as u32);
+    lent::finish(kinds, words, count, &k, &w, made)
+}

@@ -2,5 +2,8 @@
 mod build;
 
 pub use build::add;
+pub use build::div;
 pub use build::lit;
+pub use build::log;
+pub use build::max;
 pub use build::var;

@@ -1,16 +1,18 @@
 -- `add` and what it builds meet their contracts: each step is a step of the rule's term, and the depth left falls from a rule to its calls.
 -- Assumes nothing.
 use Prim.Native.Nat.{ℕ, _+_, _*_, _<_}
-use mathlib.Core.Path.{refl}
+use mathlib.Core.Path.{refl, ap, _∙_}
 use native.Mathlib.Omega.{arith}
 use mir.Syntax.{w64}
 use mir.ValLaws.{toZ-ofZ}
-use denote.Ref.{now}
 use borrow.Fn.Kinds.{In}
 use borrow.Fn.PlainCycle.{Measures, is, falls, and}
+use Rattle.literal.specs.Literal.{folded}
+use Rattle.constructors.specs.Terms.{#, lit, add}
 use Rattle.constructors.specs.Build.{build}
-use Rattle.views.proofs.Steps.{onward, stopped}
-use Rattle.adds.proofs.Runs.{none-left, add-ruled, sum-made, onto-made, sums-made}
+use Rattle.views.proofs.Steps.{onward, stopped, runs-deeper}
+use Rattle.adds.specs.Rule.{addTerm}
+use Rattle.adds.proofs.Runs.{none-left, ruled, renumbered, same-sum, literal-made}
 use Rattle.adds.proofs.made.add_chain.Reads as add-chain
 use Rattle.adds.proofs.made.add_chain.Kinds as add-chain-kinds
 use Rattle.adds.proofs.made.+add_chain+add_in+add_onto+add_sums.Lts-add_chain as add-chain-lts
@@ -433,9 +435,9 @@ add-in-returns-2 : (t : ℕ) → add-in-lts.Need-returns-2 (
 ) (add-in-at t) add-in.Post
 unfolding build
 add-in-returns-2 t c =
-    add-ruled (c .before .before .before .before .before .before .before .args .left) (c .before .before .before .before .before .before .before .args .lhs) (c .before .before .before .before .before .before .before .args .rhs) (now (c .before .before .before .before .before .before .before .args .kinds)) (now (c .before .before .before .before .before .before .before .args .words)) (c .before .before .before .before .before .before .before .args .room) (c .before .before .before .before .before .before .if1 .left)
-    (c .before .before .before .add-rule .ensures) (c .before .rule .given .1)
-    refl
+    rw (runs-deeper (c .before .before .before .before .before .before .before .args .left) (c .before .before .before .before .before .before .if1 .left))
+    (ruled _ _ addTerm (c .before .before .before .add-rule .ensures) (c .before .rule .given .1)
+    refl)
 
 add-in-returns-3 : (t : ℕ) → add-in-lts.Need-returns-3 (
   add-rule-reads.Asked,
@@ -455,9 +457,9 @@ add-in-returns-3 : (t : ℕ) → add-in-lts.Need-returns-3 (
 ) (add-in-at t) add-in.Post
 unfolding build
 add-in-returns-3 t c =
-    add-ruled (c .before .before .before .before .before .before .before .before .before .before .before .args .left) (c .before .before .before .before .before .before .before .before .before .before .before .args .lhs) (c .before .before .before .before .before .before .before .before .before .before .before .args .rhs) (now (c .before .before .before .before .before .before .before .before .before .before .before .args .kinds)) (now (c .before .before .before .before .before .before .before .before .before .before .before .args .words)) (c .before .before .before .before .before .before .before .before .before .before .before .args .room) (c .before .before .before .before .before .before .before .before .before .before .if1 .left)
-    (c .before .before .before .before .before .before .before .add-rule .ensures) (c .before .before .before .before .before .rule2 .given .1)
-    (sum-made (toZ-ofZ w64 (c .before .before .before .before .before .rule2 .given .0 .0) (record { sfits = c .before .before .before .before .known-told2 .given .0 .1 })) (toZ-ofZ w64 (c .before .before .before .before .before .rule2 .given .0 .1 .0) (record { sfits = c .before .before .before .before .known-told2 .given .1 .0 .1 })) _ (c .before .sum .ensures) (c .lit-in .ensures))
+    rw (runs-deeper (c .before .before .before .before .before .before .before .before .before .before .before .args .left) (c .before .before .before .before .before .before .before .before .before .before .if1 .left))
+    (ruled _ _ addTerm (c .before .before .before .before .before .before .before .add-rule .ensures) (c .before .before .before .before .before .rule2 .given .1)
+    (literal-made _ (c .before .sum .ensures ∙ ap folded (same-sum (toZ-ofZ w64 (c .before .before .before .before .before .rule2 .given .0 .0) (record { sfits = c .before .before .before .before .known-told2 .given .0 .1 })) (toZ-ofZ w64 (c .before .before .before .before .before .rule2 .given .0 .1 .0) (record { sfits = c .before .before .before .before .known-told2 .given .1 .0 .1 })))) (c .lit-in .ensures)))
 
 add-in-returns-4 : (t : ℕ) → add-in-lts.Need-returns-4 (
   add-rule-reads.Asked,
@@ -476,9 +478,9 @@ add-in-returns-4 : (t : ℕ) → add-in-lts.Need-returns-4 (
   add-chain.Post,
 ) (add-in-at t) add-in.Post
 add-in-returns-4 t c =
-    add-ruled (c .before .before .before .before .before .before .before .before .before .before .args .left) (c .before .before .before .before .before .before .before .before .before .before .args .lhs) (c .before .before .before .before .before .before .before .before .before .before .args .rhs) (now (c .before .before .before .before .before .before .before .before .before .before .args .kinds)) (now (c .before .before .before .before .before .before .before .before .before .before .args .words)) (c .before .before .before .before .before .before .before .before .before .before .args .room) (c .before .before .before .before .before .before .before .before .before .if1 .left)
-    (c .before .before .before .before .before .before .add-rule .ensures) (c .before .before .before .before .rule3 .given .1)
-    (onto-made (toZ-ofZ w64 (c .before .before .before .before .rule3 .given .0 .1 .0) (record { sfits = c .before .before .before .known-told3 .given .1 .0 .1 })) (toZ-ofZ w64 (c .before .before .before .before .rule3 .given .0 .1 .1 .0) (record { sfits = c .before .before .before .known-told3 .given .1 .1 .0 .1 })) _ _ _ (c .add-onto .ensures))
+    rw (runs-deeper (c .before .before .before .before .before .before .before .before .before .before .args .left) (c .before .before .before .before .before .before .before .before .before .if1 .left))
+    (ruled _ _ addTerm (c .before .before .before .before .before .before .add-rule .ensures) (c .before .before .before .before .rule3 .given .1)
+    (renumbered _ _ (λ z. add (# (c .before .before .before .before .rule3 .given .0 .0)) (lit z)) (same-sum (toZ-ofZ w64 (c .before .before .before .before .rule3 .given .0 .1 .0) (record { sfits = c .before .before .before .known-told3 .given .1 .0 .1 })) (toZ-ofZ w64 (c .before .before .before .before .rule3 .given .0 .1 .1 .0) (record { sfits = c .before .before .before .known-told3 .given .1 .1 .0 .1 }))) (c .add-onto .ensures)))
 
 add-in-returns-5 : (t : ℕ) → add-in-lts.Need-returns-5 (
   add-rule-reads.Asked,
@@ -498,9 +500,9 @@ add-in-returns-5 : (t : ℕ) → add-in-lts.Need-returns-5 (
 ) (add-in-at t) add-in.Post
 unfolding build
 add-in-returns-5 t c =
-    add-ruled (c .before .before .before .before .before .before .before .before .before .before .args .left) (c .before .before .before .before .before .before .before .before .before .before .args .lhs) (c .before .before .before .before .before .before .before .before .before .before .args .rhs) (now (c .before .before .before .before .before .before .before .before .before .before .args .kinds)) (now (c .before .before .before .before .before .before .before .before .before .before .args .words)) (c .before .before .before .before .before .before .before .before .before .before .args .room) (c .before .before .before .before .before .before .before .before .before .if1 .left)
-    (c .before .before .before .before .before .before .add-rule .ensures) (c .before .before .before .before .rule4 .given .1)
-    (c .append .ensures)
+    rw (runs-deeper (c .before .before .before .before .before .before .before .before .before .before .args .left) (c .before .before .before .before .before .before .before .before .before .if1 .left))
+    (ruled _ _ addTerm (c .before .before .before .before .before .before .add-rule .ensures) (c .before .before .before .before .rule4 .given .1)
+    (c .append .ensures))
 
 add-in-returns-6 : (t : ℕ) → add-in-lts.Need-returns-6 (
   add-rule-reads.Asked,
@@ -519,9 +521,9 @@ add-in-returns-6 : (t : ℕ) → add-in-lts.Need-returns-6 (
   add-chain.Post,
 ) (add-in-at t) add-in.Post
 add-in-returns-6 t c =
-    add-ruled (c .before .before .before .before .before .before .before .before .before .before .args .left) (c .before .before .before .before .before .before .before .before .before .before .args .lhs) (c .before .before .before .before .before .before .before .before .before .before .args .rhs) (now (c .before .before .before .before .before .before .before .before .before .before .args .kinds)) (now (c .before .before .before .before .before .before .before .before .before .before .args .words)) (c .before .before .before .before .before .before .before .before .before .before .args .room) (c .before .before .before .before .before .before .before .before .before .if1 .left)
-    (c .before .before .before .before .before .before .add-rule .ensures) (c .before .before .before .before .rule5 .given .1)
-    (sums-made (toZ-ofZ w64 (c .before .before .before .before .rule5 .given .0 .1 .1 .0) (record { sfits = c .before .before .before .known-told5 .given .1 .1 .0 .1 })) (toZ-ofZ w64 (c .before .before .before .before .rule5 .given .0 .1 .1 .1 .0) (record { sfits = c .before .before .before .known-told5 .given .1 .1 .1 .0 .1 })) _ _ _ _ (c .add-sums .ensures))
+    rw (runs-deeper (c .before .before .before .before .before .before .before .before .before .before .args .left) (c .before .before .before .before .before .before .before .before .before .if1 .left))
+    (ruled _ _ addTerm (c .before .before .before .before .before .before .add-rule .ensures) (c .before .before .before .before .rule5 .given .1)
+    (renumbered _ _ (λ z. add (add (# (c .before .before .before .before .rule5 .given .0 .0)) (# (c .before .before .before .before .rule5 .given .0 .1 .0))) (lit z)) (same-sum (toZ-ofZ w64 (c .before .before .before .before .rule5 .given .0 .1 .1 .0) (record { sfits = c .before .before .before .known-told5 .given .1 .1 .0 .1 })) (toZ-ofZ w64 (c .before .before .before .before .rule5 .given .0 .1 .1 .1 .0) (record { sfits = c .before .before .before .known-told5 .given .1 .1 .1 .0 .1 }))) (c .add-sums .ensures)))
 
 add-in-returns-7 : (t : ℕ) → add-in-lts.Need-returns-7 (
   add-rule-reads.Asked,
@@ -540,9 +542,9 @@ add-in-returns-7 : (t : ℕ) → add-in-lts.Need-returns-7 (
   add-chain.Post,
 ) (add-in-at t) add-in.Post
 add-in-returns-7 t c =
-    add-ruled (c .before .before .before .before .before .before .before .before .before .before .args .left) (c .before .before .before .before .before .before .before .before .before .before .args .lhs) (c .before .before .before .before .before .before .before .before .before .before .args .rhs) (now (c .before .before .before .before .before .before .before .before .before .before .args .kinds)) (now (c .before .before .before .before .before .before .before .before .before .before .args .words)) (c .before .before .before .before .before .before .before .before .before .before .args .room) (c .before .before .before .before .before .before .before .before .before .if1 .left)
-    (c .before .before .before .before .before .before .add-rule .ensures) (c .before .before .before .before .rule6 .given .1)
-    (c .add-chain .ensures)
+    rw (runs-deeper (c .before .before .before .before .before .before .before .before .before .before .args .left) (c .before .before .before .before .before .before .before .before .before .if1 .left))
+    (ruled _ _ addTerm (c .before .before .before .before .before .before .add-rule .ensures) (c .before .before .before .before .rule6 .given .1)
+    (c .add-chain .ensures))
 
 add-onto-sum-requires : (t : ℕ) → add-onto-lts.Need-sum-requires (
   sum-reads.Asked,
@@ -595,7 +597,7 @@ add-onto-returns : (t : ℕ) → add-onto-lts.Need-returns (
 unfolding build
 add-onto-returns t c =
     stopped (c .before .before .lit-in .last .0) (c .before .before .lit-in .last .1 .0) _ _ _ (c .enum-told .given .1)
-    (sum-made (toZ-ofZ w64 (c .before .before .before .before .before .before .args .x) (c .before .before .before .before .before .before .fits .x)) (toZ-ofZ w64 (c .before .before .before .before .before .before .args .y) (c .before .before .before .before .before .before .fits .y)) _ (c .before .before .before .sum .ensures) (c .before .before .lit-in .ensures))
+    (literal-made _ (c .before .before .before .sum .ensures ∙ ap folded (same-sum (toZ-ofZ w64 (c .before .before .before .before .before .before .args .x) (c .before .before .before .before .before .before .fits .x)) (toZ-ofZ w64 (c .before .before .before .before .before .before .args .y) (c .before .before .before .before .before .before .fits .y)))) (c .before .before .lit-in .ensures))
 
 add-onto-add-in-requires : (t : ℕ) → add-onto-lts.Need-add-in-requires (
   sum-reads.Asked,
@@ -618,7 +620,7 @@ add-onto-returns-2 : (t : ℕ) → add-onto-lts.Need-returns-2 (
 unfolding build
 add-onto-returns-2 t c =
     onward (c .before .before .before .before .before .before .lit-in .last .0) (c .before .before .before .before .before .before .lit-in .last .1 .0) _ (c .before .before .before .before .sum2 .given .1)
-    (sum-made (toZ-ofZ w64 (c .before .before .before .before .before .before .before .before .before .before .args .x) (c .before .before .before .before .before .before .before .before .before .before .fits .x)) (toZ-ofZ w64 (c .before .before .before .before .before .before .before .before .before .before .args .y) (c .before .before .before .before .before .before .before .before .before .before .fits .y)) _ (c .before .before .before .before .before .before .before .sum .ensures) (c .before .before .before .before .before .before .lit-in .ensures))
+    (literal-made _ (c .before .before .before .before .before .before .before .sum .ensures ∙ ap folded (same-sum (toZ-ofZ w64 (c .before .before .before .before .before .before .before .before .before .before .args .x) (c .before .before .before .before .before .before .before .before .before .before .fits .x)) (toZ-ofZ w64 (c .before .before .before .before .before .before .before .before .before .before .args .y) (c .before .before .before .before .before .before .before .before .before .before .fits .y)))) (c .before .before .before .before .before .before .lit-in .ensures))
     (c .add-in .ensures)
 
 add-sums-add-in-requires : (t : ℕ) → add-sums-lts.Need-add-in-requires (
@@ -717,7 +719,7 @@ add-sums-returns-2 t c =
     onward (c .before .before .before .before .before .before .before .before .before .add-in .last .0) (c .before .before .before .before .before .before .before .before .before .add-in .last .1 .0) _ (c .before .before .before .before .before .before .before .nodes .given .1)
     (c .before .before .before .before .before .before .before .before .before .add-in .ensures)
     (stopped (c .before .before .lit-in .last .0) (c .before .before .lit-in .last .1 .0) _ _ _ (c .enum-told2 .given .1)
-    (sum-made (toZ-ofZ w64 (c .before .before .before .before .before .before .before .before .before .before .before .before .args .x) (c .before .before .before .before .before .before .before .before .before .before .before .before .fits .x)) (toZ-ofZ w64 (c .before .before .before .before .before .before .before .before .before .before .before .before .args .y) (c .before .before .before .before .before .before .before .before .before .before .before .before .fits .y)) _ (c .before .before .before .sum .ensures) (c .before .before .lit-in .ensures)))
+    (literal-made _ (c .before .before .before .sum .ensures ∙ ap folded (same-sum (toZ-ofZ w64 (c .before .before .before .before .before .before .before .before .before .before .before .before .args .x) (c .before .before .before .before .before .before .before .before .before .before .before .before .fits .x)) (toZ-ofZ w64 (c .before .before .before .before .before .before .before .before .before .before .before .before .args .y) (c .before .before .before .before .before .before .before .before .before .before .before .before .fits .y)))) (c .before .before .lit-in .ensures)))
 
 add-sums-add-in-requires-2 : (t : ℕ) → add-sums-lts.Need-add-in-requires-2 (
   add-in-below t,
@@ -742,7 +744,7 @@ add-sums-returns-3 t c =
     onward (c .before .before .before .before .before .before .before .before .before .before .before .before .before .add-in .last .0) (c .before .before .before .before .before .before .before .before .before .before .before .before .before .add-in .last .1 .0) _ (c .before .before .before .before .before .before .before .before .before .before .before .nodes .given .1)
     (c .before .before .before .before .before .before .before .before .before .before .before .before .before .add-in .ensures)
     (onward (c .before .before .before .before .before .before .lit-in .last .0) (c .before .before .before .before .before .before .lit-in .last .1 .0) _ (c .before .before .before .before .sum2 .given .1)
-    (sum-made (toZ-ofZ w64 (c .before .before .before .before .before .before .before .before .before .before .before .before .before .before .before .before .args .x) (c .before .before .before .before .before .before .before .before .before .before .before .before .before .before .before .before .fits .x)) (toZ-ofZ w64 (c .before .before .before .before .before .before .before .before .before .before .before .before .before .before .before .before .args .y) (c .before .before .before .before .before .before .before .before .before .before .before .before .before .before .before .before .fits .y)) _ (c .before .before .before .before .before .before .before .sum .ensures) (c .before .before .before .before .before .before .lit-in .ensures))
+    (literal-made _ (c .before .before .before .before .before .before .before .sum .ensures ∙ ap folded (same-sum (toZ-ofZ w64 (c .before .before .before .before .before .before .before .before .before .before .before .before .before .before .before .before .args .x) (c .before .before .before .before .before .before .before .before .before .before .before .before .before .before .before .before .fits .x)) (toZ-ofZ w64 (c .before .before .before .before .before .before .before .before .before .before .before .before .before .before .before .before .args .y) (c .before .before .before .before .before .before .before .before .before .before .before .before .before .before .before .before .fits .y)))) (c .before .before .before .before .before .before .lit-in .ensures))
     (c .add-in2 .ensures))
 
 pub +add-chain+add-in+add-onto+add-sums-spec : {M : Type 1} → statement M

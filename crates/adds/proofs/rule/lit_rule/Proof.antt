@@ -6,8 +6,9 @@ use mir.Syntax.{w64}
 use mir.Val.{toZ, ofZ}
 use mir.ValLaws.{toZ-ofZ}
 use denote.Ref.{now}
+use Rattle.literal.specs.Literal.{isZero}
 use Rattle.pool.specs.Pool.{nodeIn}
-use Rattle.adds.proofs.Parts.{lit-found, add-found, no-lit-found, neither-found, zero-tested}
+use Rattle.adds.proofs.Parts.{lit-found, add-found, no-lit-found, neither-found, tested}
 use Rattle.adds.proofs.Rules.{zero-on-left, zero-on-lit, two-lits, lit-onto-sum, lit-beside-sum, lit-beside}
 use Rattle.adds.proofs.rule.lit_rule.Statement.{statement}
 use Rattle.adds.proofs.rule.lit_rule.Tie as tie
@@ -23,7 +24,7 @@ returns c =
     let e : toZ w64 (ofZ w64 (a .a)) ≡ a .a = toZ-ofZ w64 (a .a) (s .fits .a) in
     zero-on-left at (a .lhs) (a .rhs)
     (s .pre .0)
-    (zero-tested e (c .before .is-zero .ensures) (c .if1 .taken))
+    (tested isZero e (c .before .is-zero .ensures) (c .if1 .taken))
 
 shape-at-requires : tie.Need-shape-at-requires
 shape-at-requires c κs = search needs
@@ -45,9 +46,9 @@ returns-2 c =
     let f : toZ w64 (ofZ w64 (v .0 .0)) ≡ v .0 .0 = toZ-ofZ w64 (v .0 .0) (record { sfits = c .before .before .known-told .given .0 .1 }) in
     zero-on-lit at (a .lhs) (a .rhs)
     (s .pre .0)
-    (zero-tested e (c .before .before .before .before .before .before .before .is-zero .ensures) (c .before .before .before .before .before .before .if1 .left))
+    (tested isZero e (c .before .before .before .before .before .before .before .is-zero .ensures) (c .before .before .before .before .before .before .if1 .left))
     (lit-found (at (a .rhs)) (right .ensures) (v .1))
-    (zero-tested f (c .before .is-zero2 .ensures) (c .if2 .taken))
+    (tested isZero f (c .before .is-zero2 .ensures) (c .if2 .taken))
 
 enum-known-shape-2 : tie.Need-enum-known-shape-2
 enum-known-shape-2 c = search needs
@@ -68,7 +69,7 @@ returns-3 c =
     let v = c .before .before .before .shape2 .given in
     lit-beside-sum at (a .lhs) (a .rhs)
     (s .pre .0)
-    (zero-tested e (c .before .before .before .before .before .before .before .is-zero .ensures) (c .before .before .before .before .before .before .if1 .left))
+    (tested isZero e (c .before .before .before .before .before .before .before .is-zero .ensures) (c .before .before .before .before .before .before .if1 .left))
     (lit-found (at (a .rhs)) (right .ensures) (v .1))
     (add-found (at (a .rhs)) (right .ensures) (v .1))
     (no-lit-found (at (v .0 .1 .0)) (c .before .shape-at2 .ensures) (c .match2 .keys2))
@@ -85,9 +86,9 @@ returns-4 c =
     rw (e, f)
     (two-lits at (a .lhs) (a .rhs)
     (s .pre .0)
-    (zero-tested e (c .before .before .before .before .before .before .before .is-zero .ensures) (c .before .before .before .before .before .before .if1 .left))
+    (tested isZero e (c .before .before .before .before .before .before .before .is-zero .ensures) (c .before .before .before .before .before .before .if1 .left))
     (lit-found (at (a .rhs)) (right .ensures) (v .1))
-    (zero-tested f (c .before .is-zero2 .ensures) (c .if2 .left)))
+    (tested isZero f (c .before .is-zero2 .ensures) (c .if2 .left)))
 
 returns-5 : tie.Need-returns-5
 returns-5 c =
@@ -102,7 +103,7 @@ returns-5 c =
     rw (e, f)
     (lit-onto-sum at (a .lhs) (a .rhs)
     (s .pre .0)
-    (zero-tested e (c .before .before .before .before .before .before .before .before .before .is-zero .ensures) (c .before .before .before .before .before .before .before .before .if1 .left))
+    (tested isZero e (c .before .before .before .before .before .before .before .before .before .is-zero .ensures) (c .before .before .before .before .before .before .before .before .if1 .left))
     (lit-found (at (a .rhs)) (right .ensures) (v .1))
     (add-found (at (a .rhs)) (right .ensures) (v .1))
     (lit-found (at (v .0 .1 .0)) (c .before .before .before .shape-at2 .ensures) (y .1)))
@@ -116,7 +117,7 @@ returns-6 c =
     let right = neither-found (at (a .rhs)) (c .before .shape-at .ensures) (c .match .keys3) in
     lit-beside at (a .lhs) (a .rhs)
     (s .pre .0)
-    (zero-tested e (c .before .before .before .is-zero .ensures) (c .before .before .if1 .left))
+    (tested isZero e (c .before .before .before .is-zero .ensures) (c .before .before .if1 .left))
     (s .pre .1)
     (right .0)
     (right .1)

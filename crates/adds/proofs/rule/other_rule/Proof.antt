@@ -6,8 +6,9 @@ use mir.Syntax.{w64}
 use mir.Val.{toZ, ofZ}
 use mir.ValLaws.{toZ-ofZ}
 use denote.Ref.{now}
+use Rattle.literal.specs.Literal.{isZero}
 use Rattle.pool.specs.Pool.{nodeIn}
-use Rattle.adds.proofs.Parts.{lit-found, no-lit-found, zero-tested}
+use Rattle.adds.proofs.Parts.{lit-found, no-lit-found, tested}
 use Rattle.adds.proofs.Rules.{zero-on-right, beside-lit, beside}
 use Rattle.adds.proofs.rule.other_rule.Statement.{statement}
 use Rattle.adds.proofs.rule.other_rule.Tie as tie
@@ -41,7 +42,7 @@ returns-2 c =
     zero-on-right at (a .lhs) (a .rhs)
     (s .pre .0)
     (lit-found (at (a .rhs)) (c .before .before .before .before .before .shape-at .ensures) (v .1))
-    (zero-tested e (c .before .is-zero .ensures) (c .if1 .taken))
+    (tested isZero e (c .before .is-zero .ensures) (c .if1 .taken))
 
 returns-3 : tie.Need-returns-3
 returns-3 c =
@@ -54,7 +55,7 @@ returns-3 c =
     (s .pre .0)
     (s .pre .1)
     (lit-found (at (a .rhs)) (c .before .before .before .before .before .shape-at .ensures) (v .1))
-    (zero-tested e (c .before .is-zero .ensures) (c .if1 .left))
+    (tested isZero e (c .before .is-zero .ensures) (c .if1 .left))
 
 pub other-rule-spec : {M : Type 1} → statement M
 other-rule-spec =

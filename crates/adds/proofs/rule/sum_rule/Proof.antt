@@ -6,8 +6,9 @@ use mir.Syntax.{w64}
 use mir.Val.{toZ, ofZ}
 use mir.ValLaws.{toZ-ofZ}
 use denote.Ref.{now}
+use Rattle.literal.specs.Literal.{isZero}
 use Rattle.pool.specs.Pool.{nodeIn}
-use Rattle.adds.proofs.Parts.{lit-found, add-found, no-lit-found, neither-found, zero-tested}
+use Rattle.adds.proofs.Parts.{lit-found, add-found, no-lit-found, neither-found, tested}
 use Rattle.adds.proofs.Rules.{zero-on-right, sum-onto-lit, sum-beside-lit, sum-beside}
 use Rattle.adds.proofs.rule.sum_rule.Statement.{statement}
 use Rattle.adds.proofs.rule.sum_rule.Tie as tie
@@ -31,7 +32,7 @@ returns c =
     zero-on-right at (a .lhs) (a .rhs)
     (s .pre .0)
     (lit-found (at (a .rhs)) (c .before .before .before .before .before .shape-at .ensures) (v .1))
-    (zero-tested e (c .before .is-zero .ensures) (c .if1 .taken))
+    (tested isZero e (c .before .is-zero .ensures) (c .if1 .taken))
 
 shape-at-requires-2 : tie.Need-shape-at-requires-2
 shape-at-requires-2 c κs = search needs
@@ -50,7 +51,7 @@ returns-2 c =
     (s .pre .0)
     (s .pre .1)
     (lit-found (at (a .rhs)) (c .before .before .before .before .before .before .before .shape-at .ensures) (v .1))
-    (zero-tested e (c .before .before .before .is-zero .ensures) (c .before .before .if1 .left))
+    (tested isZero e (c .before .before .before .is-zero .ensures) (c .before .before .if1 .left))
     (no-lit-found (at (a .a)) (c .before .shape-at2 .ensures) (c .match2 .keys2))
 
 enum-known-shape-2 : tie.Need-enum-known-shape-2
@@ -79,7 +80,7 @@ returns-3 c =
     (s .pre .0)
     (s .pre .1)
     (lit-found (at (a .rhs)) (c .before .before .before .before .before .before .before .before .before .shape-at .ensures) (v .1))
-    (zero-tested e (c .before .before .before .before .before .is-zero .ensures) (c .before .before .before .before .if1 .left))
+    (tested isZero e (c .before .before .before .before .before .is-zero .ensures) (c .before .before .before .before .if1 .left))
     (lit-found (at (a .a)) (c .before .before .before .shape-at2 .ensures) (x .1)))
 
 returns-4 : tie.Need-returns-4
