@@ -1,0 +1,116 @@
+-- Work on the pool that gives any kind of result, and the operations on coefficients, which are constructors called from outside a constructor.
+-- Assumes nothing.
+use mathlib.Core.Bool.{Bool, true, false}
+use mathlib.Core.List.{List, [], _∷_, _++_}
+use Prim.Native.Nat.{ℕ, zero, suc}
+use lib.IntN.{ℤ, pos}
+use lib.ListN.{length, getD}
+use Rattle.literal.specs.Literal.{folded}
+use Rattle.pool.specs.Pool.{Pool, Out, done, refused, Run}
+use Rattle.constructors.specs.Build.{calls, depth, literal}
+
+-- what a piece of work gives: a result and the pool, or a refusal number
+pub data Result (A : Type 0) : Type 0 where
+  gives : A → Pool → Result A
+  refused-work : ℕ → Result A
+
+abbrev pub Work : Type 0 → Type 0
+Work A = Pool → Result A
+
+abbrev pub bind : {A B : Type 0} → Result A → (A → Work B) → Result B
+bind (gives x P) next = next x P
+bind (refused-work k) next = refused-work k
+
+infixl 1 _>>=_
+abbrev pub _>>=_ : {A B : Type 0} → Work A → (A → Work B) → Work B
+(work >>= next) P = bind (work P) next
+
+abbrev pub yield : {A : Type 0} → A → Work A
+yield x P = gives x P
+
+abbrev pub refuse : {A : Type 0} → ℕ → Work A
+refuse k P = refused-work k
+
+-- a constructor's answer
+abbrev pub answered : Out → Result ℕ
+answered (done i P) = gives i P
+answered (refused k) = refused-work k
+
+abbrev pub node : Run → Work ℕ
+node run P = answered (run P)
+
+-- T::from(n), T::zero(), T::one(): each a new literal
+abbrev pub lit : ℤ → Work ℕ
+lit z = node (literal (folded z))
+
+abbrev pub from : ℕ → Work ℕ
+from n = lit (pos n)
+
+abbrev pub zeroLit : Work ℕ
+zeroLit = from 0
+
+abbrev pub oneLit : Work ℕ
+oneLit = from 1
+
+-- the operators of `SymGenFun`
+abbrev pub add : ℕ → ℕ → Work ℕ
+add a b = node (calls depth .add-at a b)
+
+abbrev pub mul : ℕ → ℕ → Work ℕ
+mul a b = node (calls depth .mul-at a b)
+
+abbrev pub div : ℕ → ℕ → Work ℕ
+div a b = node (calls depth .div-at a b)
+
+abbrev pub neg : ℕ → Work ℕ
+neg a = node (calls depth .neg-at a)
+
+-- self + (-rhs)
+abbrev pub sub : ℕ → ℕ → Work ℕ
+sub a b = do
+    n ← neg b
+    add a n
+
+abbrev pub exp : ℕ → Work ℕ
+exp a = node (calls depth .exp-at a)
+
+abbrev pub log : ℕ → Work ℕ
+log a = node (calls depth .log-at a)
+
+abbrev pub max : ℕ → ℕ → Work ℕ
+max a b = node (calls depth .max-at a b)
+
+-- coefficient i of a list
+abbrev pub at : List ℕ → ℕ → ℕ
+at cs i = getD cs i 0
+
+-- for each entry, in order
+unfoldable pub each : (ℕ → Work ℕ) → List ℕ → Work (List ℕ)
+each f [] = yield []
+each f (c ∷ cs) = do
+    r ← f c
+    rs ← each f cs
+    yield (r ∷ rs)
+
+-- for the entries of two lists side by side, up to the shorter length
+unfoldable pub eachTwo : (ℕ → ℕ → Work ℕ) → List ℕ → List ℕ → Work (List ℕ)
+eachTwo f [] ws = yield []
+eachTwo f (u ∷ us) [] = yield []
+eachTwo f (u ∷ us) (w ∷ ws) = do
+    r ← f u w
+    rs ← eachTwo f us ws
+    yield (r ∷ rs)
+
+-- (j .. j + todo).fold(acc, f)
+unfoldable pub fold : (ℕ → ℕ → Work ℕ) → ℕ → ℕ → ℕ → Work ℕ
+fold f j zero acc = yield acc
+fold f j (suc todo) acc = do
+    next ← f acc j
+    fold f (suc j) todo next
+
+-- for k in res.len() .. res.len() + todo { res[k] = f(res, k) }
+unfoldable pub fill : (List ℕ → ℕ → Work ℕ) → ℕ → List ℕ → Work (List ℕ)
+fill f zero res = yield res
+fill f (suc todo) res = do
+    c ← f res (length res)
+    fill f todo (res ++ (c ∷ []))
