@@ -2,6 +2,8 @@
 -- Assumes nothing.
 use mathlib.Core.List.{List, [], _∷_}
 use Prim.Native.Nat.{ℕ}
+use Prim.Native.String as String
+use Prim.Native.Char.{code}
 use lib.IntN.{ℤ, pos}
 use lib.ListN.{replicate}
 use Rattle.pool.specs.declared.node.Node.the-variants as node
@@ -9,6 +11,11 @@ use Rattle.pool.specs.Pool.{Pool, pool, Out, done, refused, Run, _>>=_, append,
 use Rattle.walks.specs.Print.{textOf}
 use Rattle.taylor.specs.Work.{Result, gives, refused-work}
 use Rattle.taylor.specs.Expansion.{Expansion, Constant, Polynomial}
+
+-- the bytes of a text
+abbrev pub bytes : String.String → List ℕ
+bytes String.[] = []
+bytes (String._∷_ c s) = code c ∷ bytes s
 
 unfoldable pub empty : Pool
 empty = pool (replicate limit 0) (replicate limit 0) 0 limit
