@@ -1,1 +1,4 @@
+pub mod Lists
+pub mod Renaming
+pub mod Walks
 pub mod Examples
