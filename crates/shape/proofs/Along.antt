@@ -5,6 +5,7 @@ use mathlib.Core.Logic.{⊎-elim}
 use mathlib.Core.Bool.{Bool, true, false, cond}
 use mathlib.Core.List.{List, [], _∷_, map, reverse, map-map}
 use Prim.Native.Nat.{ℕ, zero, suc, _<_}
+use native.Mathlib.Nat.{not-suc-le-zero}
 use native.Mathlib.Omega.{arith}
 use lib.Dec.{eqb}
 use lib.ListN.{length, length-map}
@@ -17,9 +18,6 @@ use Rattle.shape.specs.Order.{inTurn, walk, num, entries, numbered, writ
 use Rattle.shape.proofs.Lists.{All, all-none, all-first, all-rest, same-tests, has-map, of-map, of-reverse, map-alike, map-reverse, true-or-false}
 use Rattle.shape.proofs.Renaming.{rename-rename, parts-rename, rename-alike}
 use Rattle.shape.proofs.Walks.{Falls, Closed, partsDone, walk-old, walk-new, adds}
-
-none-below-zero : {i : ℕ} → i < 0 → ⊥
-none-below-zero l = omega arith
 
 cond-alike : {s t : Bool} {a b c d : ℕ} → s ≡ t → a ≡ b → c ≡ d → cond s a c ≡ cond t b d
 cond-alike e f g = λ k. cond (e k) (f k) (g k)
@@ -69,8 +67,8 @@ module _ (f : ℕ → ℕ) (C : ℕ → Type 0) (one : (i j : ℕ) → C i → C
 
     module _ (falls-p : Falls p) (falls-q : Falls q) where
       pub walk-along : (k m : ℕ) (o : List ℕ) → All C o → (i : ℕ) → C i → i < k → f i < m → walk q m (map f o) (f i) ≡ map f (walk p k o i)
-      walk-along zero m o a i c l n = absurd (none-below-zero l)
-      walk-along (suc k) zero o a i c l n = absurd (none-below-zero n)
+      walk-along zero m o a i c l n = absurd (not-suc-le-zero l)
+      walk-along (suc k) zero o a i c l n = absurd (not-suc-le-zero n)
       walk-along (suc k) (suc m) o a i c l n =
           ⊎-elim
           (λ h. walk-old q m (map f o) (f i) (has-along o a i c ∙ h) ∙ sym (ap (map f) (walk-old p k o i h)))

@@ -5,6 +5,7 @@ use mathlib.Core.Logic.{_⊎_, inl, inr, ⊎-elim}
 use mathlib.Core.Bool.{Bool, true, false, false≢true}
 use mathlib.Core.List.{List, [], _∷_}
 use Prim.Native.Nat.{ℕ, zero, suc, _<_, _≤_}
+use native.Mathlib.Nat.{not-suc-le-zero, lt-irrefl}
 use native.Mathlib.Omega.{arith}
 use Rattle.pool.specs.Nodes.{parts}
 use Rattle.pool.specs.declared.node.Node.{Node}
@@ -56,10 +57,7 @@ grows p (suc k) o i j h =
 
 -- a node below the bound is done
 pub does : (p : ℕ → Node) (k : ℕ) (o : List ℕ) (i : ℕ) → i < k → has (walk p k o i) i ≡ true
-does p zero o i l = absurd (none i l)
-  where
-    none : (i : ℕ) → i < 0 → ⊥
-    none i l = omega arith
+does p zero o i l = absurd (not-suc-le-zero l)
 does p (suc k) o i l = by-cases p k o i (λ done. has done i ≡ true) (λ old. old) (λ new. here i (partsDone p k o i))
 
 pub turn-does : (p : ℕ → Node) (k : ℕ) (o is : List ℕ) → All (λ i. i < k) is → All (λ i. has (inTurn (walk p k) o is) i ≡ true) is
@@ -99,11 +97,8 @@ turn-built p falls k step o (i ∷ is) l b =
 -- the parts of a node do not come to the node itself
 parts-miss : (p : ℕ → Node) → Falls p → (k : ℕ) (o : List ℕ) (i : ℕ) → has o i ≡ false → has (partsDone p k o i) i ≡ false
 parts-miss p falls k o i n =
-    not-true-false _ (λ h. ⊎-elim (λ m. not-both m n) (λ l. self i l) (turn-adds (walk p k) (λ j. j < i) (adds p (λ j. j < i) lower k) o (parts (p i)) (falls i) i h))
+    not-true-false _ (λ h. ⊎-elim (λ m. not-both m n) (λ l. lt-irrefl i l) (turn-adds (walk p k) (λ j. j < i) (adds p (λ j. j < i) lower k) o (parts (p i)) (falls i) i h))
   where
-    self : (i : ℕ) → i < i → ⊥
-    self i l = omega arith
-
     lower : Closed p (λ j. j < i)
     lower x l j m = let f : j < x = falls x j m in omega arith
 
