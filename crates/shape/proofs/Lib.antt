@@ -4,4 +4,6 @@ pub mod Walks
 pub mod Along
 pub mod Numbers
 pub mod Pigeonhole
+pub mod Shapes
+pub mod Entries
 pub mod Examples

@@ -4,9 +4,9 @@ use mathlib.Core.Path.{_≡_, refl, sym, ap, ap₂, _∙_, subst, subst⁻¹}
 use mathlib.Core.Logic.{_⊎_, inl, inr, ⊎-elim}
 use mathlib.Core.Bool.{Bool, true, false, _||_, true≢false, false≢true}
 use mathlib.Core.List.{List, [], _∷_, _++_, map, reverse, reverse-cons}
-use Prim.Native.Nat.{ℕ}
-use lib.Dec.{eqb}
-use borrow.Author.Tests.{eq-eqb, eqb-true, eqb-false}
+use Prim.Native.Nat.{ℕ, _<_, _≤_}
+use lib.Dec.{eqb, ltb}
+use borrow.Author.Tests.{eq-eqb, eqb-true, eqb-false, ltb-true, ltb-false}
 use Rattle.shape.specs.Shape.{has}
 
 -- tests
@@ -43,6 +43,13 @@ same-or-not i j = go (eqb i j) refl
     go : (t : Bool) → eqb i j ≡ t → (i ≡ j) ⊎ (i ≡ j → ⊥)
     go true e = inl (eqb-true i j e)
     go false e = inr (eqb-false i j e)
+
+pub below-or-not : (m n : ℕ) → (m < n) ⊎ (n ≤ m)
+below-or-not m n = go (ltb m n) refl
+  where
+    go : (t : Bool) → ltb m n ≡ t → (m < n) ⊎ (n ≤ m)
+    go true e = inl (ltb-true m n e)
+    go false e = inr (ltb-false m n e)
 
 -- membership
 pub here : (i : ℕ) (xs : List ℕ) → has (i ∷ xs) i ≡ true
