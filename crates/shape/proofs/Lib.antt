@@ -6,4 +6,6 @@ pub mod Numbers
 pub mod Pigeonhole
 pub mod Shapes
 pub mod Entries
+pub mod Tests
+pub mod InOrder
 pub mod Examples
