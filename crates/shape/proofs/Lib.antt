@@ -8,4 +8,5 @@ pub mod Shapes
 pub mod Entries
 pub mod Tests
 pub mod InOrder
+pub mod TableOfKinds
 pub mod Examples
