@@ -11,4 +11,5 @@ pub mod InOrder
 pub mod TableOfKinds
 pub mod Bytes
 pub mod Files
+pub mod Pools
 pub mod Examples
