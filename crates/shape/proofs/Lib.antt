@@ -12,4 +12,5 @@ pub mod TableOfKinds
 pub mod Bytes
 pub mod Files
 pub mod Pools
+pub mod Appends
 pub mod Examples
