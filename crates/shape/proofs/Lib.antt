@@ -13,4 +13,5 @@ pub mod Bytes
 pub mod Files
 pub mod Pools
 pub mod Appends
+pub mod Reading
 pub mod Examples
