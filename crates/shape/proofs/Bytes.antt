@@ -57,3 +57,13 @@ bytes-of-number (suc k) bs b i l =
 
     high : (x y : ℕ) → x < 256 → (x + 256 * y) / 256 ≡ y
     high x y l = omega arith
+
+pub bytes-append : (xs ys : List ℕ) → AreBytes xs → AreBytes ys → AreBytes (xs ++ ys)
+bytes-append [] ys a b i = b i
+bytes-append (x ∷ xs) ys a b zero = a 0
+bytes-append (x ∷ xs) ys a b (suc i) = bytes-append xs ys (λ j. a (suc j)) b i
+
+pub bytes-are-bytes : (k x : ℕ) → AreBytes (bytes k x)
+bytes-are-bytes zero x i = omega arith
+bytes-are-bytes (suc k) x zero = omega arith
+bytes-are-bytes (suc k) x (suc i) = bytes-are-bytes k (x / 256) i

@@ -73,7 +73,7 @@ module _ (p : ℕ → Node) (falls : Falls p) (roots : List ℕ) (below : Below 
   numbered-fit n b = distinct-fit n (numbered p roots) numbered-distinct (numbered-below n b)
 
   -- the written entries as a table
-  entry-written : (m : ℕ) → m < length (numbered p roots) → tableOf (written p roots) m ≡ rename (num (numbered p roots)) (p (nodeNumbered (numbered p roots) m))
+  pub entry-written : (m : ℕ) → m < length (numbered p roots) → tableOf (written p roots) m ≡ rename (num (numbered p roots)) (p (nodeNumbered (numbered p roots) m))
   unfolding written
   entry-written m l = entry-numbered p (numbered p roots) m l
 

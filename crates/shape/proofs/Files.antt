@@ -18,8 +18,8 @@ use Rattle.shape.specs.File.{bytes, wordBytes, fileOf, numberAt, sizeOf,
 use Rattle.shape.proofs.Lists.{map-append, below-or-not}
 use Rattle.shape.proofs.Numbers.{firsts, down, length-down}
 use Rattle.shape.proofs.Entries.{tableOf}
-use Rattle.shape.proofs.TableOfKinds.{Valid, decoded, decode-own, word-fits}
-use Rattle.shape.proofs.Bytes.{AreBytes, number-after, number-of-bytes, number-fits, bytes-of-number}
+use Rattle.shape.proofs.TableOfKinds.{Valid, decoded, decode-own, word-fits, kind-fits}
+use Rattle.shape.proofs.Bytes.{AreBytes, number-after, number-of-bytes, number-fits, bytes-of-number, bytes-append, bytes-are-bytes}
 
 -- "its length is .. 4 + 9 × n"
 length-words : (es : List Node) → length (wordBytes es) ≡ 8 * length es
@@ -33,6 +33,20 @@ length-file es =
     let words : length (wordBytes es) ≡ 8 * length es = length-words es in
     let both : length (map kindOf es ++ wordBytes es) ≡ length (map kindOf es) + length (wordBytes es) = length-append (map kindOf es) (wordBytes es) in
     omega arith
+
+kinds-are-bytes : (es : List Node) → AreBytes (map kindOf es)
+kinds-are-bytes [] i = omega arith
+kinds-are-bytes (e ∷ es) zero = kind-fits e
+kinds-are-bytes (e ∷ es) (suc i) = kinds-are-bytes es i
+
+words-are-bytes : (es : List Node) → AreBytes (wordBytes es)
+words-are-bytes [] i = omega arith
+words-are-bytes (e ∷ es) i = bytes-append (bytes 8 (wordOf e)) (wordBytes es) (bytes-are-bytes 8 (wordOf e)) (words-are-bytes es) i
+
+pub file-is-bytes : (es : List Node) → AreBytes (fileOf es)
+unfolding fileOf
+file-is-bytes es =
+    bytes-append (bytes 4 (length es)) (map kindOf es ++ wordBytes es) (bytes-are-bytes 4 (length es)) (bytes-append (map kindOf es) (wordBytes es) (kinds-are-bytes es) (words-are-bytes es))
 
 -- entries that the table of kinds has, few enough for 32 bits
 pub record Entries (es : List Node) : Type 0 where

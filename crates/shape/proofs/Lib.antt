@@ -14,4 +14,5 @@ pub mod Files
 pub mod Pools
 pub mod Appends
 pub mod Reading
+pub mod Writing
 pub mod Examples
