@@ -16,7 +16,8 @@ use Rattle.pool.specs.Nodes.{decode, kindOf, wordOf, parts, isNode, allBelow, m
 use Rattle.pool.specs.Pool.{limit, Pool, pool, nodeIn, nodeAt, Out, done, refused, hasRoom, append, choose, bind}
 use Rattle.pool.specs.declared.node.Node.{Node}
 use Rattle.pool.specs.declared.node.Node.the-variants.{Empty}
-use Rattle.shape.specs.File.{KeepsRules, Room, appendFirst}
+use Rattle.shape.specs.File.{appendFirst}
+use Rattle.shape.specs.Demand.{KeepsRules, Room}
 use Rattle.shape.proofs.Lists.{All, same-or-not, below-or-not, not-true-false}
 use Rattle.shape.proofs.Tests.{and-left, and-right, and-both, below-all}
 use Rattle.shape.proofs.TableOfKinds.{Valid, decode-own, word-fits, valid-is-node}

@@ -8,10 +8,7 @@ use native.Mathlib.Omega.{arith}
 use lib.ListN.{length, getD, take, drop}
 use lib.Seq.{drop-cons}
 use Rattle.shape.specs.File.{bytes, numberAt}
-
--- a list whose elements are bytes
-abbrev pub AreBytes : List ℕ → Type 0
-AreBytes bs = (i : ℕ) → getD bs i 0 < 256
+use Rattle.shape.specs.Demand.{AreBytes}
 
 pub length-bytes : (k x : ℕ) → length (bytes k x) ≡ k
 length-bytes zero x = refl

@@ -15,11 +15,12 @@ use Rattle.pool.specs.Nodes.{decode, kindOf, wordOf, isNode, pick}
 use Rattle.pool.specs.declared.node.Node.{Node}
 use Rattle.pool.specs.declared.node.Node.the-variants.{Empty}
 use Rattle.shape.specs.File.{bytes, wordBytes, fileOf, numberAt, sizeOf, entryIn, entryOf}
+use Rattle.shape.specs.Demand.{AreBytes}
 use Rattle.shape.proofs.Lists.{map-append, below-or-not}
 use Rattle.shape.proofs.Numbers.{firsts, down, length-down}
 use Rattle.shape.proofs.Entries.{tableOf}
 use Rattle.shape.proofs.TableOfKinds.{Valid, decoded, decode-own, word-fits, kind-fits}
-use Rattle.shape.proofs.Bytes.{AreBytes, number-after, number-of-bytes, number-fits, bytes-of-number, bytes-append, bytes-are-bytes}
+use Rattle.shape.proofs.Bytes.{number-after, number-of-bytes, number-fits, bytes-of-number, bytes-append, bytes-are-bytes}
 
 -- "its length is .. 4 + 9 × n"
 length-words : (es : List Node) → length (wordBytes es) ≡ 8 * length es

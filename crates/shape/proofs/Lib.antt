@@ -15,4 +15,5 @@ pub mod Pools
 pub mod Appends
 pub mod Reading
 pub mod Writing
+pub mod Demand3
 pub mod Examples

@@ -16,7 +16,8 @@ use Rattle.pool.specs.Nodes.{decode, kindOf, wordOf, parts, isNode, allBelow, m
 use Rattle.pool.specs.Pool.{limit, Pool, pool, nodeIn, nodeAt, Out, done, refused, hasRoom, append, pickTest, entryKeeps, each, isPool, choose, bind}
 use Rattle.pool.specs.declared.node.Node.{Node}
 use Rattle.pool.specs.declared.node.Node.the-variants.{Empty}
-use Rattle.shape.specs.File.{KeepsRules, emptyPool, Room, appendFirst}
+use Rattle.shape.specs.File.{appendFirst}
+use Rattle.shape.specs.Demand.{KeepsRules, emptyPool, Room}
 use Rattle.shape.proofs.Lists.{All, all-none, below-or-not, same-or-not}
 use Rattle.shape.proofs.Tests.{and-left, and-right, and-both, each-holds, each-of, all-below, below-all}
 use Rattle.shape.proofs.Walks.{Falls}

@@ -17,7 +17,8 @@ use Rattle.pool.specs.declared.node.Node.{Node}
 use Rattle.pool.specs.declared.node.Node.the-variants.{Empty}
 use Rattle.shape.specs.Shape.{has, rename, Reach, root, part, OneShape}
 use Rattle.shape.specs.Order.{num, numbered, written, writtenRoots}
-use Rattle.shape.specs.File.{KeepsRules, Room, appendFirst, appendShifted, passes, readFile, isSized, areNodes, areInOrder, isInOrder, sizeOf, entryIn, entryOf, fileOf, fileFrom, writtenFile}
+use Rattle.shape.specs.File.{appendFirst, appendShifted, passes, readFile, isSized, areNodes, areInOrder, isInOrder, sizeOf, entryIn, entryOf, fileOf, fileFrom, writtenFile}
+use Rattle.shape.specs.Demand.{KeepsRules, Room, AreBytes}
 use Rattle.shape.proofs.Lists.{All, all-none, all-map, below-or-not, not-true-false, true-or-false, map-same}
 use Rattle.shape.proofs.Tests.{and-left, and-right, and-both, each-holds, each-of, all-below, below-all}
 use Rattle.shape.proofs.Renaming.{parts-rename, rename-same}
@@ -27,7 +28,6 @@ use Rattle.shape.proofs.Shapes.{shape-of, shape-trans}
 use Rattle.shape.proofs.Entries.{Below, only, tableOf}
 use Rattle.shape.proofs.InOrder.{in-order-written, order-passes}
 use Rattle.shape.proofs.TableOfKinds.{Valid, valid-rename, valid-is-node}
-use Rattle.shape.proofs.Bytes.{AreBytes}
 use Rattle.shape.proofs.Files.{file-of-read, entry-valid}
 use Rattle.shape.proofs.Appends.{lastAfter, Appended, Appendable, Holds, append-holds, append-refused, room-or-none}
 

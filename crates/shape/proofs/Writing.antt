@@ -11,7 +11,8 @@ use Rattle.pool.specs.Pool.{limit, Pool, nodeAt, each}
 use Rattle.pool.specs.declared.node.Node.{Node}
 use Rattle.shape.specs.Shape.{has, rename}
 use Rattle.shape.specs.Order.{num, numbered, written, writtenRoots}
-use Rattle.shape.specs.File.{KeepsRules, fileOf, fileFrom, writtenFile, sizeOf, entryOf, areNodes, areInOrder, isInOrder}
+use Rattle.shape.specs.File.{fileOf, fileFrom, writtenFile, sizeOf, entryOf, areNodes, areInOrder, isInOrder}
+use Rattle.shape.specs.Demand.{KeepsRules}
 use Rattle.shape.proofs.Lists.{All, all-first}
 use Rattle.shape.proofs.Tests.{and-both, each-of, below-all}
 use Rattle.shape.proofs.Numbers.{nodeNumbered, num-of-node, num-below, built-closed, down}

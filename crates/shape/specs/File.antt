@@ -1,14 +1,13 @@
 -- nodes.bin: its bytes, written from a root and read back into a pool.
 -- Assumes nothing.
-use mathlib.Core.Path.{_≡_}
 use mathlib.Core.Bool.{Bool, true, false, _&&_}
 use mathlib.Core.List.{List, [], _∷_, _++_, map}
-use Prim.Native.Nat.{ℕ, zero, suc, _+_, _-_, _*_, _/_, _%_, _^_, _<_, _≤_}
+use Prim.Native.Nat.{ℕ, zero, suc, _+_, _-_, _*_, _/_, _%_}
 use lib.Dec.{leb, ltb, eqb}
-use lib.ListN.{length, getD, replicate}
+use lib.ListN.{length, getD}
 use Rattle.refusals.specs.Refusals.{wrongLength, wrongEntry, wrongSequence}
 use Rattle.pool.specs.Nodes.{decode, kindOf, wordOf, mayStandAt, pick}
-use Rattle.pool.specs.Pool.{limit, Pool, pool, isPool, nodeIn, Run, done, refused, yield, refuse, append, each, _>>=_}
+use Rattle.pool.specs.Pool.{limit, Pool, nodeIn, Run, done, refused, yield, refuse, append, each, _>>=_}
 use Rattle.pool.specs.declared.node.Node.{Node}
 use Rattle.pool.specs.declared.node.Node.the-variants.{Empty}
 use Rattle.shape.specs.Shape.{rename, has}
@@ -88,16 +87,3 @@ readFile bs = do
   nodes ← passes (areNodes bs) wrongEntry
   ordered ← passes (isInOrder bs) wrongSequence
   appendShifted (sizeOf bs) (entryOf bs)
-
--- "each pool keeps the rules of document 01": those that 1 tests, and that a word is "unsigned, 64 bits"
-pub record KeepsRules (P : Pool) : Type 0 where
-  pub rules : isPool (P .kinds) (P .words) (P .count) ≡ true
-  pub words-fit : (i : ℕ) → getD (P .words) i 0 < 2 ^ 64
-
--- "An empty pool has count 0."
-abbrev pub emptyPool : Pool
-emptyPool = pool (replicate limit 0) (replicate limit 0) 0 limit
-
--- n more nodes fit
-abbrev pub Room : ℕ → Pool → Type 0
-Room n P = (P .count + n ≤ P .end) × (P .count + n ≤ limit)

@@ -1,3 +1,4 @@
 pub mod Shape
 pub mod Order
 pub mod File
+pub mod Demand

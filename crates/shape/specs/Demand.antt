@@ -1,0 +1,39 @@
+-- What demand 3 speaks of beside shapes and files: pools that keep the rules, the empty pool, room, the node files, and what is accepted.
+-- Assumes nothing.
+use mathlib.Core.Path.{_≡_}
+use mathlib.Core.Bool.{true}
+use mathlib.Core.List.{List, [], _∷_}
+use Prim.Native.Nat.{ℕ, _+_, _^_, _<_, _≤_}
+use lib.ListN.{getD, replicate}
+use Rattle.pool.specs.Pool.{limit, Pool, pool, isPool, nodeAt, done}
+use Rattle.shape.specs.Shape.{OneShape}
+use Rattle.shape.specs.File.{fileFrom, readFile}
+
+-- "each pool keeps the rules of document 01": those that 1 tests, and that a word is "unsigned, 64 bits"
+pub record KeepsRules (P : Pool) : Type 0 where
+  pub rules : isPool (P .kinds) (P .words) (P .count) ≡ true
+  pub words-fit : (i : ℕ) → getD (P .words) i 0 < 2 ^ 64
+
+-- "An empty pool has count 0."
+abbrev pub emptyPool : Pool
+emptyPool = pool (replicate limit 0) (replicate limit 0) 0 limit
+
+-- there is room for n more nodes
+abbrev pub Room : ℕ → Pool → Type 0
+Room n P = (P .count + n ≤ P .end) × (P .count + n ≤ limit)
+
+-- the expressions of a root in one pool and a root in another, or in the same
+abbrev pub SameShape : Pool → ℕ → Pool → ℕ → Type 0
+SameShape P r Q s = OneShape (nodeAt P) (r ∷ []) (nodeAt Q) (s ∷ [])
+
+-- "the node file of some root in some such pool"
+abbrev pub IsNodeFile : List ℕ → Type 0
+IsNodeFile bs = (P : Pool) × KeepsRules P × (r : ℕ) × (r < P .count) × (fileFrom P r ≡ bs)
+
+-- bytes, whatever they are
+abbrev pub AreBytes : List ℕ → Type 0
+AreBytes bs = (i : ℕ) → getD bs i 0 < 256
+
+-- "reading .. accepts them"
+abbrev pub Accepts : List ℕ → Pool → Type 0
+Accepts bs P = (r : ℕ) × (Q : Pool) × (readFile bs P ≡ done r Q)
