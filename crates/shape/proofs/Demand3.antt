@@ -19,6 +19,7 @@ use Rattle.shape.proofs.Entries.{Below, only, one-shape-is-same-entries
 use Rattle.shape.proofs.Files.{same-file-same-entries, file-is-bytes, length-file}
 use Rattle.shape.proofs.Pools.{rules-of, falls-in, empty-keeps-rules}
 use Rattle.shape.proofs.Reading.{Passes, ReadInto, accepted-passes, sized-facts, entries-fall, last-below, passes-written, read-into, read-full, accepted-room, new-shape, old-shape}
+use Rattle.shape.proofs.ReadBack.{root-there, written-again, passes-is-node-file, read-shape}
 use Rattle.shape.proofs.Writing.{below-limit, entries-fit, written-entries, size-written, entries-written, root-written, written-passes}
 
 -- (a) "the written node files are equal byte for byte exactly when the expressions have one shape"
@@ -46,3 +47,76 @@ same-file-for-one-shape P Q k m r s l n =
 pub length-of-a-file : (P : Pool) → KeepsRules P → (r : ℕ) → r < P .count → length (fileFrom P r) ≡ 4 + 9 * sizeOf (fileFrom P r)
 unfolding writtenFile
 length-of-a-file P k r l = length-file (written (nodeAt P) (r ∷ [])) ∙ ap (λ n. 4 + 9 * n) (sym (size-written P k r l))
+
+pub size-of-a-file : (P : Pool) → KeepsRules P → (r : ℕ) → r < P .count → (sizeOf (fileFrom P r) ≡ length (numbered (nodeAt P) (r ∷ []))) × (sizeOf (fileFrom P r) ≤ P .count)
+size-of-a-file P k r l =
+    (size-written P k r l ∙ length-written (nodeAt P) (falls-in P k) (r ∷ []) (below-limit P k (r ∷ []) (only r l)),
+    subst⁻¹ (λ n. n ≤ P .count) (size-written P k r l) (entries-fit P k (r ∷ []) (only r l)))
+
+pub numbered-are-the-reachable : (P : Pool) → KeepsRules P → (r : ℕ) → r < P .count
+    → Distinct (numbered (nodeAt P) (r ∷ [])) × ((i : ℕ) → (has (numbered (nodeAt P) (r ∷ [])) i ≡ true) ↔ Reach (nodeAt P) (r ∷ []) i)
+numbered-are-the-reachable P k r l =
+    let below = below-limit P k (r ∷ []) (only r l) in
+    (numbered-distinct (nodeAt P) (falls-in P k) (r ∷ []) below,
+    λ i. (numbered-reached (nodeAt P) (falls-in P k) (r ∷ []) below i, λ reached. reached-numbered (nodeAt P) (falls-in P k) (r ∷ []) below reached))
+
+-- (b) "Whatever bytes are handed in, reading into an empty pool that keeps these rules accepts them exactly when they are the node file of some root in some such pool."
+-- into any pool that keeps the rules: exactly the node files that it has room for
+pub accepts-node-files-with-room : (bs : List ℕ) → AreBytes bs → (P : Pool) → KeepsRules P → Accepts bs P ↔ (IsNodeFile bs × Room (sizeOf bs) P)
+accepts-node-files-with-room bs are P k =
+    (λ accepted.
+      let t = accepted-passes bs P (accepted .0) (accepted .1) (accepted .2) in
+      (passes-is-node-file bs are t, accepted-room bs t P (accepted .0) (accepted .1) (accepted .2)),
+    λ file.
+      let (Q, m, r, l, e) = file .0 in
+      let (R, h) = read-into bs (subst Passes e (written-passes Q m r l)) are P k (file .1) in
+      (P .count + (sizeOf bs - 1), R, h .answers))
+
+pub accepts-node-files : (bs : List ℕ) → AreBytes bs → Accepts bs emptyPool ↔ IsNodeFile bs
+accepts-node-files bs are =
+    let both = accepts-node-files-with-room bs are emptyPool empty-keeps-rules in
+    (λ accepted. both .0 accepted .0, λ file. both .1 (file, room file))
+  where
+    room : IsNodeFile bs → Room (sizeOf bs) emptyPool
+    room file =
+        let (Q, m, r, l, e) = file in
+        let few : sizeOf bs ≤ limit = sized-facts bs (subst Passes e (written-passes Q m r l) .sized) .few in
+        (omega arith, omega arith)
+
+-- (c) reading the file of a root in P into Q
+pub record ReadsBack (P : Pool) (r : ℕ) (Q : Pool) : Type 0 where
+  pub after : Pool
+  pub root : ℕ
+  pub answers : readFile (fileFrom P r) Q ≡ done root after
+  pub keeps-rules : KeepsRules after
+  pub grows : after .count ≡ Q .count + sizeOf (fileFrom P r)
+  pub root-there : root < after .count
+  -- "A node file reads back to the expression it came from"
+  pub same-shape : SameShape P r after root
+  -- every old expression keeps its shape
+  pub old-shapes : (i : ℕ) → i < Q .count → SameShape Q i after i
+  -- "and written again gives the same bytes"
+  pub same-bytes : fileFrom after root ≡ fileFrom P r
+
+pub reads-back : (P Q : Pool) → KeepsRules P → KeepsRules Q → (r : ℕ) → r < P .count → Room (sizeOf (fileFrom P r)) Q → ReadsBack P r Q
+unfolding writtenFile
+reads-back P Q k m r l room =
+    let bs = fileFrom P r in
+    let t = written-passes P k r l in
+    let are : AreBytes bs = file-is-bytes (written (nodeAt P) (r ∷ [])) in
+    let (R, h) = read-into bs t are Q m room in
+    record {
+      after = R;
+      root = Q .count + (sizeOf bs - 1);
+      answers = h .answers;
+      keeps-rules = h .holds .kept;
+      grows = h .counted;
+      root-there = root-there bs t Q R h;
+      same-shape = read-shape P k r l t Q R h;
+      old-shapes = λ i n. old-shape bs t Q R (h .holds) (falls-in Q m) (i ∷ []) (only i n);
+      same-bytes = written-again bs t Q R h are
+    }
+
+-- without room, 18
+pub reads-into-no-full-pool : (P Q : Pool) → KeepsRules P → (r : ℕ) → r < P .count → (Room (sizeOf (fileFrom P r)) Q → ⊥) → readFile (fileFrom P r) Q ≡ refused poolFull
+reads-into-no-full-pool P Q k r l none = read-full (fileFrom P r) (written-passes P k r l) Q none

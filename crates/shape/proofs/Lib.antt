@@ -15,5 +15,6 @@ pub mod Pools
 pub mod Appends
 pub mod Reading
 pub mod Writing
+pub mod ReadBack
 pub mod Demand3
 pub mod Examples
