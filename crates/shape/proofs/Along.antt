@@ -2,22 +2,22 @@
 -- The walks have a bound each, so nothing else has to be said about bounds. Assumes nothing.
 use mathlib.Core.Path.{_≡_, refl, sym, ap, _∙_, subst}
 use mathlib.Core.Logic.{⊎-elim}
-use mathlib.Core.Bool.{Bool, true, false, cond}
+use mathlib.Core.Bool.{Bool, true, cond}
 use mathlib.Core.List.{List, [], _∷_, map, reverse, map-map}
 use Prim.Native.Nat.{ℕ, zero, suc, _<_}
 use native.Mathlib.Nat.{not-suc-le-zero}
 use native.Mathlib.Omega.{arith}
 use lib.Dec.{eqb}
-use lib.ListN.{length, length-map}
+use lib.ListN.{length-map}
 use borrow.Author.Tests.{eq-eqb, eqb-true}
 use Rattle.pool.specs.Nodes.{parts}
-use Rattle.pool.specs.Pool.{limit}
 use Rattle.pool.specs.declared.node.Node.{Node}
 use Rattle.shape.specs.Shape.{has, rename}
-use Rattle.shape.specs.Order.{inTurn, walk, num, entries, numbered, written, writtenRoots}
-use Rattle.shape.proofs.Lists.{All, all-none, all-first, all-rest, same-tests, has-map, of-map, of-reverse, map-alike, map-reverse, true-or-false}
+use Rattle.shape.specs.Order.{inTurn, walk, num, entries}
+use Rattle.shape.specs.Walked.{Falls}
+use Rattle.shape.proofs.Lists.{All, all-first, all-rest, same-tests, has-map, of-map, of-reverse, map-alike, map-reverse, true-or-false}
 use Rattle.shape.proofs.Renaming.{rename-rename, parts-rename, rename-alike}
-use Rattle.shape.proofs.Walks.{Falls, Closed, partsDone, walk-old, walk-new, adds}
+use Rattle.shape.proofs.Walks.{Closed, walk-old, walk-new, adds}
 
 cond-alike : {s t : Bool} {a b c d : ℕ} → s ≡ t → a ≡ b → c ≡ d → cond s a c ≡ cond t b d
 cond-alike e f g = λ k. cond (e k) (f k) (g k)
@@ -73,10 +73,10 @@ module _ (f : ℕ → ℕ) (C : ℕ → Type 0) (one : (i j : ℕ) → C i → C
           ⊎-elim
           (λ h. walk-old q m (map f o) (f i) (has-along o a i c ∙ h) ∙ sym (ap (map f) (walk-old p k o i h)))
           (λ h.
-            walk-new q m (map f o) (f i) (has-along o a i c ∙ h)
-            ∙ ap (λ is. f i ∷ inTurn (walk q m) (map f o) is) (parts-along i c)
-            ∙ ap (λ done. f i ∷ done) (turn-along k m (walk-along k m) o (parts (p i)) a (closed i c) below-p below-q)
-            ∙ sym (ap (map f) (walk-new p k o i h)))
+          walk-new q m (map f o) (f i) (has-along o a i c ∙ h)
+          ∙ ap (λ is. f i ∷ inTurn (walk q m) (map f o) is) (parts-along i c)
+          ∙ ap (λ done. f i ∷ done) (turn-along k m (walk-along k m) o (parts (p i)) a (closed i c) below-p below-q)
+          ∙ sym (ap (map f) (walk-new p k o i h)))
           (true-or-false (has o i))
         where
           below-p : All (λ j. j < k) (parts (p i))

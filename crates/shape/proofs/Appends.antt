@@ -1,19 +1,18 @@
 -- Appending: a node of the table whose parts are there keeps the rules of the pool, stands at the count, and leaves the old nodes; so do n of them one after the other.
 -- Assumes nothing.
-use mathlib.Core.Path.{_≡_, refl, sym, ap, ap₂, _∙_, subst, subst⁻¹}
+use mathlib.Core.Path.{_≡_, refl, sym, ap, ap₂, _∙_, subst⁻¹}
 use mathlib.Core.Logic.{_⊎_, inl, inr, ⊎-elim}
-use mathlib.Core.Bool.{Bool, true, false, _&&_}
-use mathlib.Core.List.{List, [], _∷_}
+use mathlib.Core.Bool.{true, false}
 use Prim.Native.Nat.{ℕ, zero, suc, _+_, _^_, _<_, _≤_}
 use native.Mathlib.Nat.{not-suc-le-zero}
 use native.Mathlib.Omega.{arith}
-use lib.Dec.{leb, ltb, eqb}
-use lib.ListN.{length, getD, set, length-set}
+use lib.Dec.{ltb}
+use lib.ListN.{getD, set, length-set}
 use lib.Seq.{getD-set-same, getD-set-other}
 use borrow.Author.Tests.{lt-ltb, ltb-true}
 use Rattle.refusals.specs.Refusals.{poolFull}
 use Rattle.pool.specs.Nodes.{decode, kindOf, wordOf, parts, isNode, allBelow, mayStandAt, pick}
-use Rattle.pool.specs.Pool.{limit, Pool, pool, nodeIn, nodeAt, Out, done, refused, hasRoom, append, choose, bind}
+use Rattle.pool.specs.Pool.{limit, Pool, pool, nodeIn, nodeAt, done, refused, hasRoom, append, bind}
 use Rattle.pool.specs.declared.node.Node.{Node}
 use Rattle.pool.specs.declared.node.Node.the-variants.{Empty}
 use Rattle.shape.specs.File.{appendFirst}
@@ -85,13 +84,13 @@ module _ (e : Node) (P : Pool) (k : KeepsRules P) (v : Valid e) (lower : All (λ
               (λ c. subst⁻¹ (λ j. mayStandAt j (decode (getD (grown e P .kinds) j 0) (getD (grown e P .words) j 0)) ≡ true) c (ap (mayStandAt (P .count)) decoded-new ∙ may-stand))
               (λ n. ap (mayStandAt i) (decoded-old i n) ∙ old .stands i (omega arith))
               (same-or-not i (P .count));
-          free = λ i l m. (kind-old i (past i (P .count) l) ∙ old .free i (omega arith) m .0, word-old i (past i (P .count) l) ∙ old .free i (omega arith) m .1)
+          free = λ i l m. (kind-old i (past i (P .count) l) ∙ old .free i (omega arith) m .0, word-old i (past i (P .count) l) ∙ old .free i (omega arith) m .1);
         });
         words-fit = λ i.
             ⊎-elim
             (λ c. subst⁻¹ (λ j. getD (grown e P .words) j 0 < 2 ^ 64) c (subst⁻¹ (λ w. w < 2 ^ 64) word-new (word-fits e v)))
             (λ n. subst⁻¹ (λ w. w < 2 ^ 64) (word-old i n) (k .words-fit i))
-            (same-or-not i (P .count))
+            (same-or-not i (P .count));
       }
     where
       past : (i c : ℕ) → c + 1 ≤ i → i ≡ c → ⊥
@@ -118,7 +117,7 @@ next-answers n q P Q room a =
     record {
       answers = ap (λ o. bind o (λ before. append (q n))) (a .answers) ∙ append-done (q n) Q (omega arith) (omega arith) ∙ ap (λ i. done i (grown (q n) Q)) counted;
       counted = omega arith;
-      ended = ended
+      ended = ended;
     }
 
 room-before : (n : ℕ) (P : Pool) → Room (suc n) P → Room n P
@@ -183,7 +182,7 @@ next-holds n q P Q room ok a h =
           ⊎-elim
           (λ e. ap (nodeAt (grown (q n) Q)) (ap (λ j. P .count + j) e ∙ sym counted) ∙ grown-new (q n) Q (h .kept) valid lower fits ∙ sym (ap q e))
           (λ d. grown-old (q n) Q (h .kept) valid lower fits (P .count + i) (omega arith) ∙ h .news i (omega arith))
-          (same-or-not i n)
+          (same-or-not i n);
     }
   where
     counted : Q .count ≡ P .count + n

@@ -3,7 +3,7 @@
 use mathlib.Core.Path.{_≡_, refl, sym, ap, ap₂, _∙_, subst, subst⁻¹}
 use mathlib.Core.List.{List, [], _∷_, _++_}
 use Prim.Native.Nat.{ℕ, zero, suc, _+_, _*_, _/_, _%_, _^_, _<_, _≤_}
-use native.Mathlib.Nat.{pow-suc, suc-add, zero-add, add-suc}
+use native.Mathlib.Nat.{pow-suc, suc-add, zero-add}
 use native.Mathlib.Omega.{arith}
 use lib.ListN.{length, getD, take, drop}
 use lib.Seq.{drop-cons}
@@ -28,7 +28,7 @@ number-of-bytes zero x bs l = omega arith
 number-of-bytes (suc k) x bs l =
     let fits : x < 256 ^ k * 256 = subst (λ y. x < y) (pow-suc 256 k) l in
     let rest : numberAt k (x % 256 ∷ (bytes k (x / 256) ++ bs)) 1 ≡ x / 256 =
-      number-after-one k (x % 256) (bytes k (x / 256) ++ bs) 0 ∙ number-of-bytes k (x / 256) bs (omega arith) in
+    number-after-one k (x % 256) (bytes k (x / 256) ++ bs) 0 ∙ number-of-bytes k (x / 256) bs (omega arith) in
     ap (λ y. x % 256 + 256 * y) rest ∙ joined x
   where
     joined : (x : ℕ) → x % 256 + 256 * (x / 256) ≡ x

@@ -1,9 +1,9 @@
 -- Demand 3, and of demand 2 that "a node file reads back to the expression it came from, and written again gives the same bytes". Its words are defined in specs/; the laws that carry it stand in the files named after their subject.
 -- Assumes nothing.
-use mathlib.Core.Path.{_≡_, refl, sym, ap, ap₂, _∙_, subst, subst⁻¹}
+use mathlib.Core.Path.{_≡_, refl, sym, ap, _∙_, subst, subst⁻¹}
 use mathlib.Core.Logic.{_↔_}
 use mathlib.Core.Bool.{true}
-use mathlib.Core.List.{List, [], _∷_, map}
+use mathlib.Core.List.{List, [], _∷_}
 use Prim.Native.Nat.{ℕ, _+_, _-_, _*_, _<_, _≤_}
 use native.Mathlib.Omega.{arith}
 use lib.ListN.{length}
@@ -11,16 +11,15 @@ use Rattle.refusals.specs.Refusals.{poolFull}
 use Rattle.pool.specs.Pool.{limit, Pool, nodeAt, done, refused}
 use Rattle.shape.specs.Shape.{has, Reach, OneShape}
 use Rattle.shape.specs.Order.{numbered, written, writtenRoots}
-use Rattle.shape.specs.File.{fileOf, fileFrom, writtenFile, readFile, sizeOf, entryOf}
+use Rattle.shape.specs.File.{fileOf, fileFrom, writtenFile, readFile, sizeOf}
 use Rattle.shape.specs.Demand.{KeepsRules, emptyPool, Room, SameShape, IsNodeFile, AreBytes, Accepts}
 use Rattle.shape.proofs.Numbers.{Distinct}
-use Rattle.shape.proofs.Shapes.{shape-trans}
-use Rattle.shape.proofs.Entries.{Below, only, one-shape-is-same-entries, one-shape-is-same-entries-of-one, written-shape, same-written, length-written, numbered-distinct, numbered-reached, reached-numbered}
+use Rattle.shape.proofs.Entries.{Below, only, one-shape-is-same-entries, one-shape-is-same-entries-of-one, length-written, numbered-distinct, numbered-reached, reached-numbered}
 use Rattle.shape.proofs.Files.{same-file-same-entries, file-is-bytes, length-file}
 use Rattle.shape.proofs.Pools.{rules-of, falls-in, empty-keeps-rules}
-use Rattle.shape.proofs.Reading.{Passes, ReadInto, accepted-passes, sized-facts, entries-fall, last-below, passes-written, read-into, read-full, accepted-room, new-shape, old-shape}
+use Rattle.shape.proofs.Reading.{Passes, accepted-passes, sized-facts, read-into, read-full, accepted-room, old-shape}
 use Rattle.shape.proofs.ReadBack.{root-there, written-again, passes-is-node-file, read-shape}
-use Rattle.shape.proofs.Writing.{below-limit, entries-fit, written-entries, size-written, entries-written, root-written, written-passes}
+use Rattle.shape.proofs.Writing.{below-limit, entries-fit, written-entries, size-written, written-passes}
 
 -- (a) "the written node files are equal byte for byte exactly when the expressions have one shape"
 -- of lists of roots, "paired in order, by one pairing of all nodes they reach": the bytes of the entries, and the roots' numbers
@@ -28,17 +27,19 @@ pub same-bytes-for-one-shape : (P Q : Pool) → KeepsRules P → KeepsRules Q �
     → ((fileOf (written (nodeAt P) roots) ≡ fileOf (written (nodeAt Q) others)) × (writtenRoots (nodeAt P) roots ≡ writtenRoots (nodeAt Q) others))
     ↔ OneShape (nodeAt P) roots (nodeAt Q) others
 same-bytes-for-one-shape P Q k m roots others b c =
-    let both = one-shape-is-same-entries (nodeAt P) (nodeAt Q) (falls-in P k) (falls-in Q m) roots others (below-limit P k roots b) (below-limit Q m others c) in
-    (λ same. both .0 (same-file-same-entries (written (nodeAt P) roots) (written (nodeAt Q) others) (written-entries P k roots b) (written-entries Q m others c) (same .0), same .1),
-    λ s. (ap fileOf (both .1 s .0), both .1 s .1))
+    let both = one-shape-is-same-entries (nodeAt P) (nodeAt Q) (falls-in P k) (falls-in Q m) roots others (below-limit P k roots b) (below-limit Q m others c) in (
+      λ same. both .0 (same-file-same-entries (written (nodeAt P) roots) (written (nodeAt Q) others) (written-entries P k roots b) (written-entries Q m others c) (same .0), same .1),
+      λ s. (ap fileOf (both .1 s .0), both .1 s .1),
+    )
 
 -- of one root each
 pub same-file-for-one-shape : (P Q : Pool) → KeepsRules P → KeepsRules Q → (r s : ℕ) → r < P .count → s < Q .count → (fileFrom P r ≡ fileFrom Q s) ↔ SameShape P r Q s
 unfolding writtenFile
 same-file-for-one-shape P Q k m r s l n =
-    let both = one-shape-is-same-entries-of-one (nodeAt P) (nodeAt Q) (falls-in P k) (falls-in Q m) r s (in-limit P k r l) (in-limit Q m s n) in
-    (λ e. both .0 (same-file-same-entries (written (nodeAt P) (r ∷ [])) (written (nodeAt Q) (s ∷ [])) (written-entries P k (r ∷ []) (only r l)) (written-entries Q m (s ∷ []) (only s n)) e),
-    λ shape. ap fileOf (both .1 shape))
+    let both = one-shape-is-same-entries-of-one (nodeAt P) (nodeAt Q) (falls-in P k) (falls-in Q m) r s (in-limit P k r l) (in-limit Q m s n) in (
+      λ e. both .0 (same-file-same-entries (written (nodeAt P) (r ∷ [])) (written (nodeAt Q) (s ∷ [])) (written-entries P k (r ∷ []) (only r l)) (written-entries Q m (s ∷ []) (only s n)) e),
+      λ shape. ap fileOf (both .1 shape),
+    )
   where
     in-limit : (P : Pool) → KeepsRules P → (r : ℕ) → r < P .count → r < limit
     in-limit P k r l = let m : P .count ≤ limit = rules-of P k .count-fits in omega arith
@@ -49,39 +50,47 @@ unfolding writtenFile
 length-of-a-file P k r l = length-file (written (nodeAt P) (r ∷ [])) ∙ ap (λ n. 4 + 9 * n) (sym (size-written P k r l))
 
 pub size-of-a-file : (P : Pool) → KeepsRules P → (r : ℕ) → r < P .count → (sizeOf (fileFrom P r) ≡ length (numbered (nodeAt P) (r ∷ []))) × (sizeOf (fileFrom P r) ≤ P .count)
-size-of-a-file P k r l =
-    (size-written P k r l ∙ length-written (nodeAt P) (falls-in P k) (r ∷ []) (below-limit P k (r ∷ []) (only r l)),
-    subst⁻¹ (λ n. n ≤ P .count) (size-written P k r l) (entries-fit P k (r ∷ []) (only r l)))
+size-of-a-file P k r l = (
+  size-written P k r l ∙ length-written (nodeAt P) (falls-in P k) (r ∷ []) (below-limit P k (r ∷ []) (only r l)),
+  subst⁻¹ (λ n. n ≤ P .count) (size-written P k r l) (entries-fit P k (r ∷ []) (only r l)),
+)
 
 pub numbered-are-the-reachable : (P : Pool) → KeepsRules P → (r : ℕ) → r < P .count
     → Distinct (numbered (nodeAt P) (r ∷ [])) × ((i : ℕ) → (has (numbered (nodeAt P) (r ∷ [])) i ≡ true) ↔ Reach (nodeAt P) (r ∷ []) i)
 numbered-are-the-reachable P k r l =
-    let below = below-limit P k (r ∷ []) (only r l) in
-    (numbered-distinct (nodeAt P) (falls-in P k) (r ∷ []) below,
-    λ i. (numbered-reached (nodeAt P) (falls-in P k) (r ∷ []) below i, λ reached. reached-numbered (nodeAt P) (falls-in P k) (r ∷ []) below reached))
+    let below = below-limit P k (r ∷ []) (only r l) in (
+      numbered-distinct (nodeAt P) (falls-in P k) (r ∷ []) below,
+      λ i. (numbered-reached (nodeAt P) (falls-in P k) (r ∷ []) below i, λ reached. reached-numbered (nodeAt P) (falls-in P k) (r ∷ []) below reached),
+    )
 
 -- (b) "Whatever bytes are handed in, reading into an empty pool that keeps these rules accepts them exactly when they are the node file of some root in some such pool."
 -- into any pool that keeps the rules: exactly the node files that it has room for
 pub accepts-node-files-with-room : (bs : List ℕ) → AreBytes bs → (P : Pool) → KeepsRules P → Accepts bs P ↔ (IsNodeFile bs × Room (sizeOf bs) P)
-accepts-node-files-with-room bs are P k =
-    (λ accepted.
+accepts-node-files-with-room bs are P k = (
+  λ accepted.
       let t = accepted-passes bs P (accepted .0) (accepted .1) (accepted .2) in
       (passes-is-node-file bs are t, accepted-room bs t P (accepted .0) (accepted .1) (accepted .2)),
-    λ file.
+  λ file.
       let (Q, m, r, l, e) = file .0 in
       let (R, h) = read-into bs (subst Passes e (written-passes Q m r l)) are P k (file .1) in
-      (P .count + (sizeOf bs - 1), R, h .answers))
+      (P .count + (sizeOf bs - 1), R, h .answers),
+)
 
-pub accepts-node-files : (bs : List ℕ) → AreBytes bs → Accepts bs emptyPool ↔ IsNodeFile bs
-accepts-node-files bs are =
-    let both = accepts-node-files-with-room bs are emptyPool empty-keeps-rules in
+-- into an empty one: all of them
+pub accepts-node-files : (bs : List ℕ) → AreBytes bs → (P : Pool) → KeepsRules P → P .count ≡ 0 → P .end ≡ limit → Accepts bs P ↔ IsNodeFile bs
+accepts-node-files bs are P k none whole =
+    let both = accepts-node-files-with-room bs are P k in
     (λ accepted. both .0 accepted .0, λ file. both .1 (file, room file))
   where
-    room : IsNodeFile bs → Room (sizeOf bs) emptyPool
+    room : IsNodeFile bs → Room (sizeOf bs) P
     room file =
         let (Q, m, r, l, e) = file in
         let few : sizeOf bs ≤ limit = sized-facts bs (subst Passes e (written-passes Q m r l) .sized) .few in
-        (omega arith, omega arith)
+        (omega (arith, none, whole), omega (arith, none, whole))
+
+-- "An empty pool has count 0": the one whose tables are all 0 keeps the rules
+pub accepts-node-files-into-zeros : (bs : List ℕ) → AreBytes bs → Accepts bs emptyPool ↔ IsNodeFile bs
+accepts-node-files-into-zeros bs are = accepts-node-files bs are emptyPool empty-keeps-rules refl refl
 
 -- (c) reading the file of a root in P into Q
 pub record ReadsBack (P : Pool) (r : ℕ) (Q : Pool) : Type 0 where
@@ -114,7 +123,7 @@ reads-back P Q k m r l room =
       root-there = root-there bs t Q R h;
       same-shape = read-shape P k r l t Q R h;
       old-shapes = λ i n. old-shape bs t Q R (h .holds) (falls-in Q m) (i ∷ []) (only i n);
-      same-bytes = written-again bs t Q R h are
+      same-bytes = written-again bs t Q R h are;
     }
 
 -- without room, 18

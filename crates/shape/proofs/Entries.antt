@@ -1,8 +1,8 @@
 -- Demand 3 on entries, for lists of roots in tables of nodes: the entries written, and the roots' numbers, are equal exactly when the expressions have one shape; and they are in the writing order.
 -- Assumes nothing.
 use mathlib.Core.Path.{_≡_, refl, sym, ap, _∙_, subst, subst⁻¹}
-use mathlib.Core.Logic.{_⊎_, inl, inr, ⊎-elim, _↔_}
-use mathlib.Core.Bool.{Bool, true, false, false≢true}
+use mathlib.Core.Logic.{⊎-elim, _↔_}
+use mathlib.Core.Bool.{true, false≢true}
 use mathlib.Core.List.{List, [], _∷_, map, map-map}
 use Prim.Native.Nat.{ℕ, zero, suc, _<_, _≤_, _-_}
 use native.Mathlib.Nat.{not-suc-le-zero}
@@ -14,11 +14,12 @@ use Rattle.pool.specs.declared.node.Node.{Node}
 use Rattle.pool.specs.declared.node.Node.the-variants.{Empty}
 use Rattle.shape.specs.Shape.{has, rename, Reach, root, part, OneShape}
 use Rattle.shape.specs.Order.{walk, num, entries, numbered, written, writtenRoots}
+use Rattle.shape.specs.Walked.{Falls, Built, nodeNumbered}
 use Rattle.shape.proofs.Lists.{All, all-none, all-with, has-map, all-map, map-alike, below-or-not}
-use Rattle.shape.proofs.Renaming.{parts-rename, rename-same}
-use Rattle.shape.proofs.Walks.{Falls, Built, adds, turn-adds, turn-does, built, turn-built, partsDone, walk-new}
+use Rattle.shape.proofs.Renaming.{parts-rename}
+use Rattle.shape.proofs.Walks.{adds, turn-adds, turn-does, built, turn-built, partsDone, walk-new}
 use Rattle.shape.proofs.Along.{num-along, entries-along, turn-along, walk-along}
-use Rattle.shape.proofs.Numbers.{Distinct, built-distinct, built-closed, num-last, num-below, num-part, nodeNumbered, node-of-num, num-of-node, length-entries, entry-numbered, entry-of, down, own-numbers}
+use Rattle.shape.proofs.Numbers.{Distinct, built-distinct, built-closed, num-last, num-below, num-part, node-of-num, num-of-node, length-entries, entry-numbered, entry-of, down, own-numbers}
 use Rattle.shape.proofs.Pigeonhole.{distinct-fit}
 use Rattle.shape.proofs.Shapes.{shape-of, shape-of-there, shape-sym, shape-trans}
 
@@ -84,10 +85,10 @@ module _ (p : ℕ → Node) (falls : Falls p) (roots : List ℕ) (below : Below 
   written-falls m =
       ⊎-elim
       (λ l.
-        let (has-it, its-num) = num-of-node o numbered-distinct m l in
-        subst⁻¹ Fall (entry-written m l)
-        (subst⁻¹ (λ is. All (λ j. j < m) is) (parts-rename (num o) (p (nodeNumbered o m)))
-        (all-map (λ j. j < m) (num o) (parts (p (nodeNumbered o m))) (λ j h. subst (λ k. num o j < k) its-num (num-part p o numbered-built (nodeNumbered o m) has-it j h)))))
+      let (has-it, its-num) = num-of-node o numbered-distinct m l in
+      subst⁻¹ Fall (entry-written m l)
+      (subst⁻¹ (λ is. All (λ j. j < m) is) (parts-rename (num o) (p (nodeNumbered o m)))
+      (all-map (λ j. j < m) (num o) (parts (p (nodeNumbered o m))) (λ j h. subst (λ k. num o j < k) its-num (num-part p o numbered-built (nodeNumbered o m) has-it j h)))))
       (λ l. subst⁻¹ Fall (no-entry-written m l) (all-none (λ j. j < m)))
       (below-or-not m (length o))
     where
@@ -129,9 +130,9 @@ module _ (p q : ℕ → Node) (falls-p : Falls p) (falls-q : Falls q) (roots oth
   numbered-along =
       ap (numbered q) (sym (s .roots-pair))
       ∙ turn-along (s .there) (Reach p roots) one p q (λ i r j h. part r h) (s .agree) limit limit
-        (walk-along (s .there) (Reach p roots) one p q (λ i r j h. part r h) (s .agree) falls-p falls-q limit limit)
-        [] roots (all-none (Reach p roots)) (λ i h. root h) below
-        (λ i h. others-below (s .there i) (subst (λ is. has is (s .there i) ≡ true) (s .roots-pair) (has-map (s .there) roots i h)))
+      (walk-along (s .there) (Reach p roots) one p q (λ i r j h. part r h) (s .agree) falls-p falls-q limit limit)
+      [] roots (all-none (Reach p roots)) (λ i h. root h) below
+      (λ i h. others-below (s .there i) (subst (λ is. has is (s .there i) ≡ true) (s .roots-pair) (has-map (s .there) roots i h)))
 
   pub same-written : written p roots ≡ written q others
   unfolding written
@@ -143,7 +144,7 @@ module _ (p q : ℕ → Node) (falls-p : Falls p) (falls-q : Falls q) (roots oth
   unfolding writtenRoots
   same-writtenRoots =
       sym (map-alike (λ i. num (map (s .there) (numbered p roots)) (s .there i)) (num (numbered p roots)) roots
-        (λ i h. num-along (s .there) (Reach p roots) one (numbered p roots) (numbered-reached p falls-p roots below) i (root h)))
+      (λ i h. num-along (s .there) (Reach p roots) one (numbered p roots) (numbered-reached p falls-p roots below) i (root h)))
       ∙ sym (map-map (num (map (s .there) (numbered p roots))) (s .there) roots)
       ∙ ap (map (num (map (s .there) (numbered p roots)))) (s .roots-pair)
       ∙ ap (λ o. map (num o) others) (sym numbered-along)
@@ -151,14 +152,15 @@ module _ (p q : ℕ → Node) (falls-p : Falls p) (falls-q : Falls q) (roots oth
 -- "equal .. exactly when the expressions have one shape"
 pub one-shape-is-same-entries : (p q : ℕ → Node) → Falls p → Falls q → (roots others : List ℕ) → Below limit roots → Below limit others
     → ((written p roots ≡ written q others) × (writtenRoots p roots ≡ writtenRoots q others)) ↔ OneShape p roots q others
-one-shape-is-same-entries p q falls-p falls-q roots others below others-below =
-    (λ same.
+one-shape-is-same-entries p q falls-p falls-q roots others below others-below = (
+  λ same.
       shape-trans
       (written-shape p falls-p roots below)
       (subst⁻¹ (λ is. OneShape (tableOf (written p roots)) is q others) (same .1)
       (subst⁻¹ (λ es. OneShape (tableOf es) (writtenRoots q others) q others) (same .0)
       (shape-sym (written-shape q falls-q others others-below)))),
-    λ s. (same-written p q falls-p falls-q roots others below others-below s, same-writtenRoots p q falls-p falls-q roots others below others-below s))
+  λ s. (same-written p q falls-p falls-q roots others below others-below s, same-writtenRoots p q falls-p falls-q roots others below others-below s),
+)
 
 -- "the root is last"
 root-last : (p : ℕ → Node) (k r : ℕ) → r < k → (o : List ℕ) × (walk p k [] r ≡ r ∷ o)

@@ -91,14 +91,14 @@ unfolding entryIn
 entry-of-file es ok i =
     ap (λ n. pick (ltb i n) (decode (getD (fileOf es) (4 + i) 0) (numberAt 8 (fileOf es) (4 + n + 8 * i))) Empty) (size-of-file es (ok .few))
     ∙ ⊎-elim
-      (λ l.
-        ap (λ t. pick t (decode (getD (fileOf es) (4 + i) 0) (numberAt 8 (fileOf es) (4 + length es + 8 * i))) Empty) (lt-ltb i (length es) l)
-        ∙ ap₂ decode (kind-in-file es i l) (word-in-file es i l (ok .valid i l))
-        ∙ decode-own (tableOf es i) (ok .valid i l))
-      (λ l.
-        ap (λ t. pick t (decode (getD (fileOf es) (4 + i) 0) (numberAt 8 (fileOf es) (4 + length es + 8 * i))) Empty) (le-ltb i (length es) l)
-        ∙ sym (List·getD-eq-default es Empty l))
-      (below-or-not i (length es))
+    (λ l.
+    ap (λ t. pick t (decode (getD (fileOf es) (4 + i) 0) (numberAt 8 (fileOf es) (4 + length es + 8 * i))) Empty) (lt-ltb i (length es) l)
+    ∙ ap₂ decode (kind-in-file es i l) (word-in-file es i l (ok .valid i l))
+    ∙ decode-own (tableOf es i) (ok .valid i l))
+    (λ l.
+    ap (λ t. pick t (decode (getD (fileOf es) (4 + i) 0) (numberAt 8 (fileOf es) (4 + length es + 8 * i))) Empty) (le-ltb i (length es) l)
+    ∙ sym (List·getD-eq-default es Empty l))
+    (below-or-not i (length es))
 
 pub entries-of-file : (es : List Node) → Entries es → entryOf (fileOf es) ≡ tableOf es
 entries-of-file es ok = fun-ext (entry-of-file es ok)
@@ -155,7 +155,7 @@ module _ (bs : List ℕ) (are : AreBytes bs) (long : length bs ≡ 4 + 9 * sizeO
       ap wordBytes (one-more (entryOf bs) m)
       ∙ words-append (map (entryOf bs) (firsts m)) (entryOf bs m)
       ∙ ap₂ (λ xs ys. xs ++ ys) (words-read m (omega arith))
-        (ap (bytes 8) (read m l .2) ∙ bytes-of-number 8 bs are (4 + sizeOf bs + 8 * m) (omega arith) ∙ ap (take 8) (sym (drop-drop (8 * m) (4 + sizeOf bs) bs)))
+      (ap (bytes 8) (read m l .2) ∙ bytes-of-number 8 bs are (4 + sizeOf bs + 8 * m) (omega arith) ∙ ap (take 8) (sym (drop-drop (8 * m) (4 + sizeOf bs) bs)))
       ∙ sym (take-add (8 * m) 8 (drop (4 + sizeOf bs) bs))
       ∙ ap (λ k. take k (drop (4 + sizeOf bs) bs)) (next m)
     where
@@ -168,7 +168,7 @@ module _ (bs : List ℕ) (are : AreBytes bs) (long : length bs ≡ 4 + 9 * sizeO
       ap₂ (λ xs ys. xs ++ ys)
       (ap (bytes 4) (length-firsts (entryOf bs) (sizeOf bs)) ∙ bytes-of-number 4 bs are 0 (omega arith))
       (ap₂ (λ xs ys. xs ++ ys)
-        (kinds-read (sizeOf bs) (omega arith))
-        (words-read (sizeOf bs) (omega arith) ∙ take-all (8 * sizeOf bs) (drop (4 + sizeOf bs) bs) (rw (length-drop (4 + sizeOf bs) bs) (omega arith)) ∙ sym (drop-drop (sizeOf bs) 4 bs))
-        ∙ take-append-drop (sizeOf bs) (drop 4 bs))
+      (kinds-read (sizeOf bs) (omega arith))
+      (words-read (sizeOf bs) (omega arith) ∙ take-all (8 * sizeOf bs) (drop (4 + sizeOf bs) bs) (rw (length-drop (4 + sizeOf bs) bs) (omega arith)) ∙ sym (drop-drop (sizeOf bs) 4 bs))
+      ∙ take-append-drop (sizeOf bs) (drop 4 bs))
       ∙ take-append-drop 4 bs

@@ -2,12 +2,11 @@
 -- Assumes nothing.
 use mathlib.Core.Path.{_≡_, refl, sym, ap, _∙_, subst, subst⁻¹}
 use mathlib.Core.Logic.{_⊎_, inl, inr, ⊎-elim}
-use mathlib.Core.Bool.{Bool, true, false, false≢true}
-use mathlib.Core.List.{List, [], _∷_, _++_, map, reverse, reverse-cons}
-use Prim.Native.Nat.{ℕ, zero, suc, _<_, _≤_}
+use mathlib.Core.Bool.{true, false}
+use mathlib.Core.List.{List, [], _∷_, map, reverse, reverse-cons}
+use Prim.Native.Nat.{ℕ, zero, suc, _<_}
 use native.Mathlib.Nat.{not-suc-le-zero, lt-irrefl}
 use native.Mathlib.Omega.{arith}
-use lib.Dec.{eqb}
 use lib.ListN.{length, getD, length-map, length-reverse, List·getD-append}
 use lib.Seq.{getD-at}
 use borrow.Author.Tests.{eq-eqb, ne-eqb}
@@ -16,8 +15,8 @@ use Rattle.pool.specs.declared.node.Node.{Node}
 use Rattle.pool.specs.declared.node.Node.the-variants.{Empty}
 use Rattle.shape.specs.Shape.{has, rename}
 use Rattle.shape.specs.Order.{num, entries}
-use Rattle.shape.proofs.Lists.{All, all-none, all-first, all-rest, all-with, here, further, here-or-further, map-alike, map-same, not-both, not-true-false, same-or-not}
-use Rattle.shape.proofs.Walks.{Built}
+use Rattle.shape.specs.Walked.{Built, nodeNumbered}
+use Rattle.shape.proofs.Lists.{All, all-none, all-with, here, further, map-alike, map-same, not-both, not-true-false, same-or-not}
 
 -- no number twice
 abbrev pub Distinct : List ℕ → Type 0
@@ -58,9 +57,6 @@ num-part p (x ∷ o) b =
     (λ i m j h. rw (num-before x o i (b .0) m, num-before x o j (b .0) (built-closed p o (b .2) i m j h)) (num-part p o (b .2) i m j h))
 
 -- the node with a number
-abbrev pub nodeNumbered : List ℕ → ℕ → ℕ
-nodeNumbered o m = getD (reverse o) m 0
-
 pub numbered-last : (x : ℕ) (o : List ℕ) → nodeNumbered (x ∷ o) (length o) ≡ x
 numbered-last x o = rw (reverse-cons x o) (getD-at (reverse o) x [] 0 (length o) (length-reverse o))
 

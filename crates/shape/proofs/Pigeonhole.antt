@@ -11,7 +11,7 @@ use lib.Dec.{eqb}
 use lib.ListN.{length}
 use borrow.Author.Tests.{eqb-true, eqb-false}
 use Rattle.shape.specs.Shape.{has}
-use Rattle.shape.proofs.Lists.{All, all-none, all-first, all-rest, all-with, further, here, true-or-false, not-both, not-true-false, here-or-further}
+use Rattle.shape.proofs.Lists.{All, all-none, all-first, all-with, further, here, true-or-false, not-both, not-true-false, here-or-further}
 use Rattle.shape.proofs.Numbers.{Distinct}
 
 -- an order without x
@@ -59,9 +59,9 @@ distinct-fit zero (x ∷ o) d below = absurd (not-suc-le-zero (all-first (λ i. 
 distinct-fit (suc n) o d below =
     ⊎-elim
     (λ h.
-      let fit : length (without n o) ≤ n = distinct-fit n (without n o) (without-distinct n o d) (lower n (without n o) (λ i m. below i (of-without n o i m)) (not-without n o d)) in
-      let less : length o ≡ suc (length (without n o)) = one-less n o h in
-      omega arith)
+    let fit : length (without n o) ≤ n = distinct-fit n (without n o) (without-distinct n o d) (lower n (without n o) (λ i m. below i (of-without n o i m)) (not-without n o d)) in
+    let less : length o ≡ suc (length (without n o)) = one-less n o h in
+    omega arith)
     (λ h. let fit : length o ≤ n = distinct-fit n o d (lower n o below (λ i m e. not-both (subst (λ j. has o j ≡ true) e m) h)) in omega arith)
     (true-or-false (has o n))
   where

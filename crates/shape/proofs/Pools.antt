@@ -1,27 +1,23 @@
 -- Pools that keep the rules: what their tables hold, that appending a node whose parts are there keeps them, and that old nodes stay.
 -- Assumes nothing.
-use mathlib.Core.Path.{_≡_, refl, sym, ap, ap₂, _∙_, subst, subst⁻¹}
+use mathlib.Core.Path.{_≡_, refl, ap, _∙_, subst, subst⁻¹}
 use mathlib.Core.Logic.{⊎-elim}
 use mathlib.Core.Bool.{Bool, true, false, _&&_}
-use mathlib.Core.List.{List, [], _∷_}
-use Prim.Native.Nat.{ℕ, zero, suc, _+_, _^_, _<_, _≤_}
+use mathlib.Core.List.{List}
+use Prim.Native.Nat.{ℕ, _^_, _<_, _≤_}
 use native.Mathlib.Nat.{not-suc-le-zero}
 use native.Mathlib.Omega.{arith}
-use lib.Dec.{leb, ltb, eqb}
-use lib.ListN.{length, getD, set, length-set, replicate, length-replicate, getD-replicate, List·getD-eq-default}
-use lib.Seq.{getD-set-same, getD-set-other, set-out}
+use lib.Dec.{leb, eqb}
+use lib.ListN.{length, getD, replicate, length-replicate, getD-replicate, List·getD-eq-default}
 use borrow.Author.Tests.{lt-ltb, le-ltb, le-leb, leb-true, eq-eqb, eqb-true}
-use Rattle.refusals.specs.Refusals.{poolFull}
-use Rattle.pool.specs.Nodes.{decode, kindOf, wordOf, parts, isNode, allBelow, mayStandAt, pick, half}
-use Rattle.pool.specs.Pool.{limit, Pool, pool, nodeIn, nodeAt, Out, done, refused, hasRoom, append, pickTest, entryKeeps, each, isPool, choose, bind}
-use Rattle.pool.specs.declared.node.Node.{Node}
+use Rattle.pool.specs.Nodes.{decode, parts, isNode, allBelow, mayStandAt, pick}
+use Rattle.pool.specs.Pool.{limit, Pool, nodeIn, nodeAt, pickTest, entryKeeps, isPool}
 use Rattle.pool.specs.declared.node.Node.the-variants.{Empty}
-use Rattle.shape.specs.File.{appendFirst}
-use Rattle.shape.specs.Demand.{KeepsRules, emptyPool, Room}
-use Rattle.shape.proofs.Lists.{All, all-none, below-or-not, same-or-not}
-use Rattle.shape.proofs.Tests.{and-left, and-right, and-both, each-holds, each-of, all-below, below-all}
-use Rattle.shape.proofs.Walks.{Falls}
-use Rattle.shape.proofs.TableOfKinds.{Valid, decoded, decode-own, word-fits, valid-is-node}
+use Rattle.shape.specs.Demand.{KeepsRules, emptyPool}
+use Rattle.shape.specs.Walked.{Falls}
+use Rattle.shape.proofs.Lists.{All, all-none, below-or-not}
+use Rattle.shape.proofs.Tests.{and-left, and-right, and-both, each-holds, each-of, all-below}
+use Rattle.shape.proofs.TableOfKinds.{Valid, decoded}
 
 -- the rules of 01 as facts
 pub record Rules (ks ws : List ℕ) (n : ℕ) : Type 0 where
@@ -50,7 +46,7 @@ module _ (ks ws : List ℕ) (n : ℕ) where
         stands = λ i l. subst (λ t. Keeps t i (getD ks i 0) (getD ws i 0)) (lt-ltb i n l) (entry i (omega arith));
         free = λ i l m.
             let both : Keeps false i (getD ks i 0) (getD ws i 0) = subst (λ t. Keeps t i (getD ks i 0) (getD ws i 0)) (le-ltb i n l) (entry i m) in
-            (eqb-true (getD ks i 0) 0 (and-left (eqb (getD ks i 0) 0) (eqb (getD ws i 0) 0) both), eqb-true (getD ws i 0) 0 (and-right (eqb (getD ks i 0) 0) (eqb (getD ws i 0) 0) both))
+            (eqb-true (getD ks i 0) 0 (and-left (eqb (getD ks i 0) 0) (eqb (getD ws i 0) 0) both), eqb-true (getD ws i 0) 0 (and-right (eqb (getD ks i 0) 0) (eqb (getD ws i 0) 0) both));
       }
 
   pub test-of-rules : Rules ks ws n → isPool ks ws n ≡ true
@@ -60,11 +56,11 @@ module _ (ks ws : List ℕ) (n : ℕ) where
       (and-both (eqb (length ws) limit) _ (eq-eqb (length ws) limit (r .words-long))
       (and-both (leb n limit) _ (le-leb n limit (r .count-fits))
       (each-of limit _ (λ i m.
-        ⊎-elim
-        (λ l. subst⁻¹ (λ t. Keeps t i (getD ks i 0) (getD ws i 0)) (lt-ltb i n l) (r .stands i l))
-        (λ l. subst⁻¹ (λ t. Keeps t i (getD ks i 0) (getD ws i 0)) (le-ltb i n l)
-          (and-both (eqb (getD ks i 0) 0) (eqb (getD ws i 0) 0) (eq-eqb (getD ks i 0) 0 (r .free i l m .0)) (eq-eqb (getD ws i 0) 0 (r .free i l m .1))))
-        (below-or-not i n)))))
+      ⊎-elim
+      (λ l. subst⁻¹ (λ t. Keeps t i (getD ks i 0) (getD ws i 0)) (lt-ltb i n l) (r .stands i l))
+      (λ l. subst⁻¹ (λ t. Keeps t i (getD ks i 0) (getD ws i 0)) (le-ltb i n l)
+      (and-both (eqb (getD ks i 0) 0) (eqb (getD ws i 0) 0) (eq-eqb (getD ks i 0) 0 (r .free i l m .0)) (eq-eqb (getD ws i 0) 0 (r .free i l m .1))))
+      (below-or-not i n)))))
 
   module _ (r : Rules ks ws n) where
     pub node-stands : (i : ℕ) → i < n → mayStandAt i (nodeIn ks ws i) ≡ true
@@ -120,7 +116,7 @@ zero-tables m e =
       words-long = length-replicate m 0 ∙ e;
       count-fits = omega arith;
       stands = λ i l. absurd (not-suc-le-zero l);
-      free = λ i l n. (zero-at m i, zero-at m i)
+      free = λ i l n. (zero-at m i, zero-at m i);
     }
 
 pub empty-keeps-rules : KeepsRules emptyPool
@@ -128,5 +124,5 @@ unfolding zeros
 empty-keeps-rules =
     record {
       rules = test-of-rules (zeros limit) (zeros limit) 0 (zero-tables limit refl);
-      words-fit = λ i. subst⁻¹ (λ x. x < 2 ^ 64) (zero-at limit i) (omega arith)
+      words-fit = λ i. subst⁻¹ (λ x. x < 2 ^ 64) (zero-at limit i) (omega arith);
     }

@@ -1,19 +1,19 @@
 -- Reading and writing again: bytes that pass, read into a pool with room, are the file of the root that reading gives.
 -- Assumes nothing.
-use mathlib.Core.Path.{_≡_, refl, sym, ap, ap₂, _∙_, subst, subst⁻¹}
-use mathlib.Core.List.{List, [], _∷_, map}
+use mathlib.Core.Path.{_≡_, sym, ap, _∙_, subst, subst⁻¹}
+use mathlib.Core.List.{List, [], _∷_}
 use Prim.Native.Nat.{ℕ, _+_, _-_, _<_, _≤_}
 use native.Mathlib.Omega.{arith}
 use Rattle.pool.specs.Pool.{limit, Pool, nodeAt}
 use Rattle.shape.specs.Shape.{OneShape}
-use Rattle.shape.specs.Order.{written, writtenRoots}
+use Rattle.shape.specs.Order.{writtenRoots}
 use Rattle.shape.specs.File.{fileOf, fileFrom, writtenFile, sizeOf, entryOf}
 use Rattle.shape.specs.Demand.{KeepsRules, emptyPool, Room, AreBytes, SameShape, IsNodeFile}
 use Rattle.shape.proofs.Shapes.{shape-trans}
-use Rattle.shape.proofs.Entries.{Below, only, tableOf, written-shape, same-written}
+use Rattle.shape.proofs.Entries.{only, written-shape, same-written}
 use Rattle.shape.proofs.Pools.{rules-of, falls-in, empty-keeps-rules}
-use Rattle.shape.proofs.Reading.{Passes, ReadInto, Sized, sized-facts, entries-fall, last-below, passes-written, read-into, new-shape}
-use Rattle.shape.proofs.Writing.{size-written, entries-written, root-written}
+use Rattle.shape.proofs.Reading.{Passes, ReadInto, sized-facts, entries-fall, last-below, passes-written, read-into, new-shape}
+use Rattle.shape.proofs.Writing.{entries-written, root-written}
 
 module _ (bs : List ℕ) (t : Passes bs) (P Q : Pool) (h : ReadInto bs P Q) where
   last-shape : OneShape (entryOf bs) ((sizeOf bs - 1) ∷ []) (nodeAt Q) ((P .count + (sizeOf bs - 1)) ∷ [])
@@ -32,7 +32,7 @@ module _ (bs : List ℕ) (t : Passes bs) (P Q : Pool) (h : ReadInto bs P Q) wher
   written-again are =
       ap fileOf
       (sym (same-written (entryOf bs) (nodeAt Q) (entries-fall bs t) (falls-in Q (h .holds .kept)) ((sizeOf bs - 1) ∷ []) ((P .count + (sizeOf bs - 1)) ∷ [])
-        (only (sizeOf bs - 1) few) (only (P .count + (sizeOf bs - 1)) fits) last-shape))
+      (only (sizeOf bs - 1) few) (only (P .count + (sizeOf bs - 1)) fits) last-shape))
       ∙ passes-written bs t are
     where
       few : sizeOf bs - 1 < limit

@@ -1,35 +1,34 @@
 -- Reading: which bytes pass 7, 8 and 9, what reading them leaves in a pool with room, and that every written file passes.
 -- Assumes nothing.
-use mathlib.Core.Path.{_≡_, refl, sym, ap, ap₂, _∙_, subst, subst⁻¹}
-use mathlib.Core.Logic.{_⊎_, inl, inr, ⊎-elim}
-use mathlib.Core.Bool.{Bool, true, false, _&&_}
+use mathlib.Core.Path.{_≡_, refl, sym, ap, _∙_, subst, subst⁻¹}
+use mathlib.Core.Logic.{⊎-elim}
+use mathlib.Core.Bool.{Bool, true, false}
 use mathlib.Core.List.{List, [], _∷_, map}
-use Prim.Native.Nat.{ℕ, zero, suc, _+_, _-_, _*_, _^_, _<_, _≤_}
+use Prim.Native.Nat.{ℕ, zero, suc, _+_, _-_, _*_, _<_, _≤_}
 use native.Mathlib.Nat.{not-suc-le-zero}
 use native.Mathlib.Omega.{arith}
-use lib.Dec.{leb, ltb, eqb}
-use lib.ListN.{length, getD}
-use borrow.Author.Tests.{lt-ltb, le-ltb, le-leb, leb-true, eq-eqb, eqb-true}
+use lib.Dec.{leb}
+use lib.ListN.{length}
+use borrow.Author.Tests.{le-ltb, le-leb, leb-true, eq-eqb, eqb-true}
 use Rattle.refusals.specs.Refusals.{poolFull, wrongLength, wrongEntry, wrongSequence}
-use Rattle.pool.specs.Nodes.{decode, parts, isNode, allBelow, mayStandAt, pick, half}
+use Rattle.pool.specs.Nodes.{parts, isNode, allBelow, mayStandAt, half}
 use Rattle.pool.specs.Pool.{limit, Pool, nodeAt, Out, done, refused, bind}
 use Rattle.pool.specs.declared.node.Node.{Node}
 use Rattle.pool.specs.declared.node.Node.the-variants.{Empty}
-use Rattle.shape.specs.Shape.{has, rename, Reach, root, part, OneShape}
-use Rattle.shape.specs.Order.{num, numbered, written, writtenRoots}
-use Rattle.shape.specs.File.{appendFirst, appendShifted, passes, readFile, isSized, areNodes, areInOrder, isInOrder, sizeOf, entryIn, entryOf, fileOf, fileFrom, writtenFile}
+use Rattle.shape.specs.Shape.{rename, Reach, root, part, OneShape}
+use Rattle.shape.specs.Order.{written}
+use Rattle.shape.specs.File.{appendShifted, passes, readFile, isSized, areNodes, isInOrder, sizeOf, entryIn, entryOf, fileOf}
 use Rattle.shape.specs.Demand.{KeepsRules, Room, AreBytes}
-use Rattle.shape.proofs.Lists.{All, all-none, all-map, below-or-not, not-true-false, true-or-false, map-same}
-use Rattle.shape.proofs.Tests.{and-left, and-right, and-both, each-holds, each-of, all-below, below-all}
+use Rattle.shape.specs.Walked.{Falls}
+use Rattle.shape.proofs.Lists.{All, all-none, all-map, below-or-not, map-same}
+use Rattle.shape.proofs.Tests.{and-left, and-right, and-both, each-holds, all-below}
 use Rattle.shape.proofs.Renaming.{parts-rename, rename-same}
-use Rattle.shape.proofs.Walks.{Falls}
-use Rattle.shape.proofs.Numbers.{firsts, down}
-use Rattle.shape.proofs.Shapes.{shape-of, shape-trans}
-use Rattle.shape.proofs.Entries.{Below, only, tableOf}
-use Rattle.shape.proofs.InOrder.{in-order-written, order-passes}
-use Rattle.shape.proofs.TableOfKinds.{Valid, valid-rename, valid-is-node}
+use Rattle.shape.proofs.Shapes.{shape-of}
+use Rattle.shape.proofs.Entries.{Below, only}
+use Rattle.shape.proofs.InOrder.{in-order-written}
+use Rattle.shape.proofs.TableOfKinds.{valid-rename}
 use Rattle.shape.proofs.Files.{file-of-read, entry-valid}
-use Rattle.shape.proofs.Appends.{lastAfter, Appended, Appendable, Holds, append-holds, append-refused, room-or-none}
+use Rattle.shape.proofs.Appends.{lastAfter, Appendable, Holds, append-holds, append-refused, room-or-none}
 
 -- bytes that 7, 8 and 9 let through
 pub record Passes (bs : List ℕ) : Type 0 where
@@ -73,7 +72,7 @@ sized-facts bs h =
     record {
       some = leb-true 1 (sizeOf bs) (and-left (leb 1 (sizeOf bs)) _ h₂);
       few = leb-true (sizeOf bs) limit (and-left (leb (sizeOf bs) limit) _ h₃);
-      long = eqb-true (length bs) (4 + 9 * sizeOf bs) (and-right (leb (sizeOf bs) limit) _ h₃)
+      long = eqb-true (length bs) (4 + 9 * sizeOf bs) (and-right (leb (sizeOf bs) limit) _ h₃);
     }
 
 pub facts-sized : (bs : List ℕ) → Sized bs → isSized bs ≡ true
@@ -144,7 +143,7 @@ module _ (bs : List ℕ) (t : Passes bs) where
           valid = λ i l. valid-rename (λ j. P .count + j) (entryOf bs i) (entry-valid bs are (size .long) node i l) (λ j h. small (P .count) i j (sizeOf bs) l (entries-fall i j h) (room .1));
           lower = λ i l.
               subst⁻¹ (λ js. All (λ j. j < P .count + i) js) (parts-rename (λ j. P .count + j) (entryOf bs i))
-              (all-map (λ j. j < P .count + i) (λ j. P .count + j) (parts (entryOf bs i)) (λ j h. shift (P .count) i j (entries-fall i j h)))
+              (all-map (λ j. j < P .count + i) (λ j. P .count + j) (parts (entryOf bs i)) (λ j h. shift (P .count) i j (entries-fall i j h)));
         }
       where
         small : (c i j n : ℕ) → i < n → j < i → c + n ≤ limit → c + j < half
@@ -162,13 +161,14 @@ module _ (bs : List ℕ) (t : Passes bs) where
 
     pub read-into : (P : Pool) → KeepsRules P → Room (sizeOf bs) P → (Q : Pool) × ReadInto bs P Q
     read-into P k room =
-        let (Q, a, h) = append-holds (sizeOf bs) (shifted (P .count) (entryOf bs)) P k (appendable P room) room in
-        (Q,
-        record {
-          answers = read-passes bs P t ∙ a .answers ∙ ap (λ i. done i Q) (last (sizeOf bs) P (size .some));
-          counted = a .counted;
-          holds = h
-        })
+        let (Q, a, h) = append-holds (sizeOf bs) (shifted (P .count) (entryOf bs)) P k (appendable P room) room in (
+          Q,
+          record {
+            answers = read-passes bs P t ∙ a .answers ∙ ap (λ i. done i Q) (last (sizeOf bs) P (size .some));
+            counted = a .counted;
+            holds = h;
+          },
+        )
 
   -- without room, 18
   pub read-full : (P : Pool) → (Room (sizeOf bs) P → ⊥) → readFile bs P ≡ refused poolFull
@@ -196,5 +196,5 @@ module _ (bs : List ℕ) (t : Passes bs) where
     old-shape falls roots b =
         subst (OneShape (nodeAt P) roots (nodeAt Q)) (map-same (λ i. i) roots (λ i m. refl))
         (shape-of (nodeAt P) (nodeAt Q) roots (λ i. i) (λ i. i)
-          (λ i r. refl)
-          (λ i r. h .olds i (reach-below (nodeAt P) falls (P .count) roots b r) ∙ sym (rename-same (λ j. j) (nodeAt P i) (λ j m. refl))))
+        (λ i r. refl)
+        (λ i r. h .olds i (reach-below (nodeAt P) falls (P .count) roots b r) ∙ sym (rename-same (λ j. j) (nodeAt P i) (λ j m. refl))))

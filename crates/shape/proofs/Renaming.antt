@@ -1,10 +1,9 @@
 -- Renaming the parts of a node: the nine kinds appear in these laws and in those of the table of kinds, and nowhere else.
 -- Assumes nothing.
 use mathlib.Core.Path.{_≡_, refl, ap, ap₂, _∙_}
-use mathlib.Core.Bool.{true}
-use mathlib.Core.List.{List, [], _∷_, map}
+use mathlib.Core.List.{[], _∷_, map}
 use Prim.Native.Nat.{ℕ}
-use Rattle.pool.specs.Nodes.{parts, isNode, kindOf}
+use Rattle.pool.specs.Nodes.{parts, isNode}
 use Rattle.pool.specs.declared.node.Node.{Node}
 use Rattle.pool.specs.declared.node.Node.the-variants.{Empty, Variable, Lit, Add, Mul, Div, Exp, Log, Pow, Max}
 use Rattle.shape.specs.Shape.{rename}

@@ -7,7 +7,7 @@ use Prim.Native.Nat.{ℕ}
 use Rattle.pool.specs.Nodes.{parts}
 use Rattle.pool.specs.declared.node.Node.{Node}
 use Rattle.shape.specs.Shape.{has, rename, Reach, root, part, OneShape}
-use Rattle.shape.proofs.Lists.{All, has-map, of-map, map-same}
+use Rattle.shape.proofs.Lists.{has-map, of-map, map-same}
 use Rattle.shape.proofs.Renaming.{rename-rename, parts-rename, rename-same}
 
 -- what the roots reach in the second table is what they reach in the first, renamed
@@ -40,7 +40,7 @@ module _ (p q : ℕ → Node) (roots : List ℕ) (f back : ℕ → ℕ)
         back-there = undo;
         there-back = λ j r. let from = comes-from r in ap (λ x. f (back x)) (sym (from .2)) ∙ ap f (undo (from .0) (from .1)) ∙ from .2;
         roots-pair = refl;
-        agree = agree
+        agree = agree;
       }
 
   pub shape-of-there : shape-of .there ≡ f
@@ -65,7 +65,7 @@ shape-sym {p} {q} {roots} {others} s =
           (ap (λ x. rename (s .back) (q x)) (sym (s .there-back j r))
           ∙ ap (rename (s .back)) (s .agree (s .back j) (s .back-reached j r))
           ∙ rename-rename (s .there) (s .back) (p (s .back j))
-          ∙ rename-same (λ i. s .back (s .there i)) (p (s .back j)) (λ i h. s .back-there i (part (s .back-reached j r) h)))
+          ∙ rename-same (λ i. s .back (s .there i)) (p (s .back j)) (λ i h. s .back-there i (part (s .back-reached j r) h)));
     }
 
 pub shape-trans : {p q u : ℕ → Node} {roots others more : List ℕ} → OneShape p roots q others → OneShape q others u more → OneShape p roots u more
@@ -81,5 +81,5 @@ shape-trans {p} {q} {u} {roots} s t =
       agree = λ i r.
           t .agree (s .there i) (s .there-reached i r)
           ∙ ap (rename (t .there)) (s .agree i r)
-          ∙ rename-rename (s .there) (t .there) (p i)
+          ∙ rename-rename (s .there) (t .there) (p i);
     }

@@ -1,16 +1,16 @@
 -- The table of kinds both ways: which nodes it has, that a node's kind and word give the node back, and that a kind and a word that give a node are the node's own.
 -- Assumes nothing.
-use mathlib.Core.Path.{_≡_, refl, sym, ap, ap₂, _∙_, subst, subst⁻¹}
+use mathlib.Core.Path.{_≡_, refl, sym, ap, ap₂, _∙_, subst⁻¹}
 use mathlib.Core.Bool.{Bool, true, false, false≢true}
-use mathlib.Core.List.{List, [], _∷_}
+use mathlib.Core.List.{[], _∷_}
 use Prim.Native.Nat.{ℕ, _+_, _*_, _/_, _%_, _^_, _<_, _≤_}
 use native.Mathlib.Omega.{arith}
 use lib.Dec.{leb, ltb, eqb}
-use lib.IntN.{ℤ, natAbs}
+use lib.IntN.{natAbs}
 use borrow.Author.Tests.{eqb-true, leb-true, ltb-true, le-leb, lt-ltb}
 use mir.Syntax.{w64}
 use mir.ValLaws.{ofZ-fits}
-use Rattle.literal.specs.Literal.{isLiteral, signed, word, greatest}
+use Rattle.literal.specs.Literal.{isLiteral, signed, greatest}
 use Rattle.literal.proofs.Theorems.{literal-word-read, word-of-number-of}
 use Rattle.literal.proofs.Folds.{literal-fits}
 use Rattle.pool.specs.Nodes.{decode, kindOf, wordOf, parts, isNode, pick, half, lowOf, highOf, greatestVariable, leastExponent}
@@ -51,19 +51,19 @@ unfolding decode
 decoded k w l =
     let none : isNode Empty ≡ true → Own k w Empty = λ h. absurd (false≢true h) in
     by-test (Own k w) (eqb k 1) _ _
-      (λ e. by-test (Own k w) (leb w greatestVariable) _ _ (λ f h. (leb-true w greatestVariable f, sym (eqb-true k 1 e), refl)) none)
+    (λ e. by-test (Own k w) (leb w greatestVariable) _ _ (λ f h. (leb-true w greatestVariable f, sym (eqb-true k 1 e), refl)) none)
     (by-test (Own k w) (eqb k 2) _ _
-      (λ e. by-test (Own k w) (isLiteral (signed w)) _ _ (λ f h. (f, sym (eqb-true k 2 e), word-of-number-of w (record { fits = l }))) none)
+    (λ e. by-test (Own k w) (isLiteral (signed w)) _ _ (λ f h. (f, sym (eqb-true k 2 e), word-of-number-of w (record { fits = l }))) none)
     (by-test (Own k w) (eqb k 3) _ _ (λ e h. (halves w l, sym (eqb-true k 3 e), joined w))
     (by-test (Own k w) (eqb k 4) _ _ (λ e h. (halves w l, sym (eqb-true k 4 e), joined w))
     (by-test (Own k w) (eqb k 5) _ _ (λ e h. (halves w l, sym (eqb-true k 5 e), joined w))
     (by-test (Own k w) (eqb k 6) _ _
-      (λ e. by-test (Own k w) (ltb w half) _ _ (λ f h. (ltb-true w half f, sym (eqb-true k 6 e), refl)) none)
+    (λ e. by-test (Own k w) (ltb w half) _ _ (λ f h. (ltb-true w half f, sym (eqb-true k 6 e), refl)) none)
     (by-test (Own k w) (eqb k 7) _ _
-      (λ e. by-test (Own k w) (ltb w half) _ _ (λ f h. (ltb-true w half f, sym (eqb-true k 7 e), refl)) none)
+    (λ e. by-test (Own k w) (ltb w half) _ _ (λ f h. (ltb-true w half f, sym (eqb-true k 7 e), refl)) none)
     (by-test (Own k w) (eqb k 8) _ _
-      (λ e. by-test (Own k w) (leb leastExponent (highOf w)) _ _
-        (λ f h. ((halves w l .0, halves w l .1, leb-true leastExponent (highOf w) f), sym (eqb-true k 8 e), joined w)) none)
+    (λ e. by-test (Own k w) (leb leastExponent (highOf w)) _ _
+    (λ f h. ((halves w l .0, halves w l .1, leb-true leastExponent (highOf w) f), sym (eqb-true k 8 e), joined w)) none)
     (by-test (Own k w) (eqb k 9) _ _ (λ e h. (halves w l, sym (eqb-true k 9 e), joined w)) none))))))))
 
 low-of-pair : (a b : ℕ) → a < half → (a + half * b) % half ≡ a

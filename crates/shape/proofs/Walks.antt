@@ -1,21 +1,18 @@
 -- The walk: what it adds to the nodes done, and that it adds each once, after its parts. Each law has its form for nodes visited in turn.
 -- Assumes nothing.
-use mathlib.Core.Path.{_≡_, refl, sym, ap, _∙_, subst, subst⁻¹}
+use mathlib.Core.Path.{_≡_, refl, subst, subst⁻¹}
 use mathlib.Core.Logic.{_⊎_, inl, inr, ⊎-elim}
-use mathlib.Core.Bool.{Bool, true, false, false≢true}
+use mathlib.Core.Bool.{true, false}
 use mathlib.Core.List.{List, [], _∷_}
-use Prim.Native.Nat.{ℕ, zero, suc, _<_, _≤_}
+use Prim.Native.Nat.{ℕ, zero, suc, _<_}
 use native.Mathlib.Nat.{not-suc-le-zero, lt-irrefl}
 use native.Mathlib.Omega.{arith}
 use Rattle.pool.specs.Nodes.{parts}
 use Rattle.pool.specs.declared.node.Node.{Node}
 use Rattle.shape.specs.Shape.{has}
 use Rattle.shape.specs.Order.{inTurn, walk}
+use Rattle.shape.specs.Walked.{Falls, Built}
 use Rattle.shape.proofs.Lists.{All, all-none, all-first, all-rest, all-with, here, further, here-or-further, true-or-false, not-both, not-true-false}
-
--- each part of a node has a smaller number than the node
-abbrev pub Falls : (ℕ → Node) → Type 0
-Falls p = (i : ℕ) → All (λ j. j < i) (parts (p i))
 
 -- a set of nodes that holds the parts of its nodes
 abbrev pub Closed : (ℕ → Node) → (ℕ → Type 0) → Type 0
@@ -84,10 +81,6 @@ adds p C closed (suc k) o i c j h =
     h
 
 -- no node twice, and each after its parts
-abbrev pub Built : (ℕ → Node) → List ℕ → Type 0
-Built p [] = Unit {0}
-Built p (i ∷ o) = (has o i ≡ false) × All (λ j. has o j ≡ true) (parts (p i)) × Built p o
-
 pub turn-built : (p : ℕ → Node) → Falls p → (k : ℕ) → ((o : List ℕ) (i : ℕ) → i < k → Built p o → Built p (walk p k o i))
     → (o is : List ℕ) → All (λ i. i < k) is → Built p o → Built p (inTurn (walk p k) o is)
 turn-built p falls k step o [] l b = b

@@ -1,27 +1,28 @@
 -- Written files: their entries are in the table of kinds, there are at most as many as the pool has nodes, and they pass 7, 8 and 9.
 -- Assumes nothing.
-use mathlib.Core.Path.{_≡_, refl, sym, ap, ap₂, _∙_, subst, subst⁻¹}
+use mathlib.Core.Path.{_≡_, sym, ap, ap₂, _∙_, subst, subst⁻¹}
 use mathlib.Core.Bool.{true}
 use mathlib.Core.List.{List, [], _∷_}
-use Prim.Native.Nat.{ℕ, _+_, _-_, _*_, _^_, _<_, _≤_}
+use Prim.Native.Nat.{ℕ, _+_, _-_, _*_, _<_, _≤_}
 use native.Mathlib.Omega.{arith}
 use lib.ListN.{length}
 use Rattle.pool.specs.Nodes.{parts, isNode, allBelow, mayStandAt, half}
-use Rattle.pool.specs.Pool.{limit, Pool, nodeAt, each}
+use Rattle.pool.specs.Pool.{limit, Pool, nodeAt}
 use Rattle.pool.specs.declared.node.Node.{Node}
-use Rattle.shape.specs.Shape.{has, rename}
+use Rattle.shape.specs.Shape.{has}
 use Rattle.shape.specs.Order.{num, numbered, written, writtenRoots}
-use Rattle.shape.specs.File.{fileOf, fileFrom, writtenFile, sizeOf, entryOf, areNodes, areInOrder, isInOrder}
+use Rattle.shape.specs.File.{fileFrom, writtenFile, sizeOf, entryOf, areNodes, isInOrder}
 use Rattle.shape.specs.Demand.{KeepsRules}
-use Rattle.shape.proofs.Lists.{All, all-first}
+use Rattle.shape.specs.Walked.{nodeNumbered}
+use Rattle.shape.proofs.Lists.{all-first}
 use Rattle.shape.proofs.Tests.{and-both, each-of, below-all}
-use Rattle.shape.proofs.Numbers.{nodeNumbered, num-of-node, num-below, built-closed, down}
+use Rattle.shape.proofs.Numbers.{num-of-node, num-below, built-closed, down}
 use Rattle.shape.proofs.Entries.{Below, only, tableOf, numbered-built, numbered-distinct, numbered-below, numbered-fit, length-written, entry-written, written-falls, writtenRoots-below, written-in-order, last-root}
 use Rattle.shape.proofs.InOrder.{order-passes}
 use Rattle.shape.proofs.TableOfKinds.{Valid, valid-rename, valid-is-node}
 use Rattle.shape.proofs.Files.{Entries, length-file, size-of-file, entries-of-file}
 use Rattle.shape.proofs.Pools.{rules-of, falls-in, valid-in}
-use Rattle.shape.proofs.Reading.{Passes, Sized, facts-sized}
+use Rattle.shape.proofs.Reading.{Passes, facts-sized}
 
 module _ (P : Pool) (k : KeepsRules P) (roots : List ℕ) (b : Below (P .count) roots) where
   pub below-limit : Below limit roots
@@ -41,7 +42,7 @@ module _ (P : Pool) (k : KeepsRules P) (roots : List ℕ) (b : Below (P .count) 
             let (there, its-num) = num-of-node o (numbered-distinct (nodeAt P) (falls-in P k) roots below-limit) i m in
             subst⁻¹ Valid (entry-written (nodeAt P) (falls-in P k) roots below-limit i m)
             (valid-rename (num o) (nodeAt P x) (valid-in P k x (numbered-below (nodeAt P) (falls-in P k) roots below-limit (P .count) b x there))
-              (λ j h. small j (built-closed (nodeAt P) o (numbered-built (nodeAt P) (falls-in P k) roots below-limit) x there j h)))
+            (λ j h. small j (built-closed (nodeAt P) o (numbered-built (nodeAt P) (falls-in P k) roots below-limit) x there j h)));
       }
     where
       o : List ℕ
@@ -94,13 +95,13 @@ module _ (P : Pool) (k : KeepsRules P) (r : ℕ) (l : r < P .count) where
         sized = facts-sized (fileFrom P r) (record {
           some = subst⁻¹ (λ n. 1 ≤ n) size-written some-written;
           few = subst⁻¹ (λ n. n ≤ limit) size-written few-written;
-          long = length-file es ∙ ap (λ n. 4 + 9 * n) (sym size-written)
+          long = length-file es ∙ ap (λ n. 4 + 9 * n) (sym size-written);
         });
         nodes = each-of (sizeOf (fileFrom P r)) _ (λ i m.
-          subst⁻¹ (λ q. mayStandAt i (q i) ≡ true) entries-written
-          (and-both (isNode (tableOf es i)) (allBelow i (parts (tableOf es i)))
+            subst⁻¹ (λ q. mayStandAt i (q i) ≡ true) entries-written
+            (and-both (isNode (tableOf es i)) (allBelow i (parts (tableOf es i)))
             (valid-is-node (tableOf es i) (ok .valid i (subst (λ n. i < n) size-written m)))
             (below-all i (parts (tableOf es i)) (written-falls (nodeAt P) (falls-in P k) (r ∷ []) (only r in-limit) i))));
         ordered = order-passes (entryOf (fileFrom P r)) ((sizeOf (fileFrom P r) - 1) ∷ []) (sizeOf (fileFrom P r))
-          (ap₂ numbered entries-written (sym root-written) ∙ written-in-order (nodeAt P) (falls-in P k) (r ∷ []) (only r in-limit) ∙ ap down (sym size-written))
+            (ap₂ numbered entries-written (sym root-written) ∙ written-in-order (nodeAt P) (falls-in P k) (r ∷ []) (only r in-limit) ∙ ap down (sym size-written));
       }

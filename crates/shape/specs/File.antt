@@ -7,7 +7,7 @@ use lib.Dec.{leb, ltb, eqb}
 use lib.ListN.{length, getD}
 use Rattle.refusals.specs.Refusals.{wrongLength, wrongEntry, wrongSequence}
 use Rattle.pool.specs.Nodes.{decode, kindOf, wordOf, mayStandAt, pick}
-use Rattle.pool.specs.Pool.{limit, Pool, nodeIn, Run, done, refused, yield, refuse, append, each, _>>=_}
+use Rattle.pool.specs.Pool.{limit, Pool, nodeIn, Run, done, yield, refuse, append, each, _>>=_}
 use Rattle.pool.specs.declared.node.Node.{Node}
 use Rattle.pool.specs.declared.node.Node.the-variants.{Empty}
 use Rattle.shape.specs.Shape.{rename, has}

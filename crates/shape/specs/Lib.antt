@@ -2,3 +2,4 @@ pub mod Shape
 pub mod Order
 pub mod File
 pub mod Demand
+pub mod Walked
