@@ -12,13 +12,12 @@ use Rattle.pool.specs.Pool.{limit, Pool, nodeAt, done, refused}
 use Rattle.shape.specs.Shape.{has, Reach, OneShape}
 use Rattle.shape.specs.Order.{numbered, written, writtenRoots}
 use Rattle.shape.specs.File.{fileOf, fileFrom, writtenFile, readFile, sizeOf}
-use Rattle.shape.specs.Demand.{KeepsRules, emptyPool, Room, SameShape, IsNodeFile, AreBytes, Accepts}
-use Rattle.shape.proofs.Numbers.{Distinct}
-use Rattle.shape.proofs.Entries.{Below, only, one-shape-is-same-entries, one-shape-is-same-entries-of-one, length-written, numbered-distinct, numbered-reached, reached-numbered}
+use Rattle.shape.specs.Demand.{KeepsRules, emptyPool, Room, SameShape, IsNodeFile, AreBytes, Accepts, Leaves, Below, Distinct}
+use Rattle.shape.proofs.Entries.{only, one-shape-is-same-entries, one-shape-is-same-entries-of-one, length-written, numbered-distinct, numbered-reached, reached-numbered}
 use Rattle.shape.proofs.Files.{same-file-same-entries, file-is-bytes, length-file}
 use Rattle.shape.proofs.Pools.{rules-of, falls-in, empty-keeps-rules}
-use Rattle.shape.proofs.Reading.{Passes, accepted-passes, sized-facts, read-into, read-full, accepted-room, old-shape}
-use Rattle.shape.proofs.ReadBack.{root-there, written-again, passes-is-node-file, read-shape}
+use Rattle.shape.proofs.Reading.{Passes, accepted-passes, sized-facts, read-into, read-full, accepted-room}
+use Rattle.shape.proofs.ReadBack.{passes-is-node-file, accepted-leaves}
 use Rattle.shape.proofs.Writing.{below-limit, entries-fit, written-entries, size-written, written-passes}
 
 -- (a) "the written node files are equal byte for byte exactly when the expressions have one shape"
@@ -92,39 +91,21 @@ accepts-node-files bs are P k none whole =
 pub accepts-node-files-into-zeros : (bs : List ℕ) → AreBytes bs → Accepts bs emptyPool ↔ IsNodeFile bs
 accepts-node-files-into-zeros bs are = accepts-node-files bs are emptyPool empty-keeps-rules refl refl
 
--- (c) reading the file of a root in P into Q
-pub record ReadsBack (P : Pool) (r : ℕ) (Q : Pool) : Type 0 where
-  pub after : Pool
-  pub root : ℕ
-  pub answers : readFile (fileFrom P r) Q ≡ done root after
-  pub keeps-rules : KeepsRules after
-  pub grows : after .count ≡ Q .count + sizeOf (fileFrom P r)
-  pub root-there : root < after .count
-  -- "A node file reads back to the expression it came from"
-  pub same-shape : SameShape P r after root
-  -- every old expression keeps its shape
-  pub old-shapes : (i : ℕ) → i < Q .count → SameShape Q i after i
-  -- "and written again gives the same bytes"
-  pub same-bytes : fileFrom after root ≡ fileFrom P r
+-- (c) what an accepted file leaves, whatever the bytes and whatever the pool that keeps the rules: it keeps them again, old expressions keep their shape, and writing the root again gives the same bytes
+pub accepted-leaves-the-rules : (bs : List ℕ) → AreBytes bs → (P : Pool) → KeepsRules P → (r : ℕ) (Q : Pool) → readFile bs P ≡ done r Q → Leaves bs P r Q
+accepted-leaves-the-rules = accepted-leaves
 
-pub reads-back : (P Q : Pool) → KeepsRules P → KeepsRules Q → (r : ℕ) → r < P .count → Room (sizeOf (fileFrom P r)) Q → ReadsBack P r Q
+-- "A node file reads back to the expression it came from, and written again gives the same bytes."
+pub reads-back : (P Q : Pool) → KeepsRules P → KeepsRules Q → (r : ℕ) → r < P .count → Room (sizeOf (fileFrom P r)) Q
+    → (s : ℕ) × (R : Pool) × (readFile (fileFrom P r) Q ≡ done s R) × SameShape P r R s × Leaves (fileFrom P r) Q s R
 unfolding writtenFile
 reads-back P Q k m r l room =
     let bs = fileFrom P r in
-    let t = written-passes P k r l in
     let are : AreBytes bs = file-is-bytes (written (nodeAt P) (r ∷ [])) in
-    let (R, h) = read-into bs t are Q m room in
-    record {
-      after = R;
-      root = Q .count + (sizeOf bs - 1);
-      answers = h .answers;
-      keeps-rules = h .holds .kept;
-      grows = h .counted;
-      root-there = root-there bs t Q R h;
-      same-shape = read-shape P k r l t Q R h;
-      old-shapes = λ i n. old-shape bs t Q R (h .holds) (falls-in Q m) (i ∷ []) (only i n);
-      same-bytes = written-again bs t Q R h are;
-    }
+    let (s, R, e) = accepts-node-files-with-room bs are Q m .1 ((P, k, r, l, refl), room) in
+    let left = accepted-leaves bs are Q m s R e in
+    let last : s + 1 ≡ R .count = left .root-last in
+    (s, R, e, same-file-for-one-shape P R k (left .keeps-rules) r s l (omega arith) .0 (sym (left .same-bytes)), left)
 
 -- without room, 18
 pub reads-into-no-full-pool : (P Q : Pool) → KeepsRules P → (r : ℕ) → r < P .count → (Room (sizeOf (fileFrom P r)) Q → ⊥) → readFile (fileFrom P r) Q ≡ refused poolFull

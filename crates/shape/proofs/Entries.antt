@@ -15,21 +15,18 @@ use Rattle.pool.specs.declared.node.Node.the-variants.{Empty}
 use Rattle.shape.specs.Shape.{has, rename, Reach, root, part, OneShape}
 use Rattle.shape.specs.Order.{walk, num, entries, numbered, written, writtenRoots}
 use Rattle.shape.specs.Walked.{Falls, Built, nodeNumbered}
+use Rattle.shape.specs.Demand.{Distinct, Below}
 use Rattle.shape.proofs.Lists.{All, all-none, all-with, has-map, all-map, map-alike, below-or-not}
 use Rattle.shape.proofs.Renaming.{parts-rename}
 use Rattle.shape.proofs.Walks.{adds, turn-adds, turn-does, built, turn-built, partsDone, walk-new}
 use Rattle.shape.proofs.Along.{num-along, entries-along, turn-along, walk-along}
-use Rattle.shape.proofs.Numbers.{Distinct, built-distinct, built-closed, num-last, num-below, num-part, node-of-num, num-of-node, length-entries, entry-numbered, entry-of, down, own-numbers}
+use Rattle.shape.proofs.Numbers.{built-distinct, built-closed, num-last, num-below, num-part, node-of-num, num-of-node, length-entries, entry-numbered, entry-of, down, own-numbers}
 use Rattle.shape.proofs.Pigeonhole.{distinct-fit}
 use Rattle.shape.proofs.Shapes.{shape-of, shape-of-there, shape-sym, shape-trans}
 
 -- the table of nodes that a list of entries is
 abbrev pub tableOf : List Node → ℕ → Node
 tableOf es i = getD es i Empty
-
--- numbers below the limit
-abbrev pub Below : ℕ → List ℕ → Type 0
-Below n is = All (λ i. i < n) is
 
 pub only : {n : ℕ} (r : ℕ) → r < n → Below n (r ∷ [])
 only {n} r l = all-with (λ i. i < n) r [] l (all-none (λ i. i < n))

@@ -13,10 +13,11 @@ use Rattle.shape.specs.Shape.{has, rename}
 use Rattle.shape.specs.Order.{num, entries, numbered, written, writtenRoots}
 use Rattle.shape.specs.File.{areInOrder}
 use Rattle.shape.specs.Walked.{Falls}
+use Rattle.shape.specs.Demand.{Below}
 use Rattle.shape.proofs.Lists.{of-reverse, map-alike, map-same}
 use Rattle.shape.proofs.Renaming.{rename-same}
 use Rattle.shape.proofs.Numbers.{down, firsts, has-down, of-down, num-down, in-place}
-use Rattle.shape.proofs.Entries.{Below, numbered-distinct, numbered-below}
+use Rattle.shape.proofs.Entries.{numbered-distinct, numbered-below}
 use Rattle.shape.proofs.Tests.{and-left, and-right, and-both, each-holds, each-of}
 
 module _ (q : ℕ → Node) (roots : List ℕ) (n : ℕ) where

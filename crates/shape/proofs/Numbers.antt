@@ -16,12 +16,8 @@ use Rattle.pool.specs.declared.node.Node.the-variants.{Empty}
 use Rattle.shape.specs.Shape.{has, rename}
 use Rattle.shape.specs.Order.{num, entries}
 use Rattle.shape.specs.Walked.{Built, nodeNumbered}
+use Rattle.shape.specs.Demand.{Distinct}
 use Rattle.shape.proofs.Lists.{All, all-none, all-with, here, further, map-alike, map-same, not-both, not-true-false, same-or-not}
-
--- no number twice
-abbrev pub Distinct : List ℕ → Type 0
-Distinct [] = Unit {0}
-Distinct (i ∷ o) = (has o i ≡ false) × Distinct o
 
 pub built-distinct : (p : ℕ → Node) (o : List ℕ) → Built p o → Distinct o
 built-distinct p [] b = tt

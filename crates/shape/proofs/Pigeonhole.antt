@@ -11,8 +11,8 @@ use lib.Dec.{eqb}
 use lib.ListN.{length}
 use borrow.Author.Tests.{eqb-true, eqb-false}
 use Rattle.shape.specs.Shape.{has}
+use Rattle.shape.specs.Demand.{Distinct}
 use Rattle.shape.proofs.Lists.{All, all-none, all-first, all-with, further, here, true-or-false, not-both, not-true-false, here-or-further}
-use Rattle.shape.proofs.Numbers.{Distinct}
 
 -- an order without x
 abbrev without : ℕ → List ℕ → List ℕ

@@ -18,13 +18,13 @@ use Rattle.pool.specs.declared.node.Node.the-variants.{Empty}
 use Rattle.shape.specs.Shape.{rename, Reach, root, part, OneShape}
 use Rattle.shape.specs.Order.{written}
 use Rattle.shape.specs.File.{appendShifted, passes, readFile, isSized, areNodes, isInOrder, sizeOf, entryIn, entryOf, fileOf}
-use Rattle.shape.specs.Demand.{KeepsRules, Room, AreBytes}
+use Rattle.shape.specs.Demand.{KeepsRules, Room, AreBytes, Below}
 use Rattle.shape.specs.Walked.{Falls}
 use Rattle.shape.proofs.Lists.{All, all-none, all-map, below-or-not, map-same}
 use Rattle.shape.proofs.Tests.{and-left, and-right, and-both, each-holds, all-below}
 use Rattle.shape.proofs.Renaming.{parts-rename, rename-same}
 use Rattle.shape.proofs.Shapes.{shape-of}
-use Rattle.shape.proofs.Entries.{Below, only}
+use Rattle.shape.proofs.Entries.{only}
 use Rattle.shape.proofs.InOrder.{in-order-written}
 use Rattle.shape.proofs.TableOfKinds.{valid-rename}
 use Rattle.shape.proofs.Files.{file-of-read, entry-valid}
@@ -97,6 +97,7 @@ shifted c q i = rename (λ j. c + j) (q i)
 pub record ReadInto (bs : List ℕ) (P Q : Pool) : Type 0 where
   pub answers : readFile bs P ≡ done (P .count + (sizeOf bs - 1)) Q
   pub counted : Q .count ≡ P .count + sizeOf bs
+  pub ended : Q .end ≡ P .end
   pub holds : Holds (sizeOf bs) (shifted (P .count) (entryOf bs)) P Q
 
 module _ (bs : List ℕ) (t : Passes bs) where
@@ -166,6 +167,7 @@ module _ (bs : List ℕ) (t : Passes bs) where
           record {
             answers = read-passes bs P t ∙ a .answers ∙ ap (λ i. done i Q) (last (sizeOf bs) P (size .some));
             counted = a .counted;
+            ended = a .ended;
             holds = h;
           },
         )

@@ -12,12 +12,12 @@ use Rattle.pool.specs.declared.node.Node.{Node}
 use Rattle.shape.specs.Shape.{has}
 use Rattle.shape.specs.Order.{num, numbered, written, writtenRoots}
 use Rattle.shape.specs.File.{fileFrom, writtenFile, sizeOf, entryOf, areNodes, isInOrder}
-use Rattle.shape.specs.Demand.{KeepsRules}
+use Rattle.shape.specs.Demand.{KeepsRules, Below}
 use Rattle.shape.specs.Walked.{nodeNumbered}
 use Rattle.shape.proofs.Lists.{all-first}
 use Rattle.shape.proofs.Tests.{and-both, each-of, below-all}
 use Rattle.shape.proofs.Numbers.{num-of-node, num-below, built-closed, down}
-use Rattle.shape.proofs.Entries.{Below, only, tableOf, numbered-built, numbered-distinct, numbered-below, numbered-fit, length-written, entry-written, written-falls, writtenRoots-below, written-in-order, last-root}
+use Rattle.shape.proofs.Entries.{only, tableOf, numbered-built, numbered-distinct, numbered-below, numbered-fit, length-written, entry-written, written-falls, writtenRoots-below, written-in-order, last-root}
 use Rattle.shape.proofs.InOrder.{order-passes}
 use Rattle.shape.proofs.TableOfKinds.{Valid, valid-rename, valid-is-node}
 use Rattle.shape.proofs.Files.{Entries, length-file, size-of-file, entries-of-file}
