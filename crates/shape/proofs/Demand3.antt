@@ -1,5 +1,5 @@
--- Demand 3, and of demand 2 that "a node file reads back to the expression it came from, and written again gives the same bytes". Its words are defined in specs/; the laws that carry it stand in the files named after their subject.
--- Assumes nothing.
+-- Demand 3, and of demand 2 that "A node file reads back to the expression it came from, and written again gives the same bytes".
+-- Its words are defined in specs/; the laws that carry it stand in the files named after their subject. Assumes nothing.
 use mathlib.Core.Path.{_≡_, refl, sym, ap, _∙_, subst, subst⁻¹}
 use mathlib.Core.Logic.{_↔_}
 use mathlib.Core.Bool.{true}

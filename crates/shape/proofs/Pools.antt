@@ -1,4 +1,4 @@
--- Pools that keep the rules: what their tables hold, that appending a node whose parts are there keeps them, and that old nodes stay.
+-- Pools that keep the rules: the test of 1 as facts, what nodes the tables then hold, and that the empty pool is one.
 -- Assumes nothing.
 use mathlib.Core.Path.{_≡_, refl, ap, _∙_, subst, subst⁻¹}
 use mathlib.Core.Logic.{⊎-elim}

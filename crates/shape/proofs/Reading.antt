@@ -1,4 +1,4 @@
--- Reading: which bytes pass 7, 8 and 9, what reading them leaves in a pool with room, and that every written file passes.
+-- Reading: which bytes pass 7, 8 and 9, what reading them leaves in a pool with room, and that without room it is 18.
 -- Assumes nothing.
 use mathlib.Core.Path.{_≡_, refl, sym, ap, _∙_, subst, subst⁻¹}
 use mathlib.Core.Logic.{⊎-elim}

@@ -29,7 +29,7 @@ unfolding each
 each-holds zero test h i l = absurd (not-suc-le-zero l)
 each-holds (suc n) test h i l =
     ⊎-elim
-    (λ e. subst (λ j. test j ≡ true) (λ k. e k) (and-right (each n test) (test n) h))
+    (λ e. subst (λ j. test j ≡ true) e (and-right (each n test) (test n) h))
     (λ d. each-holds n test (and-left (each n test) (test n) h) i (omega arith))
     (same-or-not n i)
 

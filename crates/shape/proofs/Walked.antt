@@ -19,7 +19,7 @@ use Rattle.shape.specs.Order.{inTurn, walk, numbered, num}
 use Rattle.shape.specs.Walked.{Falls, nodeNumbered, mark, Walked}
 use Rattle.shape.proofs.Lists.{All, all-with, all-first, all-rest, map-same, same-or-not, true-or-false}
 use Rattle.shape.proofs.Renaming.{rename-same}
-use Rattle.shape.proofs.Walks.{walk-none, walk-old, walk-new}
+use Rattle.shape.proofs.Walks.{walk-none, walk-old, walk-new, turn-does, parts-miss}
 use Rattle.shape.proofs.Along.{walk-along}
 use Rattle.shape.proofs.Pigeonhole.{distinct-fit}
 use Rattle.shape.proofs.Numbers.{built-distinct, numbered-last, numbered-before}
@@ -159,3 +159,17 @@ module _ (p : ℕ → Node) (o number order : List ℕ) (d : ℕ) (w : Walked p 
 
   pub walked-number : (i : ℕ) → has o i ≡ true → getD number i 0 ≡ suc (num o i)
   walked-number i h = w .marked i ∙ mark-of-done o i h
+
+-- the step of the walk: the parts of i have been visited, and i is not done
+module _ (p : ℕ → Node) (falls : Falls p) (o : List ℕ) (i : ℕ) (l : i < limit) (n : has o i ≡ false) where
+  below-limit : All (λ j. j < limit) (parts (p i))
+  below-limit j h = let f : j < i = falls i j h in omega arith
+
+  module _ (number order : List ℕ) (d : ℕ) (w : Walked p (inTurn (walk p limit) o (parts (p i))) number order d) where
+    pub visit-room : d < limit
+    visit-room = walked-room p (inTurn (walk p limit) o (parts (p i))) number order d w i l (parts-miss p falls limit o i n)
+
+    pub visit-stored : Walked p (walk p limit o i) (set number i (d + 1)) (set order d i) (d + 1)
+    visit-stored =
+        subst⁻¹ (λ done. Walked p done (set number i (d + 1)) (set order d i) (d + 1)) (walk-not-done p falls limit o i l n)
+        (walked-next p (inTurn (walk p limit) o (parts (p i))) number order d w i l (parts-miss p falls limit o i n) (turn-does p limit o (parts (p i)) below-limit))

@@ -88,7 +88,7 @@ turn-built p falls k step o (i ∷ is) l b =
     turn-built p falls k step (walk p k o i) is (all-rest (λ j. j < k) i is l) (step o i (all-first (λ j. j < k) i is l) b)
 
 -- the parts of a node do not come to the node itself
-parts-miss : (p : ℕ → Node) → Falls p → (k : ℕ) (o : List ℕ) (i : ℕ) → has o i ≡ false → has (partsDone p k o i) i ≡ false
+pub parts-miss : (p : ℕ → Node) → Falls p → (k : ℕ) (o : List ℕ) (i : ℕ) → has o i ≡ false → has (partsDone p k o i) i ≡ false
 parts-miss p falls k o i n =
     not-true-false _ (λ h. ⊎-elim (λ m. not-both m n) (λ l. lt-irrefl i l) (turn-adds (walk p k) (λ j. j < i) (adds p (λ j. j < i) lower k) o (parts (p i)) (falls i) i h))
   where

@@ -39,7 +39,7 @@ SameShape P r Q s = OneShape (nodeAt P) (r ∷ []) (nodeAt Q) (s ∷ [])
 abbrev pub IsNodeFile : List ℕ → Type 0
 IsNodeFile bs = (P : Pool) × KeepsRules P × (r : ℕ) × (r < P .count) × (fileFrom P r ≡ bs)
 
--- bytes, whatever they are
+-- "Whatever bytes are handed in"
 abbrev pub AreBytes : List ℕ → Type 0
 AreBytes bs = (i : ℕ) → getD bs i 0 < 256
 
