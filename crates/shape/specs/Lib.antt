@@ -1,0 +1,5 @@
+pub mod Shape
+pub mod Order
+pub mod File
+pub mod Demand
+pub mod Walked
