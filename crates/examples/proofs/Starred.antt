@@ -86,5 +86,5 @@ starred =
       exp-at-0 = is-exp-at-0;
       zero-to-the-zeroth = is-zero-to-the-zeroth;
       exp-of-one = is-exp-of-one;
-      half-by-residues = is-half-by-residues
+      half-by-residues = is-half-by-residues;
     }

@@ -42,43 +42,43 @@ residueIn (refused k) = Refused k
 -- 2 + (x0 + 1)
 unfoldable pub literalLeft : Run
 literalLeft = do
-    two ← lit (pos 2)
-    one ← lit (pos 1)
-    s ← add x0 one
-    add two s
+  two ← lit (pos 2)
+  one ← lit (pos 1)
+  s ← add x0 one
+  add two s
 
 -- (x0 + 1) + 2
 unfoldable pub literalRight : Run
 literalRight = do
-    one ← lit (pos 1)
-    s ← add x0 one
-    two ← lit (pos 2)
-    add s two
+  one ← lit (pos 1)
+  s ← add x0 one
+  two ← lit (pos 2)
+  add s two
 
 -- (x0 × x0) × x0
 unfoldable pub cube : Run
 cube = do
-    s ← mul x0 x0
-    mul s x0
+  s ← mul x0 x0
+  mul s x0
 
 -- x0 := 2 in x0 × x1
 unfoldable pub substituted : Run
 substituted = do
-    p ← mul x0 x1
-    two ← lit (pos 2)
-    substituteVar p 0 two
+  p ← mul x0 x1
+  two ← lit (pos 2)
+  substituteVar p 0 two
 
 -- `derive` of x0^3
 unfoldable pub derivedCube : Run
 derivedCube = do
-    p ← pow x0 3
-    derive p 0
+  p ← pow x0 3
+  derive p 0
 
 -- `derive` of x0/x1 by x0
 unfoldable pub derivedQuotient : Run
 derivedQuotient = do
-    q ← calls depth .div-at x0 x1
-    derive q 0
+  q ← calls depth .div-at x0 x1
+  derive q 0
 
 unfoldable pub square : Run
 square = mul x0 x0
@@ -92,21 +92,21 @@ exponential = calls depth .exp-at x0
 -- `pow` of literal 0 by 0
 unfoldable pub zeroToTheZeroth : Run
 zeroToTheZeroth = do
-    z ← lit (pos 0)
-    pow z 0
+  z ← lit (pos 0)
+  pow z 0
 
 -- exp(1)
 unfoldable pub expOfOne : Run
 expOfOne = do
-    one ← lit (pos 1)
-    calls depth .exp-at one
+  one ← lit (pos 1)
+  calls depth .exp-at one
 
 -- 1/2
 unfoldable pub half : Run
 half = do
-    one ← lit (pos 1)
-    two ← lit (pos 2)
-    calls depth .div-at one two
+  one ← lit (pos 1)
+  two ← lit (pos 2)
+  calls depth .div-at one two
 
 -- the statement
 pub record Starred : Type 0 where

@@ -87,26 +87,26 @@ expandNode v x order down term (Variable u) = ofVariable (eqb u v) term v x orde
 -- Lit(_) => Constant(term)
 expandNode v x order down term (Lit z) = yield (Constant term)
 expandNode v x order down term (Add a b) = do
-    s ← down a
-    t ← down b
-    lift (addTo s t)
+  s ← down a
+  t ← down b
+  lift (addTo s t)
 expandNode v x order down term (Mul a b) = do
-    s ← down a
-    t ← down b
-    lift (times s t)
+  s ← down a
+  t ← down b
+  lift (times s t)
 expandNode v x order down term (Div a b) = do
-    s ← down a
-    t ← down b
-    lift (quotient s t)
+  s ← down a
+  t ← down b
+  lift (quotient s t)
 expandNode v x order down term (Exp a) = do
-    s ← down a
-    lift (exponential s)
+  s ← down a
+  lift (exponential s)
 expandNode v x order down term (Log a) = do
-    s ← down a
-    lift (logarithm s)
+  s ← down a
+  lift (logarithm s)
 expandNode v x order down term (Pow a e) = do
-    s ← down a
-    lift (power s e)
+  s ← down a
+  lift (power s e)
 -- Max(..) => panic: 10
 expandNode v x order down term (Max a b) = refuse maxReached
 

@@ -68,8 +68,8 @@ neg a = node (calls depth .neg-at a)
 -- self + (-rhs)
 abbrev pub sub : ℕ → ℕ → Work ℕ
 sub a b = do
-    n ← neg b
-    add a n
+  n ← neg b
+  add a n
 
 abbrev pub exp : ℕ → Work ℕ
 exp a = node (calls depth .exp-at a)
@@ -88,29 +88,29 @@ at cs i = getD cs i 0
 unfoldable pub each : (ℕ → Work ℕ) → List ℕ → Work (List ℕ)
 each f [] = yield []
 each f (c ∷ cs) = do
-    r ← f c
-    rs ← each f cs
-    yield (r ∷ rs)
+  r ← f c
+  rs ← each f cs
+  yield (r ∷ rs)
 
 -- for the entries of two lists side by side, up to the shorter length
 unfoldable pub eachTwo : (ℕ → ℕ → Work ℕ) → List ℕ → List ℕ → Work (List ℕ)
 eachTwo f [] ws = yield []
 eachTwo f (u ∷ us) [] = yield []
 eachTwo f (u ∷ us) (w ∷ ws) = do
-    r ← f u w
-    rs ← eachTwo f us ws
-    yield (r ∷ rs)
+  r ← f u w
+  rs ← eachTwo f us ws
+  yield (r ∷ rs)
 
 -- (j .. j + todo).fold(acc, f)
 unfoldable pub fold : (ℕ → ℕ → Work ℕ) → ℕ → ℕ → ℕ → Work ℕ
 fold f j zero acc = yield acc
 fold f j (suc todo) acc = do
-    next ← f acc j
-    fold f (suc j) todo next
+  next ← f acc j
+  fold f (suc j) todo next
 
 -- for k in res.len() .. res.len() + todo { res[k] = f(res, k) }
 unfoldable pub fill : (List ℕ → ℕ → Work ℕ) → ℕ → List ℕ → Work (List ℕ)
 fill f zero res = yield res
 fill f (suc todo) res = do
-    c ← f res (length res)
-    fill f todo (res ++ (c ∷ []))
+  c ← f res (length res)
+  fill f todo (res ++ (c ∷ []))

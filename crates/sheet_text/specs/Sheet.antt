@@ -1,0 +1,106 @@
+-- The coefficient sheet, from the bytes of nodes.bin and of the line: the whole text that the program `sheet` prints.
+-- Assumes nothing.
+use mathlib.Core.Bool.{Bool, true, false}
+use mathlib.Core.List.{List, [], _∷_, _++_}
+use Prim.Native.Nat.{ℕ, suc}
+use lib.Dec.{leb}
+use lib.IntN.{ℤ}
+use lib.ListN.{length, replicate}
+use Rattle.refusals.specs.Refusals.{unknownVariable, notLiteral, wrongOrder, noRoom}
+use Rattle.literal.specs.Literal.{isLiteral}
+use Rattle.text.specs.Text.{decimal, signedDecimal}
+use Rattle.pool.specs.Nodes.{greatestVariable}
+use Rattle.pool.specs.Pool.{Pool, pool, Out, done, refused, limit, nodeAt}
+use Rattle.shape.specs.File.{readFile}
+use Rattle.walks.specs.Print.{textOf, longestText}
+use Rattle.taylor.specs.Work.{Result, gives, refused-work}
+use Rattle.taylor.specs.Expansion.{Expansion, Constant, Polynomial}
+use Rattle.taylor.specs.Expand.{Point, none, point, expand}
+use Rattle.sheet_text.specs.Line.{Line, usage, asks, parse}
+
+-- "An order is above 24"
+abbrev pub greatestOrder : ℕ
+greatestOrder = 24
+
+-- the texts of the coefficients, or a refusal number
+pub data Coefficients : Type 0 where
+  texts : List (List ℕ) → Coefficients
+  refusal : ℕ → Coefficients
+
+abbrev pub demand : Bool → ℕ → Coefficients → Coefficients
+demand true k c = c
+demand false k c = refusal k
+
+-- "19 here means one coefficient's text above 65,535 bytes"
+abbrev pub printed : List ℕ → Coefficients → Coefficients
+printed text (texts more) = demand (leb (length text) longestText) noRoom (texts (text ∷ more))
+printed text (refusal k) = refusal k
+
+abbrev pub printAll : Pool → List ℕ → Coefficients
+printAll P [] = texts []
+printAll P (c ∷ cs) = printed (textOf (nodeAt P) c) (printAll P cs)
+
+-- "A constant has the line for index 0 only."
+abbrev pub coefficientsOf : Result Expansion → Coefficients
+coefficientsOf (gives (Constant c) P) = printAll P (c ∷ [])
+coefficientsOf (gives (Polynomial cs) P) = printAll P cs
+coefficientsOf (refused-work k) = refusal k
+
+-- an empty pool
+unfoldable pub empty : Pool
+empty = pool (replicate limit 0) (replicate limit 0) 0 limit
+
+abbrev pub expandRoot : ℕ → ℕ → Point → Out → Coefficients
+expandRoot v order x (done root P) = coefficientsOf (expand root v x order P)
+expandRoot v order x (refused k) = refusal k
+
+abbrev pub isPoint : Point → Bool
+isPoint none = true
+isPoint (point z) = isLiteral z
+
+-- "File and line then count as the arguments of one call, smallest number first": 3, 4, 5 of the line, 7, 8, 9 of the file, then the work
+unfoldable pub coefficients : List ℕ → ℕ → ℕ → Point → Coefficients
+unfolding empty
+coefficients file v order x =
+    demand (leb v greatestVariable) unknownVariable
+    (demand (isPoint x) notLiteral
+    (demand (leb order greatestOrder) wrongOrder
+    (expandRoot v order x (readFile file empty))))
+
+-- the bytes of a line end, " ", ": ", "usage", "refused " and "none"
+abbrev pub lineEnd : List ℕ
+lineEnd = 10 ∷ []
+
+abbrev pub space : List ℕ
+space = 32 ∷ []
+
+abbrev pub colon : List ℕ
+colon = 58 ∷ 32 ∷ []
+
+abbrev pub usageText : List ℕ
+usageText = 117 ∷ 115 ∷ 97 ∷ 103 ∷ 101 ∷ []
+
+abbrev pub refusedText : List ℕ
+refusedText = 114 ∷ 101 ∷ 102 ∷ 117 ∷ 115 ∷ 101 ∷ 100 ∷ 32 ∷ []
+
+abbrev pub pointText : Point → List ℕ
+pointText none = 110 ∷ 111 ∷ 110 ∷ 101 ∷ []
+pointText (point z) = signedDecimal z
+
+-- "each further line an index and its coefficient"
+unfoldable pub linesFrom : ℕ → List (List ℕ) → List ℕ
+linesFrom k [] = []
+linesFrom k (text ∷ more) = decimal k ++ colon ++ text ++ lineEnd ++ linesFrom (suc k) more
+
+-- "Line one is variable, order, point or `none`"; "A refusal prints `refused`, one space and the number as the only line"
+abbrev pub sheetText : ℕ → ℕ → Point → Coefficients → List ℕ
+sheetText v order x (refusal k) = refusedText ++ decimal k ++ lineEnd
+sheetText v order x (texts cs) = decimal v ++ space ++ decimal order ++ space ++ pointText x ++ lineEnd ++ linesFrom 0 cs
+
+-- "Anything else prints `usage`, before the file is looked at."
+abbrev pub answerTo : List ℕ → Line → List ℕ
+answerTo file usage = usageText ++ lineEnd
+answerTo file (asks v order x) = sheetText v order x (coefficients file v order x)
+
+unfoldable pub sheet : List ℕ → List ℕ → List ℕ
+sheet file line = answerTo file (parse line)

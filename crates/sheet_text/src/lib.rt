@@ -1,0 +1,1 @@
+// The definition of the coefficient sheet, in specs/; there is no code here.
