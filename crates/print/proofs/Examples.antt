@@ -1,0 +1,54 @@
+-- Small expressions as text, computed from the definitions.
+-- Assumes nothing.
+use mathlib.Core.Path.{_≡_, refl}
+use mathlib.Core.Bool.{true, false}
+use mathlib.Core.List.{[], _∷_}
+use Prim.Native.Nat.{ℕ}
+use lib.ListN.{getD}
+use Rattle.pool.specs.declared.node.Node.{Node}
+use Rattle.pool.specs.declared.node.Node.the-variants.{Empty, Variable, Add, Mul, Div, Exp, Pow, Max}
+use Rattle.text.specs.Text.{decimal, digitsWithin, display}
+use Rattle.walks.specs.Print.{textBelow, textOf, hasMaxBelow, hasMax}
+
+-- node 3 is b*c, 4 is a/(b*c), 5 is a + b, 6 is (a + b)*c, 8 is exp of a twelfth power, and 9 is a Max
+pub nodes : ℕ → Node
+nodes i =
+    getD
+    (Variable 0
+    ∷ Variable 1
+    ∷ Variable 2
+    ∷ Mul 1 2
+    ∷ Div 0 3
+    ∷ Add 0 1
+    ∷ Mul 5 2
+    ∷ Pow 4 12
+    ∷ Exp 7
+    ∷ Max 8 0
+    ∷ [])
+    i
+    Empty
+
+-- "a/(b*c)"
+pub a-product-below : textOf nodes 4 ≡ 97 ∷ 47 ∷ 40 ∷ 98 ∷ 42 ∷ 99 ∷ 41 ∷ []
+unfolding nodes textBelow display decimal digitsWithin
+a-product-below = refl
+
+-- "(a + b)*c"
+pub a-sum-as-factor : textOf nodes 6 ≡ 40 ∷ 97 ∷ 32 ∷ 43 ∷ 32 ∷ 98 ∷ 41 ∷ 42 ∷ 99 ∷ []
+unfolding nodes textBelow display decimal digitsWithin
+a-sum-as-factor = refl
+
+-- "exp((a/(b*c))^12)"
+pub a-quotient-as-base :
+    textOf nodes 8
+    ≡ 101 ∷ 120 ∷ 112 ∷ 40 ∷ 40 ∷ 97 ∷ 47 ∷ 40 ∷ 98 ∷ 42 ∷ 99 ∷ 41 ∷ 41 ∷ 94 ∷ 49 ∷ 50 ∷ 41 ∷ []
+unfolding nodes textBelow display decimal digitsWithin
+a-quotient-as-base = refl
+
+pub no-max-reached : hasMax nodes 8 ≡ false
+unfolding nodes hasMaxBelow
+no-max-reached = refl
+
+pub max-reached : hasMax nodes 9 ≡ true
+unfolding nodes hasMaxBelow
+max-reached = refl

@@ -1,0 +1,6 @@
+pub mod Writing
+pub mod Bounded
+pub mod Fmt
+pub mod Found
+pub mod Theorems
+pub mod Examples

@@ -1,0 +1,65 @@
+-- `print::max::fill` meets its contract: after each turn the table has the answers of the nodes that were passed.
+-- Assumes nothing.
+use native.Mathlib.Omega.{arith}
+use mathlib.Core.Path.{_≡_, _∙_, ap}
+use Prim.Native.Nat.{_≤_, _-_}
+use Rattle.pool.specs.Pool.{nodeIn}
+use Rattle.walks.specs.Print.{nodeHasMax}
+use Rattle.print.specs.Kept.{FoundBelow}
+use Rattle.print.proofs.Found.{none-found, one-more-found}
+use Rattle.print.proofs.max.fill.Statement.{statement}
+use Rattle.print.proofs.max.fill.Tie as tie
+
+abbrev Inv-loop : tie.InvT-loop
+Inv-loop kinds words found₀ end i₀ found i = (i ≤ end) × FoundBelow (nodeIn kinds words) i found
+
+abbrev μ-loop : tie.MeasureT-loop
+μ-loop kinds words found₀ end i₀ found i = end - i
+
+loop-holds : tie.Need-loop-holds Inv-loop μ-loop
+loop-holds c = (omega arith, none-found _ _ (c .pre .0))
+
+node-at-requires : tie.Need-node-at-requires Inv-loop μ-loop
+node-at-requires c κs = tt
+
+node-has-max-requires : tie.Need-node-has-max-requires Inv-loop μ-loop
+node-has-max-requires c κs = omega (arith, c .before .before .loop-test .taken, c .before .before .before .before .pre .1)
+
+cast-found : tie.Need-cast-found Inv-loop μ-loop
+cast-found c = omega (arith, c .before .before .before .loop-test .taken, c .before .before .before .before .before .pre .1)
+
+element-write-found : tie.Need-element-write-found Inv-loop μ-loop
+element-write-found c = omega (arith, c .before .before .before .loop-test .taken, c .before .before .before .before .before .pre .1)
+
+add-i : tie.Need-add-i Inv-loop μ-loop
+add-i c = omega (arith, c .before .before .before .loop-test .taken, c .before .before .before .before .before .pre .1)
+
+loop-less : tie.Need-loop-less Inv-loop μ-loop
+loop-less c = omega (arith, c .before .before .before .loop-test .taken)
+
+loop-again : tie.Need-loop-again Inv-loop μ-loop
+loop-again c =
+    let turn = c .before .before .before .loop-test .taken in
+    let inv = c .before .before .before .before .loop .inv in
+    (omega (arith, turn), one-more-found (inv .1) _ (omega (arith, turn, c .before .before .before .before .before .pre .1)) (c .node-has-max .ensures ∙ ap (nodeHasMax _) (c .before .node-at .ensures)))
+
+returns : tie.Need-returns Inv-loop μ-loop
+returns c =
+    let ended : c .before .loop .i ≡ c .before .before .args .end = omega (arith, c .before .loop .inv .0, c .loop-test .left) in
+    rw ended at (c .before .loop .inv .1)
+
+pub fill-spec : {M : Type 1} → statement M
+fill-spec =
+    tie.close
+    (tie.spec
+    Inv-loop
+    μ-loop
+    loop-holds
+    node-at-requires
+    node-has-max-requires
+    cast-found
+    element-write-found
+    add-i
+    loop-less
+    loop-again
+    returns)

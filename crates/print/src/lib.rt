@@ -1,0 +1,9 @@
+// Printing: whether a Max is reached, how long the text is, and the text itself.
+mod max;
+mod output;
+mod walk;
+
+pub use max::has_max;
+pub use output::TEXT_MAX;
+pub use walk::print_into;
+pub use walk::text_length;
