@@ -1,0 +1,37 @@
+// Printing as a call from outside.
+ghost use mathlib.Core.Path.{_≡_};
+ghost use Rattle.engine_print.specs.Printing.{put, printCall};
+use pool::LIMIT;
+
+// How many bytes were written, or the refusal number.
+pub enum Written {
+    Length(u64),
+    Refused(u32),
+}
+
+// The text of an expression, into a lent output.
+pub fn print(kinds: &[u8], words: &[u64], count: u64, root: u64, out: &mut [u8]) -> Written
+    ensures { λ r. ⌜ put r (now (out .exit)) ≡ printCall (now (kinds .entry)) (now (words .entry)) count root (now (out .entry)) ⌝ }
+{
+    let mut k = [0u8; LIMIT];
+    let mut w = [0u64; LIMIT];
+    if !lent::take_in(kinds, words, count, &mut k, &mut w) {
+        return Written::Refused(refusals::BROKEN_POOL);
+    }
+    if !lent::one_given(count, root) {
+        return Written::Refused(refusals::UNKNOWN_NODE);
+    }
+    let node = root as u32;
+    if print::has_max(&k, &w, node) {
+        return Written::Refused(refusals::MAX_REACHED);
+    }
+    let length = print::text_length(&k, &w, node) as usize;
+    if print::TEXT_MAX < length {
+        return Written::Refused(refusals::NO_ROOM);
+    }
+    if out.len() < length {
+        return Written::Refused(refusals::NO_ROOM);
+    }
+    print::print_into(&k, &w, node, out);
+    Written::Length(length as u64)
+}
