@@ -1,0 +1,45 @@
+-- The ways in which a call that prints ends, in the order of their refusals.
+-- Assumes nothing.
+use mathlib.Core.Path.{_≡_, refl, sym, ap, _∙_}
+use mathlib.Core.Bool.{Bool, true, false, not, _&&_}
+use mathlib.Core.List.{List, [], _∷_, _++_}
+use Prim.Native.Nat.{ℕ, _≤_, _<_}
+use lib.ListN.{length, drop}
+use borrow.Author.Tests.{le-leb, lt-leb}
+use Rattle.refusals.specs.Refusals.{brokenPool, unknownNode, maxReached, noRoom}
+use Rattle.pool.specs.Nodes.{allBelow}
+use Rattle.pool.specs.Pool.{nodeIn, isPool}
+use Rattle.walks.specs.Print.{textOf, hasMax, longestText}
+use Rattle.engine_print.specs.Printing.{Put, put, printCall}
+use Rattle.engine_print.specs.declared.Written.the-variants.{Length, Refused}
+
+module _ (ks ws : List ℕ) (n root : ℕ) (out : List ℕ) where
+  pub not-a-pool : isPool ks ws n ≡ false → put (Refused brokenPool) out ≡ printCall ks ws n root out
+  unfolding printCall
+  not-a-pool e = rw e
+
+  module _ (p : isPool ks ws n ≡ true) where
+    pub not-a-node : allBelow n (root ∷ []) ≡ false → put (Refused unknownNode) out ≡ printCall ks ws n root out
+    unfolding printCall
+    not-a-node e = rw (p, e)
+
+    module _ (g : allBelow n (root ∷ []) ≡ true) where
+      pub has-a-max : hasMax (nodeIn ks ws) root ≡ true → put (Refused maxReached) out ≡ printCall ks ws n root out
+      unfolding printCall
+      has-a-max e = rw (p, g, e)
+
+      module _ (m : hasMax (nodeIn ks ws) root ≡ false) where
+        pub too-long : longestText < length (textOf (nodeIn ks ws) root) → put (Refused noRoom) out ≡ printCall ks ws n root out
+        unfolding printCall
+        too-long h = rw (p, g, m, lt-leb (length (textOf (nodeIn ks ws) root)) longestText h)
+
+        module _ (s : length (textOf (nodeIn ks ws) root) ≤ longestText) where
+          pub no-room-for-it : length out < length (textOf (nodeIn ks ws) root) → put (Refused noRoom) out ≡ printCall ks ws n root out
+          unfolding printCall
+          no-room-for-it h =
+              rw (p, g, m, le-leb (length (textOf (nodeIn ks ws) root)) longestText s, lt-leb (length (textOf (nodeIn ks ws) root)) (length out) h)
+
+          pub printed : {len : ℕ} {out′ : List ℕ} → length (textOf (nodeIn ks ws) root) ≤ length out → len ≡ length (textOf (nodeIn ks ws) root) → out′ ≡ textOf (nodeIn ks ws) root ++ drop (length (textOf (nodeIn ks ws) root)) out → put (Length len) out′ ≡ printCall ks ws n root out
+          unfolding printCall
+          printed h e o =
+              rw (p, g, m, le-leb (length (textOf (nodeIn ks ws) root)) longestText s, le-leb (length (textOf (nodeIn ks ws) root)) (length out) h, e, o)
