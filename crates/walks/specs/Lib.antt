@@ -4,3 +4,4 @@ pub mod Derive
 pub mod Evaluate
 pub mod EvaluateResidue
 pub mod Print
+pub mod Kept

@@ -1,0 +1,61 @@
+-- `evaluate::apply` meets its contract: each arm is the operation that it names.
+-- Assumes nothing.
+use borrow.Author.Needs.{needs}
+use mathlib.Core.Path.{_≡_, sym, ap, _∙_}
+use Rattle.double.specs.declared.Valued.the-variants.{Double}
+use Rattle.evaluate.specs.Operations.{applied}
+use Rattle.evaluate.proofs.apply.Statement.{statement}
+use Rattle.evaluate.proofs.apply.Tie as tie
+
+enum-told : tie.Need-enum-told
+enum-told c = search needs
+
+sum-requires : tie.Need-sum-requires
+sum-requires c κs = search needs
+
+enum-told-2 : tie.Need-enum-told-2
+enum-told-2 c = search needs
+
+product-requires : tie.Need-product-requires
+product-requires c κs = search needs
+
+enum-told-3 : tie.Need-enum-told-3
+enum-told-3 c = search needs
+
+quotient-requires : tie.Need-quotient-requires
+quotient-requires c κs = search needs
+
+enum-told-4 : tie.Need-enum-told-4
+enum-told-4 c = search needs
+
+max-requires : tie.Need-max-requires
+max-requires c κs = search needs
+
+returns : tie.Need-returns
+returns c = ap Double (c .sum .ensures) ∙ ap (λ op. applied op (c .before .before .before .args .x) (c .before .before .before .args .y)) (sym (c .before .enum-told .given .1))
+
+returns-2 : tie.Need-returns-2
+returns-2 c = ap Double (c .product .ensures) ∙ ap (λ op. applied op (c .before .before .before .args .x) (c .before .before .before .args .y)) (sym (c .before .enum-told2 .given .1))
+
+returns-3 : tie.Need-returns-3
+returns-3 c = ap Double (c .quotient .ensures) ∙ ap (λ op. applied op (c .before .before .before .args .x) (c .before .before .before .args .y)) (sym (c .before .enum-told3 .given .1))
+
+returns-4 : tie.Need-returns-4
+returns-4 c = ap Double (c .max .ensures) ∙ ap (λ op. applied op (c .before .before .before .args .x) (c .before .before .before .args .y)) (sym (c .before .enum-told4 .given .1))
+
+pub apply-spec : {M : Type 1} → statement M
+apply-spec =
+    tie.close
+    (tie.spec
+    enum-told
+    sum-requires
+    enum-told-2
+    product-requires
+    enum-told-3
+    quotient-requires
+    enum-told-4
+    max-requires
+    returns
+    returns-2
+    returns-3
+    returns-4)

@@ -1,0 +1,4 @@
+pub mod Bounded
+pub mod Reached
+pub mod Tables
+pub mod Keeping
