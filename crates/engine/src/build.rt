@@ -82,6 +82,27 @@ pub fn add(kinds: &mut [u8], words: &mut [u64], count: &mut u64, lhs: u64, rhs: 
     lent::finish(kinds, words, count, &k, &w, made)
 }
 
+// `SymGenFunKind::mul`.
+pub fn mul(kinds: &mut [u8], words: &mut [u64], count: &mut u64, lhs: u64, rhs: u64) -> Answer
+    ensures { λ r. ⌜ left r (now (kinds .exit)) (now (words .exit)) (now (count .exit)) ≡ onPool (givenNodes (lhs ∷ rhs ∷ []) (calls depth .mul-at lhs rhs)) (now (kinds .entry)) (now (words .entry)) (now (count .entry)) ⌝ }
+{
+    let mut k = [0u8; LIMIT];
+    let mut w = [0u64; LIMIT];
+    let n = *count;
+    if !lent::take_in(kinds, words, n, &mut k, &mut w) {
+        return Answer::Refused(refusals::BROKEN_POOL);
+    }
+    if !lent::both_given(n, lhs, rhs) {
+        return Answer::Refused(refusals::UNKNOWN_NODE);
+    }
+    let room = Room {
+        count: n as u32,
+        end: LIMIT as u32,
+    };
+    let made = muls::mul_in(&mut k, &mut w, room, DEPTH, lhs as u32, rhs as u32);
+    lent::finish(kinds, words, count, &k, &w, made)
+}
+
 // `SymGenFunKind::div`.
 pub fn div(kinds: &mut [u8], words: &mut [u64], count: &mut u64, lhs: u64, rhs: u64) -> Answer
     ensures { λ r. ⌜ left r (now (kinds .exit)) (now (words .exit)) (now (count .exit)) ≡ onPool (givenNodes (lhs ∷ rhs ∷ []) (calls depth .div-at lhs rhs)) (now (kinds .entry)) (now (words .entry)) (now (count .entry)) ⌝ }
@@ -124,6 +145,48 @@ pub fn max(kinds: &mut [u8], words: &mut [u64], count: &mut u64, lhs: u64, rhs: 
     lent::finish(kinds, words, count, &k, &w, made)
 }
 
+// `SymGenFunKind::neg`.
+pub fn neg(kinds: &mut [u8], words: &mut [u64], count: &mut u64, arg: u64) -> Answer
+    ensures { λ r. ⌜ left r (now (kinds .exit)) (now (words .exit)) (now (count .exit)) ≡ onPool (givenNodes (arg ∷ []) (calls depth .neg-at arg)) (now (kinds .entry)) (now (words .entry)) (now (count .entry)) ⌝ }
+{
+    let mut k = [0u8; LIMIT];
+    let mut w = [0u64; LIMIT];
+    let n = *count;
+    if !lent::take_in(kinds, words, n, &mut k, &mut w) {
+        return Answer::Refused(refusals::BROKEN_POOL);
+    }
+    if !lent::one_given(n, arg) {
+        return Answer::Refused(refusals::UNKNOWN_NODE);
+    }
+    let room = Room {
+        count: n as u32,
+        end: LIMIT as u32,
+    };
+    let made = muls::neg_in(&mut k, &mut w, room, DEPTH, arg as u32);
+    lent::finish(kinds, words, count, &k, &w, made)
+}
+
+// `SymGenFunKind::exp`.
+pub fn exp(kinds: &mut [u8], words: &mut [u64], count: &mut u64, arg: u64) -> Answer
+    ensures { λ r. ⌜ left r (now (kinds .exit)) (now (words .exit)) (now (count .exit)) ≡ onPool (givenNodes (arg ∷ []) (calls depth .exp-at arg)) (now (kinds .entry)) (now (words .entry)) (now (count .entry)) ⌝ }
+{
+    let mut k = [0u8; LIMIT];
+    let mut w = [0u64; LIMIT];
+    let n = *count;
+    if !lent::take_in(kinds, words, n, &mut k, &mut w) {
+        return Answer::Refused(refusals::BROKEN_POOL);
+    }
+    if !lent::one_given(n, arg) {
+        return Answer::Refused(refusals::UNKNOWN_NODE);
+    }
+    let room = Room {
+        count: n as u32,
+        end: LIMIT as u32,
+    };
+    let made = muls::exp_in(&mut k, &mut w, room, DEPTH, arg as u32);
+    lent::finish(kinds, words, count, &k, &w, made)
+}
+
 // `SymGenFunKind::log`.
 pub fn log(kinds: &mut [u8], words: &mut [u64], count: &mut u64, arg: u64) -> Answer
     ensures { λ r. ⌜ left r (now (kinds .exit)) (now (words .exit)) (now (count .exit)) ≡ onPool (givenNodes (arg ∷ []) (calls depth .log-at arg)) (now (kinds .entry)) (now (words .entry)) (now (count .entry)) ⌝ }
@@ -142,5 +205,26 @@ pub fn log(kinds: &mut [u8], words: &mut [u64], count: &mut u64, arg: u64) -> An
         end: LIMIT as u32,
     };
     let made = logs::log_in(&mut k, &mut w, room, DEPTH, arg as u32);
+    lent::finish(kinds, words, count, &k, &w, made)
+}
+
+// `SymGenFunKind::pow`.
+pub fn pow(kinds: &mut [u8], words: &mut [u64], count: &mut u64, base: u64, exp: u32) -> Answer
+    ensures { λ r. ⌜ left r (now (kinds .exit)) (now (words .exit)) (now (count .exit)) ≡ onPool (givenNodes (base ∷ []) (calls depth .pow-at base exp)) (now (kinds .entry)) (now (words .entry)) (now (count .entry)) ⌝ }
+{
+    let mut k = [0u8; LIMIT];
+    let mut w = [0u64; LIMIT];
+    let n = *count;
+    if !lent::take_in(kinds, words, n, &mut k, &mut w) {
+        return Answer::Refused(refusals::BROKEN_POOL);
+    }
+    if !lent::one_given(n, base) {
+        return Answer::Refused(refusals::UNKNOWN_NODE);
+    }
+    let room = Room {
+        count: n as u32,
+        end: LIMIT as u32,
+    };
+    let made = muls::pow_in(&mut k, &mut w, room, DEPTH, base as u32, exp);
     lent::finish(kinds, words, count, &k, &w, made)
 }
