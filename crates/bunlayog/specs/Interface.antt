@@ -1,0 +1,30 @@
+-- What a C function leaves: its answer, 0 or the refusal number, and everything that was lent to it. "unchanged after a refusal" holds of the place for the node too.
+-- Assumes nothing.
+use mathlib.Core.List.{List}
+use Prim.Native.Nat.{ℕ}
+use Rattle.lent.specs.Call.{Left}
+use Rattle.lent.specs.declared.Answer.{Answer}
+use Rattle.lent.specs.declared.Answer.the-variants.{Node, Refused}
+
+pub record LeftInC : Type 0 where
+  pub answer : ℕ
+  pub kinds : List ℕ
+  pub words : List ℕ
+  pub count : ℕ
+  pub node : ℕ
+
+abbrev pub leftInC : ℕ → List ℕ → List ℕ → ℕ → ℕ → LeftInC
+leftInC r ks ws n i = record { answer = r; kinds = ks; words = ws; count = n; node = i }
+
+-- 0, or the refusal number
+abbrev pub numberOf : Answer → ℕ
+numberOf (Node i) = 0
+numberOf (Refused k) = k
+
+-- the answer's node, or what stood there before
+abbrev pub nodeOr : Answer → ℕ → ℕ
+nodeOr (Node i) before = i
+nodeOr (Refused k) before = before
+
+abbrev pub inC : ℕ → Left → LeftInC
+inC before l = leftInC (numberOf (l .answer)) (l .kinds) (l .words) (l .count) (nodeOr (l .answer) before)
