@@ -6,10 +6,10 @@ use Rattle.refusals.specs.Refusals.{notEvaluated}
 use Rattle.double.specs.Double.{powOf, maxOf}
 use Rattle.double.specs.declared.Valued.{Valued}
 use Rattle.double.specs.declared.Valued.the-variants.{Double, Refused}
-use Rattle.evaluate.specs.declared.Operation.{Operation}
-use Rattle.evaluate.specs.declared.Operation.the-variants.{Add, Mul, Div, Max}
+use Rattle.evaluate.specs.declared.Binary.{Binary}
+use Rattle.evaluate.specs.declared.Binary.the-variants.{Add, Mul, Div, Max}
 
-abbrev pub applied : Operation → Float → Float → Valued
+abbrev pub applied : Binary → Float → Float → Valued
 applied Add x y = Double (add binary64 x y)
 applied Mul x y = Double (mul binary64 x y)
 applied Div x y = Double (div binary64 x y)

@@ -40,21 +40,21 @@ fn power(part: Valued, e: u32) -> Valued
 }
 
 // What is done with the values of two parts.
-enum Operation {
+enum Binary {
     Add,
     Mul,
     Div,
     Max,
 }
 
-fn apply(op: Operation, x: f64, y: f64) -> Valued
+fn apply(op: Binary, x: f64, y: f64) -> Valued
     ensures { λ r. ⌜ r ≡ applied op x y ⌝ }
 {
     match op {
-        Operation::Add => Valued::Double(double::sum(x, y)),
-        Operation::Mul => Valued::Double(double::product(x, y)),
-        Operation::Div => Valued::Double(double::quotient(x, y)),
-        Operation::Max => Valued::Double(double::max(x, y)),
+        Binary::Add => Valued::Double(double::sum(x, y)),
+        Binary::Mul => Valued::Double(double::product(x, y)),
+        Binary::Div => Valued::Double(double::quotient(x, y)),
+        Binary::Max => Valued::Double(double::max(x, y)),
     }
 }
 
@@ -107,13 +107,13 @@ fn evaluate_node(
         Node::Empty => Valued::Refused(refusals::BROKEN_POOL),
         Node::Variable(v) => value_of_variable(values, v),
         Node::Lit(z) => double::of_literal(z),
-        Node::Add(a, b) => evaluate_both(kinds, words, values, kept, seen, i, a, b, Operation::Add),
-        Node::Mul(a, b) => evaluate_both(kinds, words, values, kept, seen, i, a, b, Operation::Mul),
-        Node::Div(a, b) => evaluate_both(kinds, words, values, kept, seen, i, a, b, Operation::Div),
+        Node::Add(a, b) => evaluate_both(kinds, words, values, kept, seen, i, a, b, Binary::Add),
+        Node::Mul(a, b) => evaluate_both(kinds, words, values, kept, seen, i, a, b, Binary::Mul),
+        Node::Div(a, b) => evaluate_both(kinds, words, values, kept, seen, i, a, b, Binary::Div),
         Node::Exp(a) => not_evaluated(evaluate_below(kinds, words, values, kept, seen, i, a)),
         Node::Log(a) => not_evaluated(evaluate_below(kinds, words, values, kept, seen, i, a)),
         Node::Pow(a, e) => power(evaluate_below(kinds, words, values, kept, seen, i, a), e),
-        Node::Max(a, b) => evaluate_both(kinds, words, values, kept, seen, i, a, b, Operation::Max),
+        Node::Max(a, b) => evaluate_both(kinds, words, values, kept, seen, i, a, b, Binary::Max),
     }
 }
 
@@ -127,7 +127,7 @@ fn evaluate_both(
     i: u32,
     a: u32,
     b: u32,
-    op: Operation,
+    op: Binary,
 ) -> Valued
     requires { ⌜ i < limit ⌝ }
     requires { ⌜ Keeps (nodeIn (now kinds) (now words)) (now values) (now kept) (now seen) ⌝ }

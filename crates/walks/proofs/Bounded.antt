@@ -28,3 +28,12 @@ module _ {A : Type 0} {none : A} {visit : (ℕ → A) → ℕ → A} {walk : ℕ
   pub above : (k a : ℕ) → k ≤ a → none ≡ walk k a
   above zero a h = sym (bounded .ends a)
   above (suc k) a h = above k a (omega arith) ∙ sym (bounded .passes k a (λ e. omega arith))
+
+  -- what holds of none and of each visit holds of each answer
+  pub throughout : (P : A → Type 0) → P none → ((down : ℕ → A) (k : ℕ) → P (visit down k)) → (k i : ℕ) → P (walk k i)
+  throughout P ended visited zero i = rw (bounded .ends i) ended
+  throughout P ended visited (suc k) i = go (ℕ-discrete i k) (throughout P ended visited k i)
+    where
+      go : Dec (i ≡ k) → P (walk k i) → P (walk (suc k) i)
+      go (yes e) less = rw (e, bounded .visits k) (visited (walk k) k)
+      go (no n) less = rw (bounded .passes k i n) less

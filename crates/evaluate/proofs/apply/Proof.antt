@@ -1,7 +1,7 @@
 -- `evaluate::apply` meets its contract: each arm is the operation that it names.
 -- Assumes nothing.
 use borrow.Author.Needs.{needs}
-use mathlib.Core.Path.{_≡_, sym, ap, _∙_}
+use mathlib.Core.Path.{sym, ap, _∙_}
 use Rattle.double.specs.declared.Valued.the-variants.{Double}
 use Rattle.evaluate.specs.Operations.{applied}
 use Rattle.evaluate.proofs.apply.Statement.{statement}

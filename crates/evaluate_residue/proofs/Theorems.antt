@@ -1,0 +1,40 @@
+-- The residue of an expression goes by the nodes that are reached from its root: two tables of nodes that agree there give one residue.
+-- Assumes nothing.
+use mathlib.Core.Path.{_≡_, refl}
+use mathlib.Core.List.{List, List·Memᴰ}
+use mathlib.Core.List.List·Memᴰ.{List·Memᴰ·head, List·Memᴰ·tail}
+use Prim.Native.Nat.{ℕ, _<_, _≤_}
+use Rattle.pool.specs.Nodes.{parts}
+use Rattle.pool.specs.declared.node.Node.{Node}
+use Rattle.pool.specs.declared.node.Node.the-variants.{Empty, Variable, Lit, Add, Mul, Div, Exp, Log, Pow, Max}
+use Rattle.walks.specs.EvaluateResidue.{residueNode, evaluateResidue}
+use Rattle.walks.proofs.Reached.{Reached, GoesByParts, agrees-on, agrees-on-reached, agrees-up-to}
+use Rattle.evaluate_residue.proofs.Parts.{residues-are-bounded}
+
+module _ (m : ℕ) (values : List ℕ) where
+  pub goes-by-parts : GoesByParts (residueNode m values)
+  goes-by-parts down down′ Empty same = refl
+  goes-by-parts down down′ (Variable v) same = refl
+  goes-by-parts down down′ (Lit z) same = refl
+  goes-by-parts down down′ (Add a b) same = rw (same a (List·Memᴰ·head refl), same b (List·Memᴰ·tail (List·Memᴰ·head refl)))
+  goes-by-parts down down′ (Mul a b) same = rw (same a (List·Memᴰ·head refl), same b (List·Memᴰ·tail (List·Memᴰ·head refl)))
+  goes-by-parts down down′ (Div a b) same = rw (same a (List·Memᴰ·head refl), same b (List·Memᴰ·tail (List·Memᴰ·head refl)))
+  goes-by-parts down down′ (Exp a) same = rw (same a (List·Memᴰ·head refl))
+  goes-by-parts down down′ (Log a) same = rw (same a (List·Memᴰ·head refl))
+  goes-by-parts down down′ (Pow a e) same = rw (same a (List·Memᴰ·head refl))
+  goes-by-parts down down′ (Max a b) same = rw (same a (List·Memᴰ·head refl), same b (List·Memᴰ·tail (List·Memᴰ·head refl)))
+
+  module _ (at at′ : ℕ → Node) (root : ℕ) where
+    -- a set of numbers that has the root and the parts of its own
+    pub residue-goes-by-a-closed-set :
+        (S : ℕ → Type 0) → ((i a : ℕ) → S i → List·Memᴰ a (parts (at i)) → a < i → S a) → ((i : ℕ) → S i → at i ≡ at′ i) → S root → evaluateResidue m at values root ≡ evaluateResidue m at′ values root
+    residue-goes-by-a-closed-set S closed agree here =
+        agrees-on goes-by-parts (residues-are-bounded m at values) (residues-are-bounded m at′ values) S closed agree root here
+
+    pub residue-goes-by-the-reached : ((i : ℕ) → Reached at root i → at i ≡ at′ i) → evaluateResidue m at values root ≡ evaluateResidue m at′ values root
+    residue-goes-by-the-reached agree =
+        agrees-on-reached goes-by-parts (residues-are-bounded m at values) (residues-are-bounded m at′ values) root agree
+
+    pub residue-goes-by-the-numbers-up-to : ((i : ℕ) → i ≤ root → at i ≡ at′ i) → evaluateResidue m at values root ≡ evaluateResidue m at′ values root
+    residue-goes-by-the-numbers-up-to agree =
+        agrees-up-to goes-by-parts (residues-are-bounded m at values) (residues-are-bounded m at′ values) root agree
