@@ -26,12 +26,16 @@ fn show(name: &[u8], answer: Answer, count: u64) {
     put(b"\n");
 }
 
+fn wide(x: u8) -> u64 {
+    x as u64
+}
+
 // One entry of a pool: its kind and the halves of its word.
 fn show_entry(kinds: &[u8], words: &[u64], i: usize) {
     if i < kinds.len() {
         if i < words.len() {
             put(b"  entry: kind ");
-            io::print_decimal(STDOUT_FILENO, kinds[i] as u64);
+            io::print_decimal(STDOUT_FILENO, wide(kinds[i]));
             put(b", ");
             io::print_decimal(STDOUT_FILENO, words[i] % 0x1_0000_0000);
             put(b", ");
@@ -41,13 +45,21 @@ fn show_entry(kinds: &[u8], words: &[u64], i: usize) {
     }
 }
 
-fn set(kinds: &mut [u8], words: &mut [u64], i: usize, kind: u8, word: u64) {
+fn set_kind(kinds: &mut [u8], i: usize, kind: u8) {
     if i < kinds.len() {
         kinds[i] = kind;
     }
+}
+
+fn set_word(words: &mut [u64], i: usize, word: u64) {
     if i < words.len() {
         words[i] = word;
     }
+}
+
+fn set(kinds: &mut [u8], words: &mut [u64], i: usize, kind: u8, word: u64) {
+    set_kind(kinds, i, kind);
+    set_word(words, i, word);
 }
 
 // Variables 0 from one number to another.
@@ -59,19 +71,15 @@ fn fill(kinds: &mut [u8], words: &mut [u64], from: usize, to: usize) {
     }
 }
 
-// x0, x1 and the literal 2, then x1 under nested Mul, each with the left part literal 2. Gives the top's number.
-fn nest(kinds: &mut [u8], words: &mut [u64], levels: u64) -> u64 {
-    set(kinds, words, 0, 1, 0);
-    set(kinds, words, 1, 1, 1);
-    set(kinds, words, 2, 2, 2);
-    let mut top = 1;
-    let mut at = 3;
-    while at < levels + 3 {
-        set(kinds, words, at as usize, 4, 2 + 0x1_0000_0000 * top);
+// x1 under nested Mul, each with the left part literal 2, which is node 2: from node 3 on.
+fn nest(kinds: &mut [u8], words: &mut [u64], end: u32) {
+    let mut top: u32 = 1;
+    let mut at: u32 = 3;
+    while at < end {
+        set(kinds, words, at as usize, 4, 2 + 0x1_0000_0000 * (top as u64));
         top = at;
         at += 1;
     }
-    top
 }
 
 fn powers(exponent: u32) {
@@ -87,13 +95,20 @@ fn powers(exponent: u32) {
     show_entry(&kinds, &words, 4);
 }
 
-fn nested(levels: u64) {
+// The pool has x0, x1 and the literal 2 before the nested products, and their top is its last node.
+fn nested(count: u32) {
     let mut kinds = [0u8; LIMIT];
     let mut words = [0u64; LIMIT];
-    let top = nest(&mut kinds, &mut words, levels);
-    let mut n = levels + 3;
-    let r = engine::mul(&mut kinds, &mut words, &mut n, top, 0);
-    show(b"x1 under nested Mul, times x0", r, n);
+    set(&mut kinds, &mut words, 0, 1, 0);
+    set(&mut kinds, &mut words, 1, 1, 1);
+    set(&mut kinds, &mut words, 2, 2, 2);
+    nest(&mut kinds, &mut words, count);
+    let mut n = count as u64;
+    if 0 < n {
+        let top = n - 1;
+        let r = engine::mul(&mut kinds, &mut words, &mut n, top, 0);
+        show(b"x1 under nested Mul, times x0", r, n);
+    }
 }
 
 fn full() {
@@ -166,38 +181,44 @@ fn entries() {
     entry(b"one past it", 2, 0xffe0_0000_0000_0000);
 }
 
-// A pool of x0 in tables of other lengths, with another count, or with something past the count.
-fn lengths(name: &[u8], kinds: &mut [u8], words: &mut [u64], count: u64) {
-    set(kinds, words, 0, 1, 0);
+// A call on the first entries of two tables.
+fn lengths(name: &[u8], kinds: &mut [u8], words: &mut [u64], kinds_len: usize, words_len: usize, count: u64) {
     let mut n = count;
-    let r = engine::exp(kinds, words, &mut n, 0);
-    show(name, r, n);
+    if kinds_len <= kinds.len() {
+        if words_len <= words.len() {
+            let r = engine::exp(&mut kinds[..kinds_len], &mut words[..words_len], &mut n, 0);
+            show(name, r, n);
+        }
+    }
+}
+
+// A pool of x0 in tables of other lengths or with another count, and perhaps with something past the count.
+fn table(name: &[u8], kinds_len: usize, words_len: usize, count: u64, last_kind: u8, next_word: u64) {
+    let mut kinds = [0u8; 4097];
+    let mut words = [0u64; 4097];
+    kinds[0] = 1;
+    kinds[4095] = last_kind;
+    words[1] = next_word;
+    lengths(name, &mut kinds, &mut words, kinds_len, words_len, count);
 }
 
 fn tables() {
-    let mut kinds = [0u8; 4097];
-    let mut words = [0u64; 4097];
-    lengths(b"tables of 4096", &mut kinds[..4096], &mut words[..4096], 1);
-    kinds = [0u8; 4097];
-    words = [0u64; 4097];
-    lengths(b"4095 kinds", &mut kinds[..4095], &mut words[..4096], 1);
-    lengths(b"4097 kinds", &mut kinds, &mut words[..4096], 1);
-    lengths(b"4095 words", &mut kinds[..4096], &mut words[..4095], 1);
-    lengths(b"no words", &mut kinds[..4096], &mut words[..0], 1);
-    lengths(b"count 4097", &mut kinds[..4096], &mut words[..4096], 4097);
-    lengths(b"count 0", &mut kinds[..4096], &mut words[..4096], 0);
-    kinds[4095] = 1;
-    lengths(b"a kind past the count", &mut kinds[..4096], &mut words[..4096], 1);
-    kinds[4095] = 0;
-    words[1] = 1;
-    lengths(b"a word past the count", &mut kinds[..4096], &mut words[..4096], 1);
+    table(b"tables of 4096", 4096, 4096, 1, 0, 0);
+    table(b"4095 kinds", 4095, 4096, 1, 0, 0);
+    table(b"4097 kinds", 4097, 4096, 1, 0, 0);
+    table(b"4095 words", 4096, 4095, 1, 0, 0);
+    table(b"no words", 4096, 0, 1, 0, 0);
+    table(b"count 4097", 4096, 4096, 4097, 0, 0);
+    table(b"count 0", 4096, 4096, 0, 0, 0);
+    table(b"a kind past the count", 4096, 4096, 1, 1, 0);
+    table(b"a word past the count", 4096, 4096, 1, 0, 1);
 }
 
 fn main() {
     powers(4_294_967_294);
     powers(4_294_967_295);
-    nested(199);
-    nested(200);
+    nested(202);
+    nested(203);
     full();
     literals();
     entries();
