@@ -1,0 +1,4 @@
+pub mod Growth
+pub mod Keeping
+pub mod Substitution
+pub mod Derivation
