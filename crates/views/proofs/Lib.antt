@@ -1,2 +1,3 @@
+pub mod Missed
 pub mod Patterns
 pub mod Steps
