@@ -29,9 +29,9 @@ module _ (visit : (ℕ → Walk) → ℕ → Walk) where
         walk-here visit (state P (resultsOf kept)) i ∙ ap (λ (w : ℕ). once (visit (walkBelow visit i)) i w (state P (resultsOf kept))) (result-read kept i ∙ ap resultOf e)
 
     -- a result that was kept is given again
-    pub given-again : {w : ℕ} → getD kept i 0 ≡ w → w ≢ 0 → went ((w - 1) % half) (state P (resultsOf kept)) ≡ walkBelow visit (i + 1) i (state P (resultsOf kept))
-    given-again {w} e n =
-        sym (at-word e ∙ ap (λ (v : ℕ). once (visit (walkBelow visit i)) i v (state P (resultsOf kept))) (result-there w n))
+    pub given-again : getD kept i 0 ≢ 0 → went ((getD kept i 0 - 1) % half) (state P (resultsOf kept)) ≡ walkBelow visit (i + 1) i (state P (resultsOf kept))
+    given-again n =
+        sym (at-word refl ∙ ap (λ (w : ℕ). once (visit (walkBelow visit i)) i w (state P (resultsOf kept))) (result-there (getD kept i 0) n))
 
     -- else the node is visited, and its result kept
     pub visited : {o : Went} → getD kept i 0 ≡ 0 → o ≡ bind (visit (walkBelow visit i) i (state P (resultsOf kept))) (keep i) → o ≡ walkBelow visit (i + 1) i (state P (resultsOf kept))
