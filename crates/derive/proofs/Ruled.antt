@@ -6,23 +6,13 @@ use native.Mathlib.Omega.{arith}
 use lib.IntN.{ℤ, pos}
 use mir.Syntax.{w32, w64}
 use mir.Val.{Fits, SFits}
-use Rattle.refusals.specs.Refusals.{brokenPool}
-use Rattle.pool.specs.declared.node.Node.{Node}
-use Rattle.pool.specs.declared.node.Node.the-variants.{Empty}
-use Rattle.pool.specs.Pool.{Pool, Out, nodeAt}
+use Rattle.pool.specs.Pool.{Pool, Out}
 use Rattle.constructors.specs.Build.{calls, depth}
-use Rattle.walks.specs.Walk.{State, Went, refused-walk, Walk}
-use Rattle.walks.specs.Derive.{lit, deriveNode, deriveAt}
+use Rattle.walks.specs.Walk.{State, Went}
+use Rattle.walks.specs.Derive.{lit}
 use Rattle.derive.specs.Rules.{ruleTwo, ruleOne}
 use Rattle.derive.specs.declared.rules.Two.{Two}
 use Rattle.derive.specs.declared.rules.One.{One}
-
--- the node x that was read was found to be y
-pub by-kind : (var : ℕ) (down : ℕ → Walk) (term : ℕ) (S : State) {x y : Node} {o : Went} → x ≡ nodeAt (S .pool) term → x ≡ y → o ≡ deriveNode var down term y S → o ≡ deriveAt var down term S
-by-kind var down term S e f h = h ∙ ap (λ (n : Node). deriveNode var down term n S) (sym f ∙ e)
-
-pub nothing-there : (var term : ℕ) (down : ℕ → Walk) (S : State) → nodeAt (S .pool) term ≡ Empty → deriveAt var down term S ≡ refused-walk brokenPool
-nothing-there var term down S e = ap (λ (n : Node). deriveNode var down term n S) e
 
 module _ (S : State) {o : Went} where
   pub by-two : (a b da db : ℕ) {op x : Two} → op ≡ x → o ≡ ruleTwo x a b da db S → o ≡ ruleTwo op a b da db S

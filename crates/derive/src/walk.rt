@@ -84,7 +84,12 @@ fn derive_node(
     let node = pool::node_at(kinds, words, term);
     match node {
         Node::Empty => Made::Refused(refusals::BROKEN_POOL),
-        Node::Variable(v) => crate::rules::lit_rule(kinds, words, room, crate::rules::slope(v, var)),
+        Node::Variable(v) => crate::rules::lit_rule(
+            kinds,
+            words,
+            room,
+            crate::rules::slope(v, var),
+        ),
         Node::Lit(_) => crate::rules::lit_rule(kinds, words, room, 0),
         Node::Add(a, b) => derive_two(kinds, words, kept, room, term, Two::Add, a, b, var),
         Node::Mul(a, b) => derive_two(kinds, words, kept, room, term, Two::Mul, a, b, var),

@@ -2,7 +2,6 @@
 -- Assumes nothing.
 use mathlib.Core.Path.{_≡_, refl, sym, ap, _∙_}
 use mathlib.Core.Logic.{_⊎_, inl, inr}
-use mathlib.Core.Bool.{true, false}
 use Prim.Native.Nat.{ℕ, zero, suc, _+_, _≤_, _<_}
 use native.Mathlib.Nat.{eq-or-lt-of-le}
 use native.Mathlib.Numerals.{add-one}
@@ -10,7 +9,7 @@ use native.Mathlib.Omega.{arith}
 use lib.ListN.{getD}
 use borrow.Author.Tests.{eq-eqb, ne-eqb}
 use Rattle.refusals.specs.Refusals.{brokenPool}
-use Rattle.walks.specs.Walk.{State, Went, refused-walk, Walk, once, walkBelow}
+use Rattle.walks.specs.Walk.{State, refused-walk, Walk, once, walkBelow}
 
 module _ (visit : (ℕ → Walk) → ℕ → Walk) (S : State) where
   here : (i : ℕ) → walkBelow visit (suc i) i S ≡ once (visit (walkBelow visit i)) i (getD (S .kept) i 0) S

@@ -12,7 +12,7 @@ use Rattle.pool.specs.declared.node.Node.the-variants.{Empty, Variable, Lit, Ad
 use Rattle.pool.specs.Nodes.{parts}
 use Rattle.pool.specs.Pool.{Pool, nodeAt}
 use Rattle.constructors.specs.Terms as terms
-use Rattle.constructors.specs.Build.{depth, literal, build, calls}
+use Rattle.constructors.specs.Build.{depth, literal, build}
 use Rattle.constructor_laws.specs.Keeps.{Keeps}
 use Rattle.constructor_laws.specs.Keeps as pools
 use Rattle.constructor_laws.proofs.Rules.{AllBelow, parts-below}
@@ -20,7 +20,7 @@ use Rattle.constructor_laws.proofs.Growth.{calls-grow, literal-grows}
 use Rattle.constructor_laws.proofs.Growth as runs
 use Rattle.constructor_laws.proofs.Keeping.{calls-keep, build-keeps}
 use Rattle.constructor_laws.proofs.Keeping as kept
-use Rattle.walks.specs.Walk.{State, Walk}
+use Rattle.walks.specs.Walk.{Walk}
 use Rattle.walks.specs.Derive.{lit, add, mul, div, neg, pow, pick, quotientRule, deriveNode, deriveAt, derive}
 use Rattle.walk_laws.proofs.Growth.{Growing, _>>=_, refuse-grows, lift-grows, GrowsAt, walk-grows}
 use Rattle.walk_laws.proofs.Keeping.{Keeping, refuse-keeps, next-keeps, lift-keeps, KeepsFrom, KeepsAt, parts-keep, walk-kept}

@@ -4,7 +4,6 @@ use mathlib.Core.Bool.{Bool, true, false}
 use Prim.Native.Nat.{ℕ, zero, suc}
 use lib.Dec.{eqb}
 use lib.ListN.{getD, replicate}
-use Rattle.refusals.specs.Refusals.{brokenPool}
 use Rattle.pool.specs.Pool.{Pool, Out, done, refused, Run, limit}
 use Rattle.constructor_laws.specs.Grown as pools
 use Rattle.constructor_laws.proofs.Growth as runs

@@ -1,6 +1,6 @@
 -- Every walk keeps the rules of the pool and answers a node of it, if what it does at a node does; results that are kept are nodes of the pool all along.
 -- Assumes nothing.
-use mathlib.Core.Path.{_≡_, refl, sym, ap, _∙_, subst}
+use mathlib.Core.Path.{_≡_, refl}
 use mathlib.Core.Bool.{Bool, true, false}
 use mathlib.Core.List.{List, [], _∷_}
 use Prim.Native.Nat.{ℕ, zero, suc, _≤_, _<_}
@@ -9,15 +9,14 @@ use native.Mathlib.Omega.{arith}
 use lib.Dec.{eqb}
 use lib.ListN.{getD, set, replicate}
 use borrow.Author.Tests.{eqb-true}
-use Rattle.refusals.specs.Refusals.{brokenPool}
 use Rattle.pool.specs.Pool.{Pool, Out, done, refused, Run, limit}
 use Rattle.constructor_laws.specs.Grown.{Grown}
-use Rattle.constructor_laws.specs.Keeps.{Keeps, Kept}
+use Rattle.constructor_laws.specs.Keeps.{Keeps}
 use Rattle.constructor_laws.specs.Keeps as pools
 use Rattle.constructor_laws.proofs.Growth.{grown-by-nothing, grown-by-both}
 use Rattle.constructor_laws.proofs.Keeping as runs
 use Rattle.walks.specs.Walk.{State, state, Went, went, refused-walk, Walk, bind, yield, refuse, lifted, lift, keep, once, choose, walkBelow, built, walkFrom}
-use Rattle.walk_laws.specs.Promised.{Results, Rightful, Walked, KeptBy}
+use Rattle.walk_laws.specs.Promised.{Rightful, Walked, KeptBy}
 
 -- a walk that keeps the rules of every pool with n nodes or more
 pub record Keeping (n : ℕ) (walk : Walk) : Type 0 where

@@ -3,12 +3,12 @@
 use mathlib.Core.Path.{_≡_, refl, sym, ap, _∙_}
 use mathlib.Core.List.{List}
 use Prim.Native.Nat.{ℕ}
-use Rattle.pool.specs.Pool.{Pool, Out, done, refused, Run}
+use Rattle.pool.specs.Pool.{Out, done, refused}
 use Rattle.pool.specs.Made.{made, poolOf}
 use Rattle.pool.specs.declared.table.Made.{Made}
 use Rattle.pool.specs.declared.table.Made.the-variants.{Node, Refused}
 use Rattle.pool.specs.declared.table.Room.{Room}
-use Rattle.walks.specs.Walk.{State, state, Went, Walk, bind, lifted, lift, built}
+use Rattle.walks.specs.Walk.{state, Went, Walk, bind, lifted, built}
 
 -- the step came to a node: what is left goes on from there
 pub onward :

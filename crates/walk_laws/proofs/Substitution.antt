@@ -17,7 +17,7 @@ use Rattle.constructor_laws.proofs.Rules.{AllBelow, parts-below}
 use Rattle.constructor_laws.proofs.Growth.{calls-grow}
 use Rattle.constructor_laws.proofs.Growth as runs
 use Rattle.constructor_laws.proofs.Keeping.{calls-keep}
-use Rattle.walks.specs.Walk.{State, Walk}
+use Rattle.walks.specs.Walk.{Walk}
 use Rattle.walks.specs.Substitute.{unless, pick, substituteNode, substituteAt, substituteVar}
 use Rattle.walk_laws.proofs.Growth.{Growing, _>>=_, yield-grows, refuse-grows, lift-grows, GrowsAt, walk-grows}
 use Rattle.walk_laws.proofs.Keeping.{Keeping, yield-keeps, refuse-keeps, next-keeps, lift-keeps, KeepsFrom, KeepsAt, parts-keep, walk-kept}

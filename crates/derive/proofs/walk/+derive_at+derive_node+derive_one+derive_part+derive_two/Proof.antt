@@ -7,12 +7,12 @@ use mir.Syntax.{w64}
 use mir.ValLaws.{toZ-ofZ}
 use borrow.Fn.Kinds.{In}
 use borrow.Fn.PlainCycle.{Measures, is, falls, and}
-use Rattle.walks.specs.Derive.{deriveAt}
+use Rattle.walks.specs.Derive.{deriveNode, deriveAt}
 use Rattle.walk_laws.specs.Walked.{resultsOf}
 use Rattle.walk_laws.proofs.Steps.{onward, stopped}
 use Rattle.walk_laws.proofs.Bounds.{below, above}
-use Rattle.walk_laws.proofs.Turns.{given-again, visited, kept-now}
-use Rattle.derive.proofs.Ruled.{by-kind, of-number}
+use Rattle.walk_laws.proofs.Turns.{given-again, visited, kept-now, by-kind}
+use Rattle.derive.proofs.Ruled.{of-number}
 use Rattle.derive.proofs.walk.derive_at.Reads as derive-at
 use Rattle.derive.proofs.walk.derive_at.Kinds as derive-at-kinds
 use Rattle.derive.proofs.walk.+derive_at+derive_node+derive_one+derive_part+derive_two.Lts-derive_at as derive-at-lts
@@ -33,12 +33,8 @@ use Rattle.derive.proofs.rules.rule_one.Reads as rule-one-reads
 use Rattle.derive.proofs.rules.rule_two.Reads as rule-two-reads
 use Rattle.derive.proofs.rules.slope.Reads as slope-reads
 use Rattle.pool.proofs.node_at.Reads as node-at-reads
-use Rattle.derive.proofs.walk.+derive_at+derive_node+derive_one+derive_part+derive_two.{
-  statement,
-}
-use Rattle.derive.proofs.walk.+derive_at+derive_node+derive_one+derive_part+derive_two.Tie.{
-  close,
-}
+use Rattle.derive.proofs.walk.+derive_at+derive_node+derive_one+derive_part+derive_two.{statement}
+use Rattle.derive.proofs.walk.+derive_at+derive_node+derive_one+derive_part+derive_two.Tie.{close}
 
 abbrev μ-derive-at : Measures 3 derive-at-kinds.ps ℕ
 μ-derive-at κs a = 4 * (a .1 .1 .1 .1 .0) + 3
@@ -487,7 +483,7 @@ derive-node-returns : (t : ℕ) → derive-node-lts.Need-returns (
   derive-one-below t,
   derive-one.Post,
 ) (derive-node-at t) derive-node.Post
-derive-node-returns t c = by-kind _ _ _ _ (c .before .before .node-at .ensures) (c .enum-told .given .1) refl
+derive-node-returns t c = by-kind (deriveNode (c .before .before .before .before .before .args .var)) _ _ _ (c .before .before .node-at .ensures) (c .enum-told .given .1) refl
 
 derive-node-returns-2 : (t : ℕ) → derive-node-lts.Need-returns-2 (
   node-at-reads.Asked,
@@ -502,7 +498,7 @@ derive-node-returns-2 : (t : ℕ) → derive-node-lts.Need-returns-2 (
   derive-one.Post,
 ) (derive-node-at t) derive-node.Post
 derive-node-returns-2 t c =
-    by-kind _ _ _ _ (c .before .before .before .before .before .before .before .node-at .ensures) (c .before .before .before .before .before .node .given .1) 
+    by-kind (deriveNode (c .before .before .before .before .before .before .before .before .before .before .args .var)) _ _ _ (c .before .before .before .before .before .before .before .node-at .ensures) (c .before .before .before .before .before .node .given .1)
     (of-number _ (toZ-ofZ w64 (c .before .slope .result) (record { sfits = c .before .slope .ok }) ∙ c .before .slope .ensures) (c .lit-rule .ensures _))
 
 derive-node-returns-3 : (t : ℕ) → derive-node-lts.Need-returns-3 (
@@ -517,7 +513,7 @@ derive-node-returns-3 : (t : ℕ) → derive-node-lts.Need-returns-3 (
   derive-one-below t,
   derive-one.Post,
 ) (derive-node-at t) derive-node.Post
-derive-node-returns-3 t c = by-kind _ _ _ _ (c .before .before .before .before .before .node-at .ensures) (c .before .before .before .enum-told2 .given .1) (c .lit-rule2 .ensures _)
+derive-node-returns-3 t c = by-kind (deriveNode (c .before .before .before .before .before .before .before .before .args .var)) _ _ _ (c .before .before .before .before .before .node-at .ensures) (c .before .before .before .enum-told2 .given .1) (c .lit-rule2 .ensures _)
 
 derive-node-returns-4 : (t : ℕ) → derive-node-lts.Need-returns-4 (
   node-at-reads.Asked,
@@ -531,7 +527,7 @@ derive-node-returns-4 : (t : ℕ) → derive-node-lts.Need-returns-4 (
   derive-one-below t,
   derive-one.Post,
 ) (derive-node-at t) derive-node.Post
-derive-node-returns-4 t c = by-kind _ _ _ _ (c .before .before .before .before .before .before .before .node-at .ensures) (c .before .before .before .before .before .node2 .given .1) (c .derive-two .ensures)
+derive-node-returns-4 t c = by-kind (deriveNode (c .before .before .before .before .before .before .before .before .before .before .args .var)) _ _ _ (c .before .before .before .before .before .before .before .node-at .ensures) (c .before .before .before .before .before .node2 .given .1) (c .derive-two .ensures)
 
 derive-node-returns-5 : (t : ℕ) → derive-node-lts.Need-returns-5 (
   node-at-reads.Asked,
@@ -545,7 +541,7 @@ derive-node-returns-5 : (t : ℕ) → derive-node-lts.Need-returns-5 (
   derive-one-below t,
   derive-one.Post,
 ) (derive-node-at t) derive-node.Post
-derive-node-returns-5 t c = by-kind _ _ _ _ (c .before .before .before .before .before .before .before .node-at .ensures) (c .before .before .before .before .before .node3 .given .1) (c .derive-two2 .ensures)
+derive-node-returns-5 t c = by-kind (deriveNode (c .before .before .before .before .before .before .before .before .before .before .args .var)) _ _ _ (c .before .before .before .before .before .before .before .node-at .ensures) (c .before .before .before .before .before .node3 .given .1) (c .derive-two2 .ensures)
 
 derive-node-returns-6 : (t : ℕ) → derive-node-lts.Need-returns-6 (
   node-at-reads.Asked,
@@ -559,7 +555,7 @@ derive-node-returns-6 : (t : ℕ) → derive-node-lts.Need-returns-6 (
   derive-one-below t,
   derive-one.Post,
 ) (derive-node-at t) derive-node.Post
-derive-node-returns-6 t c = by-kind _ _ _ _ (c .before .before .before .before .before .before .before .node-at .ensures) (c .before .before .before .before .before .node4 .given .1) (c .derive-two3 .ensures)
+derive-node-returns-6 t c = by-kind (deriveNode (c .before .before .before .before .before .before .before .before .before .before .args .var)) _ _ _ (c .before .before .before .before .before .before .before .node-at .ensures) (c .before .before .before .before .before .node4 .given .1) (c .derive-two3 .ensures)
 
 derive-node-returns-7 : (t : ℕ) → derive-node-lts.Need-returns-7 (
   node-at-reads.Asked,
@@ -573,7 +569,7 @@ derive-node-returns-7 : (t : ℕ) → derive-node-lts.Need-returns-7 (
   derive-one-below t,
   derive-one.Post,
 ) (derive-node-at t) derive-node.Post
-derive-node-returns-7 t c = by-kind _ _ _ _ (c .before .before .before .before .before .before .before .node-at .ensures) (c .before .before .before .before .before .node5 .given .1) (c .derive-one .ensures)
+derive-node-returns-7 t c = by-kind (deriveNode (c .before .before .before .before .before .before .before .before .before .before .args .var)) _ _ _ (c .before .before .before .before .before .before .before .node-at .ensures) (c .before .before .before .before .before .node5 .given .1) (c .derive-one .ensures)
 
 derive-node-returns-8 : (t : ℕ) → derive-node-lts.Need-returns-8 (
   node-at-reads.Asked,
@@ -587,7 +583,7 @@ derive-node-returns-8 : (t : ℕ) → derive-node-lts.Need-returns-8 (
   derive-one-below t,
   derive-one.Post,
 ) (derive-node-at t) derive-node.Post
-derive-node-returns-8 t c = by-kind _ _ _ _ (c .before .before .before .before .before .before .before .node-at .ensures) (c .before .before .before .before .before .node6 .given .1) (c .derive-one2 .ensures)
+derive-node-returns-8 t c = by-kind (deriveNode (c .before .before .before .before .before .before .before .before .before .before .args .var)) _ _ _ (c .before .before .before .before .before .before .before .node-at .ensures) (c .before .before .before .before .before .node6 .given .1) (c .derive-one2 .ensures)
 
 derive-node-returns-9 : (t : ℕ) → derive-node-lts.Need-returns-9 (
   node-at-reads.Asked,
@@ -601,7 +597,7 @@ derive-node-returns-9 : (t : ℕ) → derive-node-lts.Need-returns-9 (
   derive-one-below t,
   derive-one.Post,
 ) (derive-node-at t) derive-node.Post
-derive-node-returns-9 t c = by-kind _ _ _ _ (c .before .before .before .before .before .before .before .node-at .ensures) (c .before .before .before .before .before .node7 .given .1) (c .derive-one3 .ensures)
+derive-node-returns-9 t c = by-kind (deriveNode (c .before .before .before .before .before .before .before .before .before .before .args .var)) _ _ _ (c .before .before .before .before .before .before .before .node-at .ensures) (c .before .before .before .before .before .node7 .given .1) (c .derive-one3 .ensures)
 
 derive-node-returns-10 : (t : ℕ) → derive-node-lts.Need-returns-10 (
   node-at-reads.Asked,
@@ -615,7 +611,7 @@ derive-node-returns-10 : (t : ℕ) → derive-node-lts.Need-returns-10 (
   derive-one-below t,
   derive-one.Post,
 ) (derive-node-at t) derive-node.Post
-derive-node-returns-10 t c = by-kind _ _ _ _ (c .before .before .node-at .ensures) (c .enum-told3 .given .1) refl
+derive-node-returns-10 t c = by-kind (deriveNode (c .before .before .before .before .before .args .var)) _ _ _ (c .before .before .node-at .ensures) (c .enum-told3 .given .1) refl
 
 derive-one-derive-part-requires : (t : ℕ) → derive-one-lts.Need-derive-part-requires (
   derive-part-below t,

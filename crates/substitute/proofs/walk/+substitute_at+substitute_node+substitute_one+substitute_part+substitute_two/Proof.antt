@@ -5,12 +5,12 @@ use mathlib.Core.Path.{refl, _∙_}
 use native.Mathlib.Omega.{arith}
 use borrow.Fn.Kinds.{In}
 use borrow.Fn.PlainCycle.{Measures, is, falls, and}
-use Rattle.walks.specs.Substitute.{substituteAt}
+use Rattle.walks.specs.Substitute.{substituteNode, substituteAt}
 use Rattle.walk_laws.specs.Walked.{resultsOf}
 use Rattle.walk_laws.proofs.Steps.{onward, stopped}
 use Rattle.walk_laws.proofs.Bounds.{below, above}
-use Rattle.walk_laws.proofs.Turns.{given-again, visited, kept-now}
-use Rattle.substitute.proofs.Rebuilt.{by-kind, given}
+use Rattle.walk_laws.proofs.Turns.{given-again, visited, kept-now, by-kind}
+use Rattle.substitute.proofs.Rebuilt.{given}
 use Rattle.substitute.proofs.walk.substitute_at.Reads as substitute-at
 use Rattle.substitute.proofs.walk.substitute_at.Kinds as substitute-at-kinds
 use Rattle.substitute.proofs.walk.+substitute_at+substitute_node+substitute_one+substitute_part+substitute_two.Lts-substitute_at as substitute-at-lts
@@ -30,12 +30,8 @@ use Rattle.pool.proofs.node_at.Reads as node-at-reads
 use Rattle.substitute.proofs.rebuild.rebuild_one.Reads as rebuild-one-reads
 use Rattle.substitute.proofs.rebuild.rebuild_two.Reads as rebuild-two-reads
 use Rattle.substitute.proofs.walk.put_for.Reads as put-for-reads
-use Rattle.substitute.proofs.walk.+substitute_at+substitute_node+substitute_one+substitute_part+substitute_two.{
-  statement,
-}
-use Rattle.substitute.proofs.walk.+substitute_at+substitute_node+substitute_one+substitute_part+substitute_two.Tie.{
-  close,
-}
+use Rattle.substitute.proofs.walk.+substitute_at+substitute_node+substitute_one+substitute_part+substitute_two.{statement}
+use Rattle.substitute.proofs.walk.+substitute_at+substitute_node+substitute_one+substitute_part+substitute_two.Tie.{close}
 
 abbrev μ-substitute-at : Measures 3 substitute-at-kinds.ps ℕ
 μ-substitute-at κs a = 4 * (a .1 .1 .1 .1 .0) + 3
@@ -462,7 +458,7 @@ substitute-node-returns : (t : ℕ) → substitute-node-lts.Need-returns (
   substitute-one-below t,
   substitute-one.Post,
 ) (substitute-node-at t) substitute-node.Post
-substitute-node-returns t c = by-kind _ _ _ _ _ (c .before .before .node-at .ensures) (c .enum-told .given .1) refl
+substitute-node-returns t c = by-kind (substituteNode (c .before .before .before .before .before .args .var) (c .before .before .before .before .before .args .value)) _ _ _ (c .before .before .node-at .ensures) (c .enum-told .given .1) refl
 
 substitute-node-returns-2 : (t : ℕ) → substitute-node-lts.Need-returns-2 (
   node-at-reads.Asked,
@@ -474,7 +470,7 @@ substitute-node-returns-2 : (t : ℕ) → substitute-node-lts.Need-returns-2 (
   substitute-one-below t,
   substitute-one.Post,
 ) (substitute-node-at t) substitute-node.Post
-substitute-node-returns-2 t c = by-kind _ _ _ _ _ (c .before .before .before .before .node-at .ensures) (c .before .before .node .given .1) (given _ (c .put-for .ensures))
+substitute-node-returns-2 t c = by-kind (substituteNode (c .before .before .before .before .before .before .before .args .var) (c .before .before .before .before .before .before .before .args .value)) _ _ _ (c .before .before .before .before .node-at .ensures) (c .before .before .node .given .1) (given _ (c .put-for .ensures))
 
 substitute-node-returns-3 : (t : ℕ) → substitute-node-lts.Need-returns-3 (
   node-at-reads.Asked,
@@ -486,7 +482,7 @@ substitute-node-returns-3 : (t : ℕ) → substitute-node-lts.Need-returns-3 (
   substitute-one-below t,
   substitute-one.Post,
 ) (substitute-node-at t) substitute-node.Post
-substitute-node-returns-3 t c = by-kind _ _ _ _ _ (c .before .before .node-at .ensures) (c .enum-told2 .given .1) refl
+substitute-node-returns-3 t c = by-kind (substituteNode (c .before .before .before .before .before .args .var) (c .before .before .before .before .before .args .value)) _ _ _ (c .before .before .node-at .ensures) (c .enum-told2 .given .1) refl
 
 substitute-node-returns-4 : (t : ℕ) → substitute-node-lts.Need-returns-4 (
   node-at-reads.Asked,
@@ -498,7 +494,7 @@ substitute-node-returns-4 : (t : ℕ) → substitute-node-lts.Need-returns-4 (
   substitute-one-below t,
   substitute-one.Post,
 ) (substitute-node-at t) substitute-node.Post
-substitute-node-returns-4 t c = by-kind _ _ _ _ _ (c .before .before .before .before .before .before .before .node-at .ensures) (c .before .before .before .before .before .node2 .given .1) (c .substitute-two .ensures)
+substitute-node-returns-4 t c = by-kind (substituteNode (c .before .before .before .before .before .before .before .before .before .before .args .var) (c .before .before .before .before .before .before .before .before .before .before .args .value)) _ _ _ (c .before .before .before .before .before .before .before .node-at .ensures) (c .before .before .before .before .before .node2 .given .1) (c .substitute-two .ensures)
 
 substitute-node-returns-5 : (t : ℕ) → substitute-node-lts.Need-returns-5 (
   node-at-reads.Asked,
@@ -510,7 +506,7 @@ substitute-node-returns-5 : (t : ℕ) → substitute-node-lts.Need-returns-5 (
   substitute-one-below t,
   substitute-one.Post,
 ) (substitute-node-at t) substitute-node.Post
-substitute-node-returns-5 t c = by-kind _ _ _ _ _ (c .before .before .before .before .before .before .before .node-at .ensures) (c .before .before .before .before .before .node3 .given .1) (c .substitute-two2 .ensures)
+substitute-node-returns-5 t c = by-kind (substituteNode (c .before .before .before .before .before .before .before .before .before .before .args .var) (c .before .before .before .before .before .before .before .before .before .before .args .value)) _ _ _ (c .before .before .before .before .before .before .before .node-at .ensures) (c .before .before .before .before .before .node3 .given .1) (c .substitute-two2 .ensures)
 
 substitute-node-returns-6 : (t : ℕ) → substitute-node-lts.Need-returns-6 (
   node-at-reads.Asked,
@@ -522,7 +518,7 @@ substitute-node-returns-6 : (t : ℕ) → substitute-node-lts.Need-returns-6 (
   substitute-one-below t,
   substitute-one.Post,
 ) (substitute-node-at t) substitute-node.Post
-substitute-node-returns-6 t c = by-kind _ _ _ _ _ (c .before .before .before .before .before .before .before .node-at .ensures) (c .before .before .before .before .before .node4 .given .1) (c .substitute-two3 .ensures)
+substitute-node-returns-6 t c = by-kind (substituteNode (c .before .before .before .before .before .before .before .before .before .before .args .var) (c .before .before .before .before .before .before .before .before .before .before .args .value)) _ _ _ (c .before .before .before .before .before .before .before .node-at .ensures) (c .before .before .before .before .before .node4 .given .1) (c .substitute-two3 .ensures)
 
 substitute-node-returns-7 : (t : ℕ) → substitute-node-lts.Need-returns-7 (
   node-at-reads.Asked,
@@ -534,7 +530,7 @@ substitute-node-returns-7 : (t : ℕ) → substitute-node-lts.Need-returns-7 (
   substitute-one-below t,
   substitute-one.Post,
 ) (substitute-node-at t) substitute-node.Post
-substitute-node-returns-7 t c = by-kind _ _ _ _ _ (c .before .before .before .before .before .before .before .node-at .ensures) (c .before .before .before .before .before .node5 .given .1) (c .substitute-one .ensures)
+substitute-node-returns-7 t c = by-kind (substituteNode (c .before .before .before .before .before .before .before .before .before .before .args .var) (c .before .before .before .before .before .before .before .before .before .before .args .value)) _ _ _ (c .before .before .before .before .before .before .before .node-at .ensures) (c .before .before .before .before .before .node5 .given .1) (c .substitute-one .ensures)
 
 substitute-node-returns-8 : (t : ℕ) → substitute-node-lts.Need-returns-8 (
   node-at-reads.Asked,
@@ -546,7 +542,7 @@ substitute-node-returns-8 : (t : ℕ) → substitute-node-lts.Need-returns-8 (
   substitute-one-below t,
   substitute-one.Post,
 ) (substitute-node-at t) substitute-node.Post
-substitute-node-returns-8 t c = by-kind _ _ _ _ _ (c .before .before .before .before .before .before .before .node-at .ensures) (c .before .before .before .before .before .node6 .given .1) (c .substitute-one2 .ensures)
+substitute-node-returns-8 t c = by-kind (substituteNode (c .before .before .before .before .before .before .before .before .before .before .args .var) (c .before .before .before .before .before .before .before .before .before .before .args .value)) _ _ _ (c .before .before .before .before .before .before .before .node-at .ensures) (c .before .before .before .before .before .node6 .given .1) (c .substitute-one2 .ensures)
 
 substitute-node-returns-9 : (t : ℕ) → substitute-node-lts.Need-returns-9 (
   node-at-reads.Asked,
@@ -558,7 +554,7 @@ substitute-node-returns-9 : (t : ℕ) → substitute-node-lts.Need-returns-9 (
   substitute-one-below t,
   substitute-one.Post,
 ) (substitute-node-at t) substitute-node.Post
-substitute-node-returns-9 t c = by-kind _ _ _ _ _ (c .before .before .before .before .before .before .before .node-at .ensures) (c .before .before .before .before .before .node7 .given .1) (c .substitute-one3 .ensures)
+substitute-node-returns-9 t c = by-kind (substituteNode (c .before .before .before .before .before .before .before .before .before .before .args .var) (c .before .before .before .before .before .before .before .before .before .before .args .value)) _ _ _ (c .before .before .before .before .before .before .before .node-at .ensures) (c .before .before .before .before .before .node7 .given .1) (c .substitute-one3 .ensures)
 
 substitute-node-returns-10 : (t : ℕ) → substitute-node-lts.Need-returns-10 (
   node-at-reads.Asked,
@@ -570,7 +566,7 @@ substitute-node-returns-10 : (t : ℕ) → substitute-node-lts.Need-returns-10 (
   substitute-one-below t,
   substitute-one.Post,
 ) (substitute-node-at t) substitute-node.Post
-substitute-node-returns-10 t c = by-kind _ _ _ _ _ (c .before .before .before .before .before .before .before .node-at .ensures) (c .before .before .before .before .before .node8 .given .1) (c .substitute-two4 .ensures)
+substitute-node-returns-10 t c = by-kind (substituteNode (c .before .before .before .before .before .before .before .before .before .before .args .var) (c .before .before .before .before .before .before .before .before .before .before .args .value)) _ _ _ (c .before .before .before .before .before .before .before .node-at .ensures) (c .before .before .before .before .before .node8 .given .1) (c .substitute-two4 .ensures)
 
 substitute-one-substitute-part-requires :
     (t : ℕ) → substitute-one-lts.Need-substitute-part-requires (

@@ -1,10 +1,10 @@
 -- `substitute_in` is a whole walk: it begins with no result kept, and a root past the tables is no node.
 -- Assumes nothing.
 use native.Mathlib.Omega.{arith}
-use Rattle.walks.specs.Substitute.{substituteAt, substituteVar}
+use mathlib.Core.Path.{refl}
+use Rattle.walks.specs.Substitute.{substituteAt, substituteVar, substituteNode}
 use Rattle.walk_laws.specs.Walked.{resultsOf}
 use Rattle.walk_laws.proofs.Turns.{whole, nowhere}
-use Rattle.substitute.proofs.Rebuilt.{nothing-there}
 use Rattle.substitute.proofs.walk.substitute_in.Statement.{statement}
 use Rattle.substitute.proofs.walk.substitute_in.Tie as tie
 
@@ -17,7 +17,7 @@ returns c = whole (substituteAt (c .before .before .before .before .before .args
 
 returns-2 : tie.Need-returns-2
 unfolding substituteVar
-returns-2 c = nowhere (substituteAt (c .before .args .var) (c .before .args .value)) _ (c .before .args .root) (c .if1 .left) (nothing-there (c .before .args .var) (c .before .args .value) (c .before .args .root))
+returns-2 c = nowhere (substituteNode (c .before .args .var) (c .before .args .value)) _ (c .before .args .root) (c .if1 .left) (λ down S. refl)
 
 pub substitute-in-spec : {M : Type 1} → statement M
 substitute-in-spec = tie.close (tie.spec substitute-at-requires returns returns-2)
