@@ -1,4 +1,4 @@
--- A node whose parts are nodes of the pool and whose number, literal or exponent is in range may stand at the count, is read back as it was written, and has a word of 64 bits.
+-- A node whose parts are nodes of the pool and whose number, literal or exponent is in range may stand at the count, is read back as it was written; if its exponent is short, it has a word of 64 bits.
 -- Assumes nothing.
 use mathlib.Core.Path.{_≡_, refl}
 use mathlib.Core.Bool.{true, and-eq-true-iff}
@@ -17,12 +17,7 @@ use Rattle.pool.specs.declared.node.Node.the-variants.{Empty, Variable, Lit, Ad
 use Rattle.pool.specs.Nodes.{greatestVariable, leastExponent, greatestExponent, half, pair, lowOf, highOf, decode, kindOf, wordOf, parts, allBelow, isNode, mayStandAt}
 use Rattle.constructor_laws.proofs.Rules.{AllBelow, below-all, all-below-more}
 
--- an exponent of the table of kinds
-pub record Exponent (e : ℕ) : Type 0 where
-  pub least : leastExponent ≤ e
-  pub most : e ≤ greatestExponent
-
--- what the table of kinds asks of a node's number, literal or exponent
+-- what the table of kinds asks of a node's number, literal or exponent, but for an exponent's length
 abbrev pub InRange : Node → Type 0
 InRange Empty = ⊥
 InRange (Variable v) = v ≤ greatestVariable
@@ -32,8 +27,21 @@ InRange (Mul a b) = Unit {0}
 InRange (Div a b) = Unit {0}
 InRange (Exp a) = Unit {0}
 InRange (Log a) = Unit {0}
-InRange (Pow a e) = Exponent e
+InRange (Pow a e) = leastExponent ≤ e
 InRange (Max a b) = Unit {0}
+
+-- an exponent, if there is one, has half a word
+abbrev pub Short : Node → Type 0
+Short Empty = Unit {0}
+Short (Variable v) = Unit {0}
+Short (Lit z) = Unit {0}
+Short (Add a b) = Unit {0}
+Short (Mul a b) = Unit {0}
+Short (Div a b) = Unit {0}
+Short (Exp a) = Unit {0}
+Short (Log a) = Unit {0}
+Short (Pow a e) = e ≤ greatestExponent
+Short (Max a b) = Unit {0}
 
 -- a node that may be appended to n nodes
 pub record Fine (n : ℕ) (node : Node) : Type 0 where
@@ -90,24 +98,24 @@ module _ {n : ℕ} (small : n ≤ half) where
   read-back (Div a b) h r = pair-read Div a b (short (h .0))
   read-back (Exp a) h r = rw (lt-ltb a half (short (h .0)))
   read-back (Log a) h r = rw (lt-ltb a half (short (h .0)))
-  read-back (Pow a e) h r = rw (high-of-pair a e (short (h .0)), low-of-pair a e (short (h .0)), le-leb leastExponent e (r .least))
+  read-back (Pow a e) h r = rw (high-of-pair a e (short (h .0)), low-of-pair a e (short (h .0)), le-leb leastExponent e r)
   read-back (Max a b) h r = pair-read Max a b (short (h .0))
 
   pub fine-is-read : {node : Node} → Fine n node → decode (kindOf node) (wordOf node) ≡ node
   fine-is-read {node} f = read-back node (f .below) (f .range)
 
-  word-fits : (node : Node) → AllBelow n (parts node) → InRange node → Fits w64 (wordOf node)
-  word-fits Empty h r = absurd r
-  word-fits (Variable v) h r = record { fits = omega arith }
-  word-fits (Lit z) h r = ofZ-fits w64 z (literal-fits z (leb-true (natAbs z) greatest r))
-  word-fits (Add a b) h r = pair-fits a b (short (h .0)) (short (h .1 .0))
-  word-fits (Mul a b) h r = pair-fits a b (short (h .0)) (short (h .1 .0))
-  word-fits (Div a b) h r = pair-fits a b (short (h .0)) (short (h .1 .0))
-  word-fits (Exp a) h r = record { fits = omega (arith, short (h .0)) }
-  word-fits (Log a) h r = record { fits = omega (arith, short (h .0)) }
-  word-fits (Pow a e) h r = pair-fits a e (short (h .0)) (omega (arith, r .most))
-  word-fits (Max a b) h r = pair-fits a b (short (h .0)) (short (h .1 .0))
+  word-fits : (node : Node) → AllBelow n (parts node) → InRange node → Short node → Fits w64 (wordOf node)
+  word-fits Empty h r s = absurd r
+  word-fits (Variable v) h r s = record { fits = omega arith }
+  word-fits (Lit z) h r s = ofZ-fits w64 z (literal-fits z (leb-true (natAbs z) greatest r))
+  word-fits (Add a b) h r s = pair-fits a b (short (h .0)) (short (h .1 .0))
+  word-fits (Mul a b) h r s = pair-fits a b (short (h .0)) (short (h .1 .0))
+  word-fits (Div a b) h r s = pair-fits a b (short (h .0)) (short (h .1 .0))
+  word-fits (Exp a) h r s = record { fits = omega (arith, short (h .0)) }
+  word-fits (Log a) h r s = record { fits = omega (arith, short (h .0)) }
+  word-fits (Pow a e) h r s = pair-fits a e (short (h .0)) (omega arith)
+  word-fits (Max a b) h r s = pair-fits a b (short (h .0)) (short (h .1 .0))
 
   -- what a word of 64 bits holds
-  pub fine-word-fits : {node : Node} → Fine n node → Fits w64 (wordOf node)
+  pub fine-word-fits : {node : Node} → Fine n node → Short node → Fits w64 (wordOf node)
   fine-word-fits {node} f = word-fits node (f .below) (f .range)

@@ -7,7 +7,6 @@ use native.Mathlib.Nat.{le-refl}
 use native.Mathlib.Omega.{arith}
 use lib.Dec.{leb}
 use lib.IntN.{ℤ, pos}
-use borrow.Author.Tests.{leb-true}
 use Rattle.refusals.specs.Refusals.{exponentTooLarge, tooDeep, noExpOrLog, outOfRange}
 use Rattle.literal.specs.Literal.{isLiteral, isZero, isOne, pick, folded, expOf, logOf}
 use Rattle.literal.specs.declared.Folded.{Folded}
@@ -74,12 +73,9 @@ pub append-keeps : {n : ℕ} {x : Node} → Fine n x → Keeping n (append x)
 append-keeps {n} {x} fine = record { kept = λ P k more. append-kept x P k (fine-with-more more fine) }
 
 -- 13. an exponent that is too large is refused before it is used
-pub exponent-keeps : {n : ℕ} (e : ℕ) {run : Run} → (e ≤ greatestExponent → Keeping n run) → Keeping n (exponent (leb e greatestExponent) run)
-exponent-keeps {n} e {run} work = go (leb e greatestExponent) refl
-  where
-    go : (fits : Bool) → leb e greatestExponent ≡ fits → Keeping n (exponent fits run)
-    go true t = work (leb-true e greatestExponent t)
-    go false t = refuse-keeps exponentTooLarge
+pub exponent-keeps : {n : ℕ} (fits : Bool) {run : Run} → Keeping n run → Keeping n (exponent fits run)
+exponent-keeps true work = work
+exponent-keeps false work = refuse-keeps exponentTooLarge
 
 -- ---- literals
 
@@ -114,7 +110,7 @@ pub record AllKeep (c : Calls) : Type 0 where
   pub neg-at : KeepOne (c .neg-at)
   pub exp-at : KeepOne (c .exp-at)
   pub log-at : KeepOne (c .log-at)
-  pub pow-at : (e : ℕ) → e ≤ greatestExponent → KeepOne (λ base. c .pow-at base e)
+  pub pow-at : (e : ℕ) → KeepOne (λ base. c .pow-at base e)
 
 pub build-keeps : {c : Calls} → AllKeep c → {n : ℕ} (t : Term) → Sound n t → Keeping n (build c t)
 unfolding build folded expOf logOf
@@ -126,7 +122,7 @@ build-keeps k (add s t) h = both-keep (build-keeps k s (h .0)) (build-keeps k t 
 build-keeps k (mul s t) h = both-keep (build-keeps k s (h .0)) (build-keeps k t (h .1)) (k .mul-at)
 build-keeps k (exp t) h = next-keeps (build-keeps k t h) (λ m a more. k .exp-at m a)
 build-keeps k (log t) h = next-keeps (build-keeps k t h) (λ m a more. k .log-at m a)
-build-keeps k (pow t e) h = next-keeps (build-keeps k t h) (λ m a more l. exponent-keeps e (λ most. k .pow-at e most m a l))
+build-keeps k (pow t e) h = next-keeps (build-keeps k t h) (λ m a more l. exponent-keeps (leb e greatestExponent) (k .pow-at e m a l))
 build-keeps k (Add s t) h = both-keep (build-keeps k s (h .0)) (build-keeps k t (h .1)) (λ m a b l r. append-keeps (record { below = (l, (r, tt)); range = tt }))
 build-keeps k (Mul s t) h = both-keep (build-keeps k s (h .0)) (build-keeps k t (h .1)) (λ m a b l r. append-keeps (record { below = (l, (r, tt)); range = tt }))
 build-keeps k (Div s t) h = both-keep (build-keeps k s (h .0)) (build-keeps k t (h .1)) (λ m a b l r. append-keeps (record { below = (l, (r, tt)); range = tt }))
@@ -167,7 +163,7 @@ deeper-keep k =
       neg-at = one-deeper k negTable neg-sound;
       exp-at = one-deeper k expTable exp-sound;
       log-at = one-deeper k logTable log-sound;
-      pow-at = λ e most. one-deeper k (λ at base. powTable at base e) (λ n at below base h. pow-sound n at below base h e most);
+      pow-at = λ e. one-deeper k (λ at base. powTable at base e) (λ n at below base h. pow-sound n at below base h e);
     }
 
 none-keep : AllKeep noCalls
@@ -180,7 +176,7 @@ none-keep =
       neg-at = λ n arg l. refuse-keeps tooDeep;
       exp-at = λ n arg l. refuse-keeps tooDeep;
       log-at = λ n arg l. refuse-keeps tooDeep;
-      pow-at = λ e most n base l. refuse-keeps tooDeep;
+      pow-at = λ e n base l. refuse-keeps tooDeep;
     }
 
 -- with any depth left, every constructor keeps the rules
@@ -225,5 +221,5 @@ module _ {P : Pool} (k : Keeps P) where
     pub log-kept : KeptBy P (calls left .log-at arg P)
     log-kept = on-this k (calls-keep left .log-at (P .count) arg h)
 
-    pub pow-kept : (e : ℕ) → e ≤ greatestExponent → KeptBy P (calls left .pow-at arg e P)
-    pow-kept e most = on-this k (calls-keep left .pow-at e most (P .count) arg h)
+    pub pow-kept : (e : ℕ) → KeptBy P (calls left .pow-at arg e P)
+    pow-kept e = on-this k (calls-keep left .pow-at e (P .count) arg h)

@@ -6,15 +6,14 @@ use lib.Dec.{eqb}
 use Rattle.literal.specs.Literal.{isZero, isOne}
 use Rattle.pool.specs.declared.node.Node.{Node}
 use Rattle.pool.specs.declared.node.Node.the-variants as node
-use Rattle.pool.specs.Nodes.{parts, greatestExponent}
+use Rattle.pool.specs.Nodes.{parts, leastExponent}
 use Rattle.constructors.specs.Terms.{Term, #, lit, lit-exp, lit-log, add, mul, exp, log, pow, Add, Mul, Div, Max, Exp, Log, Pow}
 use Rattle.constructors.specs.Patterns.{litIn, addIn, mulIn, expIn, powIn}
 use Rattle.constructors.specs.Tables.{addArms, addTable, mulLits, mulExps, mulLeft, mulPows, mulLast, mulTable, divTable, negTable, expArms, expTable, logArms, logTable, powTable, maxTable}
 use Rattle.constructor_laws.proofs.Rules.{AllBelow, PartsBelow}
-use Rattle.constructor_laws.proofs.Coding.{Exponent}
 use Rattle.constructor_laws.proofs.Arms.{Gives, skips, return, _>>=_, _&_, swap, _>>_, _or_, inside, _then_}
 
--- every node in the term is one of n, and a plain Pow has an exponent of the table of kinds
+-- every node in the term is one of n, and a plain Pow has no exponent that is too small
 abbrev pub Sound : ℕ → Term → Type 0
 Sound n (# a) = a < n
 Sound n (lit z) = Unit {0}
@@ -31,7 +30,7 @@ Sound n (Div s t) = Sound n s × Sound n t
 Sound n (Max s t) = Sound n s × Sound n t
 Sound n (Exp t) = Sound n t
 Sound n (Log t) = Sound n t
-Sound n (Pow t e) = Sound n t × Exponent e
+Sound n (Pow t e) = Sound n t × (leastExponent ≤ e)
 
 -- ---- what the patterns find
 
@@ -111,6 +110,9 @@ module _ (n : ℕ) where
   pow-found (node.Log a) h = skips
   pow-found (node.Pow a e) h = return (h .0)
   pow-found (node.Max a b) h = skips
+
+two-or-more : (e : ℕ) → leastExponent ≤ suc (suc e)
+two-or-more e = omega arith
 
 -- ---- the tables: what is returned for a term is a proof for each node in it, in the term's order
 
@@ -234,14 +236,14 @@ module _ (n : ℕ) (at : ℕ → Node) (below : PartsBelow n at) where
     log-sound = log-arms then h
 
     -- the exponents 0 and 1 return before a Pow is made
-    pub pow-sound : (e : ℕ) → e ≤ greatestExponent → Sound n (powTable at arg e)
+    pub pow-sound : (e : ℕ) → Sound n (powTable at arg e)
     unfolding powTable
-    pow-sound zero most = tt
-    pow-sound (suc zero) most = h
-    pow-sound (suc (suc e)) most =
+    pow-sound zero = tt
+    pow-sound (suc zero) = h
+    pow-sound (suc (suc e)) =
         _then_ {H = Sound n}
         ((eqb (suc (suc e)) 0 >> return tt)
         or (eqb (suc (suc e)) 1 >> return h)
         or (lit? arg >>= (λ a _. isZero a >> return tt))
         or (lit? arg >>= (λ a _. isOne a >> return tt)))
-        (h, record { least = omega arith; most = most })
+        (h, two-or-more e)

@@ -1,0 +1,5 @@
+// `substitute_with` of the source: a walk from a node to its parts, with each visited node's result kept.
+mod rebuild;
+mod walk;
+
+pub use walk::substitute_in;
