@@ -76,7 +76,13 @@ fn nest(kinds: &mut [u8], words: &mut [u64], end: u32) {
     let mut top: u32 = 1;
     let mut at: u32 = 3;
     while at < end {
-        set(kinds, words, at as usize, 4, 2 + 0x1_0000_0000 * (top as u64));
+        set(
+            kinds,
+            words,
+            at as usize,
+            4,
+            2 + 0x1_0000_0000 * (top as u64),
+        );
         top = at;
         at += 1;
     }
@@ -182,7 +188,14 @@ fn entries() {
 }
 
 // A call on the first entries of two tables.
-fn lengths(name: &[u8], kinds: &mut [u8], words: &mut [u64], kinds_len: usize, words_len: usize, count: u64) {
+fn lengths(
+    name: &[u8],
+    kinds: &mut [u8],
+    words: &mut [u64],
+    kinds_len: usize,
+    words_len: usize,
+    count: u64,
+) {
     let mut n = count;
     if kinds_len <= kinds.len() {
         if words_len <= words.len() {
@@ -193,7 +206,14 @@ fn lengths(name: &[u8], kinds: &mut [u8], words: &mut [u64], kinds_len: usize, w
 }
 
 // A pool of x0 in tables of other lengths or with another count, and perhaps with something past the count.
-fn table(name: &[u8], kinds_len: usize, words_len: usize, count: u64, last_kind: u8, next_word: u64) {
+fn table(
+    name: &[u8],
+    kinds_len: usize,
+    words_len: usize,
+    count: u64,
+    last_kind: u8,
+    next_word: u64,
+) {
     let mut kinds = [0u8; 4097];
     let mut words = [0u64; 4097];
     kinds[0] = 1;

@@ -12,7 +12,7 @@ use Rattle.pool.specs.declared.node.Node.the-variants.{Lit}
 use Rattle.pool.specs.Pool.{append}
 use Rattle.constructor_laws.proofs.Growth.{append-grows}
 use Rattle.engine.specs.Build.{litWork}
-use Rattle.engine.proofs.Calling.{met, broken, demanded, is-pool, sizes, on-lent, worked, appends}
+use Rattle.lent.proofs.Calling.{met, broken, demanded, is-pool, sizes, on-lent, worked, appends}
 use Rattle.refusals.specs.Refusals.{notLiteral}
 use Rattle.engine.proofs.build.lit.Statement.{statement}
 use Rattle.engine.proofs.build.lit.Tie as tie

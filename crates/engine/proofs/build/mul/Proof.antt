@@ -10,7 +10,7 @@ use Rattle.constructors.specs.Build.{calls, depth}
 use Rattle.constructor_laws.proofs.Growth.{calls-grow}
 use Rattle.lent.specs.Call.{givenNodes}
 use Rattle.lent.proofs.Finishing.{both-are-below}
-use Rattle.engine.proofs.Calling.{met, broken, demanded, is-pool, sizes, on-lent, worked, appends}
+use Rattle.lent.proofs.Calling.{met, broken, demanded, is-pool, sizes, on-lent, worked, appends}
 use Rattle.engine.proofs.build.mul.Statement.{statement}
 use Rattle.engine.proofs.build.mul.Tie as tie
 

@@ -11,7 +11,7 @@ use Rattle.pool.specs.Nodes.{greatestVariable}
 use Rattle.pool.specs.Pool.{append}
 use Rattle.constructor_laws.proofs.Growth.{append-grows}
 use Rattle.engine.specs.Build.{varWork}
-use Rattle.engine.proofs.Calling.{met, broken, demanded, is-pool, sizes, on-lent, worked, appends}
+use Rattle.lent.proofs.Calling.{met, broken, demanded, is-pool, sizes, on-lent, worked, appends}
 use Rattle.engine.proofs.build.var.Statement.{statement}
 use Rattle.engine.proofs.build.var.Tie as tie
 
