@@ -18,11 +18,11 @@ use Rattle.constructor_laws.specs.Grown.{SameBut, Grown, Grows}
 use Rattle.lent.specs.Call.{Left, left, leaves, lentPool}
 use Rattle.lent.specs.declared.Answer.the-variants.{Node, Refused}
 
-and-left : (a b : Bool) → (a && b) ≡ true → a ≡ true
+pub and-left : (a b : Bool) → (a && b) ≡ true → a ≡ true
 and-left true b e = refl
 and-left false b e = e
 
-and-right : (a b : Bool) → (a && b) ≡ true → b ≡ true
+pub and-right : (a b : Bool) → (a && b) ≡ true → b ≡ true
 and-right true b e = e
 and-right false b e = absurd (never e)
   where
