@@ -1,0 +1,11 @@
+#!/usr/bin/env bash
+# Comparison with the Rust: both sides through the same random calls, with a fixed seed and a bounded time. Needs the Rust's sources.
+set -eu
+cd "$(dirname "$0")/.."
+if [ ! -e ../shared/docs/src/src/symbolic.rs ]; then
+  echo "skipped: the Rust's sources are not here, so no comparison was run"
+  exit 0
+fi
+rt staticlib bunlayog > /dev/null
+cargo build --offline --release --quiet --manifest-path compare/Cargo.toml --config compare/.cargo/config.toml
+compare/target/release/bunlayog-compare 20261115 60
