@@ -1,17 +1,18 @@
 -- A visit of the code, step by step: its parts in turn, then the node's own number.
 -- Assumes nothing.
-use mathlib.Core.Path.{_≡_, refl, sym, ap, _∙_, subst, subst⁻¹}
+use mathlib.Core.Path.{_≡_, sym, ap, _∙_, subst⁻¹}
+use mathlib.Core.Logic.{⊎-elim}
 use mathlib.Core.Bool.{true}
 use mathlib.Core.List.{List, [], _∷_}
-use Prim.Native.Nat.{ℕ, _<_}
-use lib.ListN.{getD}
+use Prim.Native.Nat.{ℕ, _<_, _≤_}
+use lib.ListN.{getD, replicate, length-replicate, getD-replicate, List·getD-eq-default}
 use Rattle.pool.specs.Nodes.{parts}
 use Rattle.pool.specs.Pool.{limit}
 use Rattle.pool.specs.declared.node.Node.{Node}
 use Rattle.shape.specs.Shape.{has}
 use Rattle.shape.specs.Order.{inTurn, walk, numbered}
 use Rattle.shape.specs.Walked.{Falls, Walked}
-use Rattle.shape.proofs.Lists.{here, further}
+use Rattle.shape.proofs.Lists.{here, further, below-or-not}
 use Rattle.shape.proofs.Walked.{walk-done, numbered-from-one, walked-none, walked-done, walked-not-done, visit-room, visit-stored}
 use Rattle.node_walk.specs.Visits.{partsIn, Stands, Visits, Fresh, Stored}
 use Rattle.node_walk.specs.declared.Parts.{Parts}
@@ -20,9 +21,12 @@ use Rattle.node_walk.specs.declared.Parts.{Parts}
 abbrev pub Turns : (ℕ → Node) → List ℕ → List ℕ → List ℕ → ℕ → List ℕ → List ℕ → ℕ → Type 0
 Turns p is number order done number′ order′ done′ = (o : List ℕ) → Walked p o number order done → Walked p (inTurn (walk p limit) o is) number′ order′ done′
 
--- from the answer of `parts_of` to the parts of node i
+-- from the answer of `parts_of` to the parts of the node
+pub parts-told : (n : Node) {r x : Parts} → partsIn r ≡ parts n → r ≡ x → parts n ≡ partsIn x
+parts-told n e g = sym e ∙ ap partsIn g
+
 pub its-parts : {r x : Parts} {n m : Node} → partsIn r ≡ parts n → n ≡ m → r ≡ x → parts m ≡ partsIn x
-its-parts e f g = sym (ap partsIn (sym g) ∙ e ∙ ap parts f)
+its-parts {n = n} e f g = ap parts (sym f) ∙ parts-told n e g
 
 -- a node that has its number stays as it is
 pub visited-before : (p : ℕ → Node) (i : ℕ) {number order : List ℕ} {done : ℕ} → (getD number i 0 ≡ 0 → ⊥) → Visits p i number order done number order done
@@ -62,3 +66,13 @@ module _ (p : ℕ → Node) {number order : List ℕ} (f : Fresh number order) w
 
   pub walked-from : (root : ℕ) {number′ order′ : List ℕ} {n : ℕ} → Visits p root number order 0 number′ order′ n → Walked p (numbered p (root ∷ [])) number′ order′ n
   walked-from root {number′} {order′} {n} v = subst⁻¹ (λ o. Walked p o number′ order′ n) (numbered-from-one p root) (v [] none-done)
+
+-- tables of zeros stand for no node done
+pub zeros-are-fresh : (m : ℕ) → m ≡ limit → Fresh (replicate m 0) (replicate m 0)
+zeros-are-fresh m e =
+    record {
+      number-long = length-replicate m 0 ∙ e;
+      order-long = length-replicate m 0 ∙ e;
+      none = λ j.
+          ⊎-elim (λ l. getD-replicate m j 0 0 l) (λ l. List·getD-eq-default (replicate m 0) 0 (subst⁻¹ (λ k. k ≤ j) (length-replicate {A = ℕ} m 0) l)) (below-or-not j m);
+    }

@@ -2,7 +2,6 @@
 ghost use mathlib.Core.Path.{_≡_};
 ghost use mathlib.Core.List.{[], _∷_};
 ghost use Prim.Native.Nat.{_+_, _<_};
-ghost use lib.ListN.{set};
 ghost use Rattle.pool.specs.Nodes.{parts};
 ghost use Rattle.pool.specs.Pool.{limit, nodeIn};
 ghost use Rattle.shape.specs.Order.{numbered};
