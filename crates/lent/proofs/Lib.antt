@@ -2,3 +2,4 @@ pub mod Overwrite
 pub mod Each
 pub mod Taken
 pub mod Finishing
+pub mod Calling
