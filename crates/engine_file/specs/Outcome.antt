@@ -1,0 +1,41 @@
+-- What demand 3 says of the calls speaks of these: the file that a call of writing has written, and the pool that a call of reading has left.
+-- Assumes nothing.
+use mathlib.Core.Path.{_≡_}
+use mathlib.Core.List.{List, []}
+use Prim.Native.Nat.{ℕ, _+_, _*_, _≤_}
+use lib.ListN.{length, take}
+use Rattle.pool.specs.Pool.{limit, Pool}
+use Rattle.shape.specs.File.{readFile}
+use Rattle.lent.specs.Call.{Left, lentPool, onPool}
+use Rattle.lent.specs.declared.Answer.the-variants.{Node}
+use Rattle.engine_file.specs.Write.{Output, writeCall}
+use Rattle.engine_file.specs.declared.Written.{Written}
+use Rattle.engine_file.specs.declared.Written.the-variants.{Length, Refused}
+
+-- writing from a root of a lent pool
+abbrev pub writtenFrom : Pool → ℕ → List ℕ → Output
+writtenFrom P root old = writeCall (P .kinds) (P .words) (P .count) root old
+
+-- the bytes of the file in the output, none after a refusal
+abbrev pub bytesIn : Written → List ℕ → List ℕ
+bytesIn (Length m) out = take m out
+bytesIn (Refused k) out = []
+
+abbrev pub fileIn : Output → List ℕ
+fileIn o = bytesIn (o .answer) (o .out)
+
+-- "The longest file has 36,868 bytes.": an output that takes every file
+abbrev pub TakesAll : List ℕ → Type 0
+TakesAll old = 4 + 9 * limit ≤ length old
+
+-- reading into a lent pool, that is full at the limit
+abbrev pub readInto : Pool → List ℕ → Left
+readInto P bs = onPool (readFile bs) (P .kinds) (P .words) (P .count)
+
+-- the pool that a call has left
+abbrev pub poolLeft : Left → Pool
+poolLeft L = lentPool (L .kinds) (L .words) (L .count)
+
+-- the call is accepted, with the root i
+abbrev pub Gives : Left → ℕ → Type 0
+Gives L i = L .answer ≡ Node i

@@ -1,0 +1,8 @@
+pub mod Testing
+pub mod LowFirst
+pub mod Sizes
+pub mod Entering
+pub mod Places
+pub mod Shifting
+pub mod OneByOne
+pub mod Accepting

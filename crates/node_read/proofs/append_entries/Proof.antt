@@ -1,0 +1,74 @@
+-- `node_read::append_entries` meets its contract: what is appended so far is what the definition appends.
+-- Assumes nothing.
+use mathlib.Core.Path.{ap, _∙_}
+use Prim.Native.Nat.{_+_, _-_}
+use native.Mathlib.Omega.{arith}
+use denote.Ref.{now}
+use Rattle.pool.specs.Pool.{nodeIn}
+use Rattle.pool.specs.Made.{poolOf}
+use Rattle.shape.specs.Shape.{rename}
+use Rattle.node_read.proofs.OneByOne.{Appended, none-appended, one-appended, none-more, all-appended}
+use Rattle.node_read.proofs.Shifting.{all-below-limit}
+use Rattle.node_read.proofs.append_entries.Statement.{statement}
+use Rattle.node_read.proofs.append_entries.Tie as tie
+
+abbrev Inv-loop : tie.InvT-loop
+Inv-loop k w n kinds₀ words₀ by rest₀ last₀ i₀ kinds words rest last i = Appended (λ i. rename (λ j. by + j) (nodeIn k w i)) (poolOf kinds₀ words₀ rest₀) n i last (poolOf kinds words rest)
+
+abbrev μ-loop : tie.MeasureT-loop
+μ-loop k w n kinds₀ words₀ by rest₀ last₀ i₀ kinds words rest last i = n - i
+
+loop-holds : tie.Need-loop-holds Inv-loop μ-loop
+loop-holds c = none-appended (λ i. rename (λ j. c .args .room .count + j) ((nodeIn (now (c .args .k)) (now (c .args .w))) i)) _ _
+
+cast-node-at : tie.Need-cast-node-at Inv-loop μ-loop
+cast-node-at c = omega (arith, c .before .before .pre .0 .0, c .loop-test .taken)
+
+node-at-requires : tie.Need-node-at-requires Inv-loop μ-loop
+node-at-requires c κs = tt
+
+shifted-requires : tie.Need-shifted-requires Inv-loop μ-loop
+shifted-requires c κs = (c .before .before .before .pre .0 .1, all-below-limit (nodeIn (now (c .before .before .before .args .k)) (now (c .before .before .before .args .w))) (c .before .before .before .pre .1) (c .before .before .loop .i) (omega (arith, c .before .before .before .pre .0 .0, c .before .loop-test .taken)) (c .node-at .ensures))
+
+append-requires : tie.Need-append-requires Inv-loop μ-loop
+append-requires c κs = tt
+
+enum-known-appended : tie.Need-enum-known-appended Inv-loop μ-loop
+enum-known-appended c = c .match .keys1
+
+enum-told : tie.Need-enum-told Inv-loop μ-loop
+enum-told c = c .match .keys2
+
+returns : tie.Need-returns Inv-loop μ-loop
+returns c = none-more (c .before .before .before .before .before .before .before .before .loop .inv) (c .before .before .before .before .before .before .before .loop-test .taken) (c .before .before .before .before .before .shifted .ensures ∙ ap (rename (λ j. c .before .before .before .before .before .before .before .before .before .args .room .count + j)) (c .before .before .before .before .before .before .node-at .ensures)) _ _ _ (c .before .before .append .ensures) (c .enum-told .given .1)
+
+add-i : tie.Need-add-i Inv-loop μ-loop
+add-i c = omega (arith, c .before .before .before .before .before .before .before .before .before .before .pre .0 .0, c .before .before .before .before .before .before .before .before .loop-test .taken)
+
+loop-less : tie.Need-loop-less Inv-loop μ-loop
+loop-less c = omega (arith, c .before .before .before .before .before .before .before .before .loop-test .taken)
+
+loop-again : tie.Need-loop-again Inv-loop μ-loop
+loop-again c = one-appended (c .before .before .before .before .before .before .before .before .before .loop .inv) (c .before .before .before .before .before .before .before .before .loop-test .taken) (c .before .before .before .before .before .before .shifted .ensures ∙ ap (rename (λ j. c .before .before .before .before .before .before .before .before .before .before .args .room .count + j)) (c .before .before .before .before .before .before .before .node-at .ensures)) _ _ _ (c .before .before .before .append .ensures) (c .before .appended .given .1)
+
+returns-2 : tie.Need-returns-2 Inv-loop μ-loop
+returns-2 c = all-appended (c .before .loop .inv) (c .loop-test .left)
+
+pub append-entries-spec : {M : Type 1} → statement M
+append-entries-spec =
+    tie.close
+    (tie.spec
+    Inv-loop
+    μ-loop
+    loop-holds
+    cast-node-at
+    node-at-requires
+    shifted-requires
+    append-requires
+    enum-known-appended
+    enum-told
+    returns
+    add-i
+    loop-less
+    loop-again
+    returns-2)

@@ -1,0 +1,95 @@
+-- `node_read::entries_in` meets its contract: the entries passed stand in the tables, and one that is no node ends the loop.
+-- Assumes nothing.
+use mathlib.Core.Path.{sym, _∙_}
+use Prim.Native.Nat.{_-_}
+use native.Mathlib.Omega.{arith}
+use denote.Ref.{now}
+use borrow.Author.Tests.{not-true, not-false}
+use Rattle.node_read.proofs.Entering.{Entering, none-entered, one-entered, not-entered, all-entered}
+use Rattle.node_read.proofs.entries_in.Statement.{statement}
+use Rattle.node_read.proofs.entries_in.Tie as tie
+
+abbrev Inv-loop : tie.InvT-loop
+Inv-loop bytes n k₀ w₀ i₀ k w i = Entering bytes n i k w
+
+abbrev μ-loop : tie.MeasureT-loop
+μ-loop bytes n k₀ w₀ i₀ k w i = n - i
+
+loop-holds : tie.Need-loop-holds Inv-loop μ-loop
+loop-holds c = none-entered _ _ (c .before .pre .1)
+
+add-kind : tie.Need-add-kind Inv-loop μ-loop
+add-kind c = omega (arith, c .before .before .before .pre .0 .few, c .before .before .before .pre .0 .long, c .loop-test .taken)
+
+shared-slice-read-kind : tie.Need-shared-slice-read-kind Inv-loop μ-loop
+shared-slice-read-kind c = omega (arith, c .before .before .before .before .pre .0 .few, c .before .before .before .before .pre .0 .long, c .before .loop-test .taken)
+
+add-number-at : tie.Need-add-number-at Inv-loop μ-loop
+add-number-at c = record { fits = omega (arith, c .before .before .before .before .pre .0 .few, c .before .before .before .before .pre .0 .long, c .before .loop-test .taken) }
+
+mul-number-at : tie.Need-mul-number-at Inv-loop μ-loop
+mul-number-at c = record { fits = omega (arith, c .before .before .before .before .pre .0 .few, c .before .before .before .before .pre .0 .long, c .before .loop-test .taken) }
+
+add-number-at-2 : tie.Need-add-number-at-2 Inv-loop μ-loop
+add-number-at-2 c = record { fits = omega (arith, c .before .before .before .before .pre .0 .few, c .before .before .before .before .pre .0 .long, c .before .loop-test .taken) }
+
+number-at-requires : tie.Need-number-at-requires Inv-loop μ-loop
+number-at-requires c κs = (omega arith, omega (arith, c .before .before .before .before .pre .0 .few, c .before .before .before .before .pre .0 .long, c .before .loop-test .taken))
+
+cast-may-stand-at : tie.Need-cast-may-stand-at Inv-loop μ-loop
+cast-may-stand-at c = record { fits = omega (arith, c .before .before .before .before .before .pre .0 .few, c .before .before .before .before .before .pre .0 .long, c .before .before .loop-test .taken) }
+
+decode-requires : tie.Need-decode-requires Inv-loop μ-loop
+decode-requires c κs = tt
+
+may-stand-at-requires : tie.Need-may-stand-at-requires Inv-loop μ-loop
+may-stand-at-requires c κs = tt
+
+returns : tie.Need-returns Inv-loop μ-loop
+returns c = not-entered (now (c .before .before .before .before .before .before .before .before .args .bytes)) (c .before .before .before .before .before .before .before .before .pre .0) (c .before .before .before .before .before .before .loop .inv) (c .before .before .before .before .before .loop-test .taken) (c .before .before .before .number-at .ensures) (c .before .before .decode .ensures) (sym (c .before .may-stand-at .ensures) ∙ not-true _ (c .if1 .taken))
+
+element-write-k : tie.Need-element-write-k Inv-loop μ-loop
+element-write-k c = omega (arith, c .before .before .before .before .before .before .before .before .pre .0 .few, c .before .before .before .before .before .before .before .before .pre .0 .long, c .before .before .before .before .before .loop-test .taken)
+
+mul-w : tie.Need-mul-w Inv-loop μ-loop
+mul-w c = record { fits = omega (arith, c .before .before .before .before .before .before .before .before .pre .0 .few, c .before .before .before .before .before .before .before .before .pre .0 .long, c .before .before .before .before .before .loop-test .taken) }
+
+element-write-w : tie.Need-element-write-w Inv-loop μ-loop
+element-write-w c = omega (arith, c .before .before .before .before .before .before .before .before .pre .0 .few, c .before .before .before .before .before .before .before .before .pre .0 .long, c .before .before .before .before .before .loop-test .taken)
+
+add-i : tie.Need-add-i Inv-loop μ-loop
+add-i c = omega (arith, c .before .before .before .before .before .before .before .before .pre .0 .few, c .before .before .before .before .before .before .before .before .pre .0 .long, c .before .before .before .before .before .loop-test .taken)
+
+loop-less : tie.Need-loop-less Inv-loop μ-loop
+loop-less c = omega (arith, c .before .before .before .before .before .loop-test .taken)
+
+loop-again : tie.Need-loop-again Inv-loop μ-loop
+loop-again c = one-entered (now (c .before .before .before .before .before .before .before .before .args .bytes)) (c .before .before .before .before .before .before .before .before .pre .0) (c .before .before .before .before .before .before .loop .inv) (c .before .before .before .before .before .loop-test .taken) (c .before .before .before .number-at .ensures) (c .before .before .decode .ensures) (sym (c .before .may-stand-at .ensures) ∙ not-false _ (c .if1 .left))
+
+returns-2 : tie.Need-returns-2 Inv-loop μ-loop
+returns-2 c = all-entered (now (c .before .before .before .args .bytes)) (c .before .before .before .pre .0) (c .before .loop .inv) (c .loop-test .left)
+
+pub entries-in-spec : {M : Type 1} → statement M
+entries-in-spec =
+    tie.close
+    (tie.spec
+    Inv-loop
+    μ-loop
+    loop-holds
+    add-kind
+    shared-slice-read-kind
+    add-number-at
+    mul-number-at
+    add-number-at-2
+    number-at-requires
+    cast-may-stand-at
+    decode-requires
+    may-stand-at-requires
+    returns
+    element-write-k
+    mul-w
+    element-write-w
+    add-i
+    loop-less
+    loop-again
+    returns-2)

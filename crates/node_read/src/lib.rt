@@ -1,0 +1,174 @@
+// nodes.bin read into a pool: its length, its entries and their order are looked at, and then the nodes are appended.
+ghost use mathlib.Core.Path.{_≡_};
+ghost use mathlib.Core.List.{[], _∷_};
+ghost use Prim.Native.Nat.{_+_, _-_, _<_, _≤_};
+ghost use lib.Dec.{eqb};
+ghost use lib.ListN.{length, getD};
+ghost use Rattle.pool.specs.Pool.{limit, nodeIn, each};
+ghost use Rattle.pool.specs.Made.{made, poolOf};
+ghost use Rattle.shape.specs.Shape.{rename};
+ghost use Rattle.shape.specs.File.{numberAt, areInOrder, appendShifted, readFile};
+ghost use Rattle.shape.specs.Walked.{Falls};
+ghost use Rattle.node_read.specs.Reads.{acceptedSize, SizeIs, Zeros, Entered, PartsBelow};
+use node_walk::Parts;
+use pool::LIMIT;
+use pool::Made;
+use pool::Node;
+use pool::Room;
+
+// The number whose k bytes, low byte first, stand from a place on.
+fn number_at(bytes: &[u8], at: usize, k: usize) -> u64
+    requires { ⌜ (k ≤ 8) × (at + k ≤ length (now bytes)) ⌝ }
+    ensures { λ r. ⌜ r ≡ numberAt k (now (bytes .entry)) at ⌝ }
+{
+    let mut number: u64 = 0;
+    let mut left = k;
+    while 0 < left {
+        left -= 1;
+        let byte = bytes[at + left];
+        number = (byte as u64) + 256 * number;
+    }
+    number
+}
+
+// A file's n, or 0 where its length is wrong.
+fn size_of(bytes: &[u8]) -> usize
+    ensures { λ r. ⌜ r ≡ acceptedSize (now (bytes .entry)) ⌝ }
+{
+    let length = bytes.len();
+    if length < 4 {
+        return 0;
+    }
+    let n = number_at(bytes, 0, 4);
+    if (LIMIT as u64) < n {
+        return 0;
+    }
+    let size = n as usize;
+    if length != 4 + 9 * size {
+        return 0;
+    }
+    size
+}
+
+// Whether each entry is a node that may stand at its place. Where they are, they are copied, in the one pass that looks at them.
+fn entries_in(bytes: &[u8], n: usize, k: &mut [u8; LIMIT], w: &mut [u64; LIMIT]) -> bool
+    requires { ⌜ SizeIs (now bytes) n ⌝ }
+    requires { ⌜ Zeros (now k) × Zeros (now w) ⌝ }
+    ensures { λ r. ⌜ Entered r (now (bytes .entry)) (now (k .exit)) (now (w .exit)) ⌝ }
+{
+    let mut i = 0;
+    while i < n {
+        let kind = bytes[4 + i];
+        let word = number_at(bytes, 4 + n + 8 * i, 8);
+        if !pool::may_stand_at(i as u32, pool::decode(kind, word)) {
+            return false;
+        }
+        k[i] = kind;
+        w[i] = word;
+        i += 1;
+    }
+    true
+}
+
+// Whether each of the first n nodes has its own place as its number; a mark is the number + 1.
+fn in_place(number: &[u32; LIMIT], n: usize) -> bool
+    requires { ⌜ n ≤ limit ⌝ }
+    ensures { λ r. ⌜ r ≡ each n (λ i. eqb (getD (now (number .entry)) i 0) (i + 1)) ⌝ }
+{
+    let mut i = 0;
+    while i < n {
+        let mark = number[i];
+        if mark != (i as u32) + 1 {
+            return false;
+        }
+        i += 1;
+    }
+    true
+}
+
+// Whether the walk from entry n - 1 numbers each entry by its place.
+fn in_order(k: &[u8; LIMIT], w: &[u64; LIMIT], n: usize) -> bool
+    requires { ⌜ (0 < n) × (n ≤ limit) ⌝ }
+    requires { ⌜ Falls (nodeIn (now k) (now w)) ⌝ }
+    ensures { λ r. ⌜ r ≡ areInOrder (nodeIn (now (k .entry)) (now (w .entry))) ((n - 1) ∷ []) n ⌝ }
+{
+    let mut number = [0u32; LIMIT];
+    let mut order = [0u32; LIMIT];
+    let root = (n - 1) as u32;
+    node_walk::number_from(k, w, root, &mut number, &mut order);
+    in_place(&number, n)
+}
+
+// The node with its parts shifted.
+fn shifted(node: Node, by: u32) -> Node
+    requires { ⌜ (by ≤ limit) × PartsBelow limit node ⌝ }
+    ensures { λ r. ⌜ r ≡ rename (λ j. by + j) node ⌝ }
+{
+    match node_walk::parts_of(node) {
+        Parts::None => node,
+        Parts::One(a) => node_walk::with_parts(node, by + a, 0),
+        Parts::Two(a, b) => node_walk::with_parts(node, by + a, by + b),
+    }
+}
+
+// The n entries appended one after the other, their parts shifted by the count; the last is the root.
+fn append_entries(
+    k: &[u8; LIMIT],
+    w: &[u64; LIMIT],
+    n: usize,
+    kinds: &mut [u8; LIMIT],
+    words: &mut [u64; LIMIT],
+    room: Room,
+) -> Made
+    requires { ⌜ (n ≤ limit) × (room .count ≤ limit) ⌝ }
+    requires { ⌜ Falls (nodeIn (now k) (now w)) ⌝ }
+    ensures { λ r. ⌜ made r (now (kinds .exit)) (now (words .exit)) ≡ appendShifted n (nodeIn (now (k .entry)) (now (w .entry))) (poolOf (now (kinds .entry)) (now (words .entry)) room) ⌝ }
+{
+    let by = room.count;
+    let mut rest = room;
+    let mut last = by;
+    let mut i = 0;
+    while i < n {
+        let node = shifted(pool::node_at(k, w, i as u32), by);
+        let appended = pool::append(kinds, words, rest, node);
+        let Made::Node {
+            node: number,
+            room: after,
+        } = appended
+        else {
+            return appended;
+        };
+        last = number;
+        rest = after;
+        i += 1;
+    }
+    Made::Node {
+        node: last,
+        room: rest,
+    }
+}
+
+// A node file read into the pool: 7, 8 and 9 first, then the nodes.
+pub fn read_file(
+    bytes: &[u8],
+    kinds: &mut [u8; LIMIT],
+    words: &mut [u64; LIMIT],
+    room: Room,
+) -> Made
+    requires { ⌜ room .count ≤ limit ⌝ }
+    ensures { λ r. ⌜ made r (now (kinds .exit)) (now (words .exit)) ≡ readFile (now (bytes .entry)) (poolOf (now (kinds .entry)) (now (words .entry)) room) ⌝ }
+{
+    let n = size_of(bytes);
+    if n == 0 {
+        return Made::Refused(refusals::WRONG_LENGTH);
+    }
+    let mut k = [0u8; LIMIT];
+    let mut w = [0u64; LIMIT];
+    if !entries_in(bytes, n, &mut k, &mut w) {
+        return Made::Refused(refusals::WRONG_ENTRY);
+    }
+    if !in_order(&k, &w, n) {
+        return Made::Refused(refusals::WRONG_SEQUENCE);
+    }
+    append_entries(&k, &w, n, kinds, words, room)
+}

@@ -1,0 +1,3 @@
+pub mod Putting
+pub mod Marks
+pub mod Written

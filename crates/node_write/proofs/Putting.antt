@@ -1,0 +1,144 @@
+-- Bytes put over an output one after the other: a number's bytes, and entry after entry.
+-- Assumes nothing.
+use mathlib.Core.Path.{_≡_, refl, sym, ap, ap₂, _∙_}
+use mathlib.Core.List.{List, [], _∷_, _++_, map, append-assoc}
+use Prim.Native.Nat.{ℕ, zero, suc, _+_, _-_, _*_, _/_, _%_, _≤_, _<_}
+use native.Mathlib.Numerals.{add-one}
+use native.Mathlib.Omega.{arith}
+use lib.ListN.{length, set, length-set, length-append}
+use lib.Seq.{sets, length-sets}
+use Rattle.pool.specs.Nodes.{kindOf, wordOf}
+use Rattle.pool.specs.declared.node.Node.{Node}
+use Rattle.shape.specs.File.{bytes, wordBytes}
+use Rattle.shape.proofs.Bytes.{length-bytes}
+use Rattle.shape.proofs.Lists.{map-append}
+use Rattle.node_write.specs.Entries.{firstOf}
+
+pub sets-append : (old : List ℕ) (i : ℕ) (xs ys : List ℕ) → sets old i (xs ++ ys) ≡ sets (sets old i xs) (i + length xs) ys
+sets-append old i [] ys = ap (λ j. sets old j ys) (same i)
+  where
+    same : (i : ℕ) → i ≡ i + 0
+    same i = omega arith
+sets-append old i (x ∷ xs) ys = sets-append (set old i x) (suc i) xs ys ∙ ap (λ j. sets (sets (set old i x) (suc i) xs) j ys) (same i (length xs))
+  where
+    same : (i n : ℕ) → suc i + n ≡ i + suc n
+    same i n = omega arith
+
+-- the bytes of a number: i of k are put, and what is left to put makes the whole
+pub record BytesPut (old : List ℕ) (at k x : ℕ) (out : List ℕ) (rest i : ℕ) : Type 0 where
+  pub few : i ≤ k
+  pub long : length out ≡ length old
+  pub whole : sets out (at + i) (bytes (k - i) rest) ≡ sets old at (bytes k x)
+
+pub no-bytes-put : (old : List ℕ) (at k x : ℕ) → BytesPut old at k x old x 0
+no-bytes-put old at k x =
+    record {
+      few = omega arith;
+      long = refl;
+      whole = ap₂ (λ i j. sets old i (bytes j x)) (same at) (all k);
+    }
+  where
+    same : (n : ℕ) → n + 0 ≡ n
+    same n = omega arith
+
+    all : (n : ℕ) → n - 0 ≡ n
+    all n = omega arith
+
+pub byte-put : {old : List ℕ} {at k x : ℕ} {out : List ℕ} {rest i : ℕ} → BytesPut old at k x out rest i → i < k → BytesPut old at k x (set out (at + i) (rest % 256)) (rest / 256) (i + 1)
+byte-put {old} {at} {k} {x} {out} {rest} {i} b l =
+    record {
+      few = omega arith;
+      long = length-set out (at + i) (rest % 256) ∙ b .long;
+      whole = ap (λ j. sets (set out (at + i) (rest % 256)) j (bytes (k - (i + 1)) (rest / 256))) (next at i) ∙ sym (ap (λ j. sets out (at + i) (bytes j rest)) (one-less k i l)) ∙ b .whole;
+    }
+  where
+    next : (at i : ℕ) → at + (i + 1) ≡ suc (at + i)
+    next at i = omega arith
+
+    one-less : (k i : ℕ) → i < k → k - i ≡ suc (k - (i + 1))
+    one-less k i l = omega arith
+
+pub all-bytes-put : {old : List ℕ} {at k x : ℕ} {out : List ℕ} {rest i : ℕ} → BytesPut old at k x out rest i → k ≤ i → out ≡ sets old at (bytes k x)
+all-bytes-put {at = at} {k} {x} {out} {rest} {i} b l = sym (ap (λ j. sets out (at + i) (bytes j rest)) (none k i l)) ∙ b .whole
+  where
+    none : (k i : ℕ) → k ≤ i → k - i ≡ 0
+    none k i l = omega arith
+
+-- the first n of a table
+pub length-first : (n : ℕ) (q : ℕ → Node) → length (firstOf n q) ≡ n
+unfolding firstOf
+length-first zero q = refl
+length-first (suc n) q = length-append (firstOf n q) (q n ∷ []) ∙ ap (λ k. k + 1) (length-first n q) ∙ add-one n
+
+-- what is put of entries: f of all of them, g of one more, each of the same width
+pub record Puts (f : List Node → List ℕ) (g : Node → List ℕ) (width : ℕ) : Type 0 where
+  pub none : f [] ≡ []
+  pub more : (es : List Node) (e : Node) → f (es ++ (e ∷ [])) ≡ f es ++ g e
+  pub long : (es : List Node) → length (f es) ≡ width * length es
+
+-- entry after entry: those of the first m of n are put
+pub record EntriesPut (f : List Node → List ℕ) (q : ℕ → Node) (n at : ℕ) (old : List ℕ) (m : ℕ) (out : List ℕ) : Type 0 where
+  pub few : m ≤ n
+  pub long : length out ≡ length old
+  pub is : out ≡ sets old at (f (firstOf m q))
+
+module _ {f : List Node → List ℕ} {g : Node → List ℕ} {width : ℕ} (p : Puts f g width) where
+  pub no-entries-put : (q : ℕ → Node) (n at : ℕ) (old : List ℕ) → EntriesPut f q n at old 0 old
+  unfolding firstOf
+  no-entries-put q n at old = record { few = omega arith; long = refl; is = sym (ap (sets old at) (p .none)) }
+
+  entry-put : {q : ℕ → Node} {n at : ℕ} {old : List ℕ} {m : ℕ} {out : List ℕ} → EntriesPut f q n at old m out → m < n → {out′ : List ℕ} → out′ ≡ sets out (at + width * m) (g (q m)) → EntriesPut f q n at old (m + 1) out′
+  unfolding firstOf
+  entry-put {q} {n} {at} {old} {m} {out} h l e =
+      record {
+        few = omega arith;
+        long = ap length e ∙ length-sets out (at + width * m) (g (q m)) ∙ h .long;
+        is =
+            e
+            ∙ ap₂ (λ o i. sets o (at + i) (g (q m))) (h .is) (sym (p .long (firstOf m q) ∙ ap (λ k. width * k) (length-first m q)))
+            ∙ sym (sets-append old at (f (firstOf m q)) (g (q m)))
+            ∙ sym (ap (sets old at) (p .more (firstOf m q) (q m)))
+            ∙ ap (λ k. sets old at (f (firstOf k q))) (sym (add-one m));
+      }
+
+pub all-entries-put : {f : List Node → List ℕ} {q : ℕ → Node} {n at : ℕ} {old : List ℕ} {m : ℕ} {out : List ℕ} → EntriesPut f q n at old m out → n ≤ m → out ≡ sets old at (f (firstOf n q))
+all-entries-put {f} {q} {n} {at} {old} {m} h l = h .is ∙ ap (λ k. sets old at (f (firstOf k q))) (same m n (h .few) l)
+  where
+    same : (m n : ℕ) → m ≤ n → n ≤ m → m ≡ n
+    same m n a b = omega arith
+
+pub kinds-put : Puts (map kindOf) (λ e. kindOf e ∷ []) 1
+kinds-put = record { none = refl; more = λ es e. map-append kindOf es (e ∷ []); long = length-kinds }
+  where
+    length-kinds : (es : List Node) → length (map kindOf es) ≡ 1 * length es
+    length-kinds [] = refl
+    length-kinds (e ∷ es) = ap suc (length-kinds es) ∙ one (length es)
+      where
+        one : (n : ℕ) → suc (1 * n) ≡ 1 * suc n
+        one n = omega arith
+
+words-more : (es : List Node) (e : Node) → wordBytes (es ++ (e ∷ [])) ≡ wordBytes es ++ bytes 8 (wordOf e)
+words-more [] e = refl
+words-more (d ∷ es) e = ap (λ more. bytes 8 (wordOf d) ++ more) (words-more es e) ∙ sym (append-assoc (bytes 8 (wordOf d)) (wordBytes es) (bytes 8 (wordOf e)))
+
+length-words : (es : List Node) → length (wordBytes es) ≡ 8 * length es
+length-words [] = refl
+length-words (e ∷ es) = length-append (bytes 8 (wordOf e)) (wordBytes es) ∙ ap₂ _+_ (length-bytes 8 (wordOf e)) (length-words es) ∙ eight (length es)
+  where
+    eight : (n : ℕ) → 8 + 8 * n ≡ 8 * suc n
+    eight n = omega arith
+
+pub words-put : Puts wordBytes (λ e. bytes 8 (wordOf e)) 8
+words-put = record { none = refl; more = words-more; long = length-words }
+
+-- a turn of each loop
+pub kind-put : {q : ℕ → Node} {n at : ℕ} {old : List ℕ} {m : ℕ} {out : List ℕ} {kind : ℕ} {e : Node}
+    → EntriesPut (map kindOf) q n at old m out → m < n → kind ≡ kindOf e → e ≡ q m → EntriesPut (map kindOf) q n at old (m + 1) (set out (at + m) kind)
+kind-put {at = at} {m = m} {out = out} h l k e = entry-put kinds-put h l (ap₂ (λ i x. set out (at + i) x) (once m) (k ∙ ap kindOf e))
+  where
+    once : (m : ℕ) → m ≡ 1 * m
+    once m = omega arith
+
+pub word-put : {q : ℕ → Node} {n at : ℕ} {old : List ℕ} {m : ℕ} {out out′ : List ℕ} (x : ℕ) {e : Node}
+    → EntriesPut wordBytes q n at old m out → m < n → out′ ≡ sets out (at + 8 * m) (bytes 8 x) → x ≡ wordOf e → e ≡ q m → EntriesPut wordBytes q n at old (m + 1) out′
+word-put {at = at} {m = m} {out = out} x h l w k e = entry-put words-put h l (w ∙ ap (λ y. sets out (at + 8 * m) (bytes 8 y)) (k ∙ ap wordOf e))

@@ -1,0 +1,72 @@
+-- `node_write::put_words` meets its contract: after m turns the words of the first m entries are put.
+-- Assumes nothing.
+use Prim.Native.Nat.{_-_, _+_}
+use native.Mathlib.Omega.{arith}
+use denote.Ref.{now}
+use Rattle.pool.specs.Pool.{nodeIn}
+use Rattle.shape.specs.File.{wordBytes}
+use Rattle.node_write.specs.Entries.{entryBy}
+use Rattle.node_write.proofs.Putting.{EntriesPut, words-put, no-entries-put, word-put, all-entries-put}
+use Rattle.node_write.proofs.put_words.Statement.{statement}
+use Rattle.node_write.proofs.put_words.Tie as tie
+
+abbrev Inv-loop : tie.InvT-loop
+Inv-loop kinds words number order n out₀ m₀ out m = EntriesPut wordBytes (entryBy (nodeIn kinds words) number order) n (4 + n) out₀ m out
+
+abbrev μ-loop : tie.MeasureT-loop
+μ-loop kinds words number order n out₀ m₀ out m = n - m
+
+loop-holds : tie.Need-loop-holds Inv-loop μ-loop
+loop-holds c = no-entries-put words-put (entryBy (nodeIn (now (c .before .args .kinds)) (now (c .before .args .words))) (now (c .before .args .number)) (now (c .before .args .order))) (c .before .args .n) (4 + c .before .args .n) _
+
+entry-requires : tie.Need-entry-requires Inv-loop μ-loop
+entry-requires c κs = let listed = c .before .before .before .pre .0 in (omega (arith, listed .few, c .loop-test .taken), listed .parts-marked (c .before .loop .m) (c .loop-test .taken))
+
+word-of-requires : tie.Need-word-of-requires Inv-loop μ-loop
+word-of-requires c κs = tt
+
+add-put-bytes : tie.Need-add-put-bytes Inv-loop μ-loop
+add-put-bytes c = record { fits = omega (arith, c .before .before .before .before .before .before .pre .0 .few) }
+
+mul-put-bytes : tie.Need-mul-put-bytes Inv-loop μ-loop
+mul-put-bytes c = record { fits = omega (arith, c .before .before .before .before .before .before .pre .0 .few, c .before .before .before .loop-test .taken) }
+
+add-put-bytes-2 : tie.Need-add-put-bytes-2 Inv-loop μ-loop
+add-put-bytes-2 c = record { fits = omega (arith, c .before .before .before .before .before .before .pre .0 .few, c .before .before .before .loop-test .taken) }
+
+put-bytes-requires : tie.Need-put-bytes-requires Inv-loop μ-loop
+put-bytes-requires c κs = omega (arith, c .before .before .before .before .loop .inv .long, c .before .before .before .before .before .before .pre .1, c .before .before .before .loop-test .taken)
+
+add-m : tie.Need-add-m Inv-loop μ-loop
+add-m c = omega (arith, c .before .before .before .before .before .before .before .before .before .pre .0 .few, c .before .before .before .before .before .before .loop-test .taken)
+
+loop-less : tie.Need-loop-less Inv-loop μ-loop
+loop-less c = omega (arith, c .before .before .before .before .before .before .loop-test .taken)
+
+loop-again : tie.Need-loop-again Inv-loop μ-loop
+loop-again c = word-put (c .before .before .before .before .word-of .result) (c .before .before .before .before .before .before .before .loop .inv) (c .before .before .before .before .before .before .loop-test .taken) (c .before .before .put-bytes .ensures) (c .before .before .before .before .word-of .ensures) (c .before .before .before .before .before .entry .ensures)
+
+same-length : tie.Need-same-length Inv-loop μ-loop
+same-length c = c .before .loop .inv .long
+
+returns : tie.Need-returns Inv-loop μ-loop
+returns c = all-entries-put (c .before .loop .inv) (c .loop-test .left)
+
+pub put-words-spec : {M : Type 1} → statement M
+put-words-spec =
+    tie.close
+    (tie.spec
+    Inv-loop
+    μ-loop
+    loop-holds
+    entry-requires
+    word-of-requires
+    add-put-bytes
+    mul-put-bytes
+    add-put-bytes-2
+    put-bytes-requires
+    add-m
+    loop-less
+    loop-again
+    same-length
+    returns)

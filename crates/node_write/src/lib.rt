@@ -1,0 +1,143 @@
+// nodes.bin written from one root into a lent output.
+ghost use mathlib.Core.Path.{_≡_};
+ghost use mathlib.Core.List.{map};
+ghost use Prim.Native.Nat.{_+_, _*_, _<_, _≤_};
+ghost use lib.ListN.{length, getD};
+ghost use lib.Seq.{sets};
+ghost use Rattle.pool.specs.Nodes.{kindOf, parts};
+ghost use Rattle.pool.specs.Pool.{limit, nodeIn};
+ghost use Rattle.shape.specs.Shape.{rename};
+ghost use Rattle.shape.specs.File.{bytes, wordBytes, writtenFile};
+ghost use Rattle.node_write.specs.Entries.{numberIn, Marked, AllMarked, entryBy, Listed, firstOf};
+ghost use Rattle.node_write.specs.Output.{HasRoot, wrote, puts};
+use node_walk::Parts;
+use pool::LIMIT;
+use pool::Node;
+
+// What writing gives: how many bytes the file has, or that the output is too short.
+pub enum FileLength {
+    Bytes(u64),
+    NoRoom,
+}
+
+// A part's number in the file; a mark is that number + 1.
+fn number_of(number: &[u32; LIMIT], part: u32) -> u32
+    requires { ⌜ Marked (now number) part ⌝ }
+    ensures { λ r. ⌜ r ≡ numberIn (now (number .entry)) part ⌝ }
+{
+    let mark = number[part as usize];
+    mark - 1
+}
+
+// The node with its parts given by their numbers.
+fn renumbered(number: &[u32; LIMIT], node: Node) -> Node
+    requires { ⌜ AllMarked (now number) (parts node) ⌝ }
+    ensures { λ r. ⌜ r ≡ rename (numberIn (now (number .entry))) node ⌝ }
+{
+    match node_walk::parts_of(node) {
+        Parts::None => node,
+        Parts::One(a) => {
+            let only = number_of(number, a);
+            node_walk::with_parts(node, only, 0)
+        }
+        Parts::Two(a, b) => {
+            let left = number_of(number, a);
+            let right = number_of(number, b);
+            node_walk::with_parts(node, left, right)
+        }
+    }
+}
+
+// Entry m of the file: the node with number m.
+fn entry(
+    kinds: &[u8; LIMIT],
+    words: &[u64; LIMIT],
+    number: &[u32; LIMIT],
+    order: &[u32; LIMIT],
+    m: usize,
+) -> Node
+    requires { ⌜ m < limit ⌝ }
+    requires { ⌜ AllMarked (now number) (parts (nodeIn (now kinds) (now words) (getD (now order) m 0))) ⌝ }
+    ensures { λ r. ⌜ r ≡ entryBy (nodeIn (now (kinds .entry)) (now (words .entry))) (now (number .entry)) (now (order .entry)) m ⌝ }
+{
+    let node = pool::node_at(kinds, words, order[m]);
+    renumbered(number, node)
+}
+
+// The k lowest bytes of a number, low byte first.
+fn put_bytes(out: &mut [u8], at: usize, k: usize, x: u64)
+    requires { ⌜ at + k ≤ length (now out) ⌝ }
+    ensures { λ _. ⌜ now (out .exit) ≡ sets (now (out .entry)) at (bytes k x) ⌝ }
+{
+    let mut rest = x;
+    let mut i = 0;
+    while i < k {
+        out[at + i] = (rest % 256) as u8;
+        rest = rest / 256;
+        i += 1;
+    }
+}
+
+// The kinds of the first n entries, from place 4 on.
+fn put_kinds(
+    kinds: &[u8; LIMIT],
+    words: &[u64; LIMIT],
+    number: &[u32; LIMIT],
+    order: &[u32; LIMIT],
+    n: usize,
+    out: &mut [u8],
+)
+    requires { ⌜ Listed (nodeIn (now kinds) (now words)) (now number) (now order) n ⌝ }
+    requires { ⌜ 4 + n ≤ length (now out) ⌝ }
+    ensures { λ _. ⌜ now (out .exit) ≡ sets (now (out .entry)) 4 (map kindOf (firstOf n (entryBy (nodeIn (now (kinds .entry)) (now (words .entry))) (now (number .entry)) (now (order .entry))))) ⌝ }
+{
+    let mut m = 0;
+    while m < n {
+        out[4 + m] = pool::kind_of(entry(kinds, words, number, order, m));
+        m += 1;
+    }
+}
+
+// The words of the first n entries, after their kinds.
+fn put_words(
+    kinds: &[u8; LIMIT],
+    words: &[u64; LIMIT],
+    number: &[u32; LIMIT],
+    order: &[u32; LIMIT],
+    n: usize,
+    out: &mut [u8],
+)
+    requires { ⌜ Listed (nodeIn (now kinds) (now words)) (now number) (now order) n ⌝ }
+    requires { ⌜ 4 + 9 * n ≤ length (now out) ⌝ }
+    ensures { λ _. ⌜ now (out .exit) ≡ sets (now (out .entry)) (4 + n) (wordBytes (firstOf n (entryBy (nodeIn (now (kinds .entry)) (now (words .entry))) (now (number .entry)) (now (order .entry))))) ⌝ }
+{
+    let mut m = 0;
+    while m < n {
+        let word = pool::word_of(entry(kinds, words, number, order, m));
+        put_bytes(out, 4 + n + 8 * m, 8, word);
+        m += 1;
+    }
+}
+
+// The node file of a root. How long it is is known after the walk, before the first byte is written.
+pub fn write_file(
+    kinds: &[u8; LIMIT],
+    words: &[u64; LIMIT],
+    root: u32,
+    out: &mut [u8],
+) -> FileLength
+    requires { ⌜ HasRoot (now kinds) (now words) root ⌝ }
+    ensures { λ r. ⌜ wrote r (now (out .exit)) ≡ puts (writtenFile (now (kinds .entry)) (now (words .entry)) root) (now (out .entry)) ⌝ }
+{
+    let mut number = [0u32; LIMIT];
+    let mut order = [0u32; LIMIT];
+    let n = node_walk::number_from(kinds, words, root, &mut number, &mut order) as usize;
+    let length = 4 + 9 * n;
+    if out.len() < length {
+        return FileLength::NoRoom;
+    }
+    put_bytes(out, 0, 4, n as u64);
+    put_kinds(kinds, words, &number, &order, n, out);
+    put_words(kinds, words, &number, &order, n, out);
+    FileLength::Bytes(length as u64)
+}
