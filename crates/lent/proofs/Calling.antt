@@ -1,14 +1,3 @@
-<<<<<<< HEAD
--- The ways in which a call from outside ends, from the crate of what is lent.
--- Assumes nothing.
-<<<<<<<< HEAD:crates/lent/proofs/Calling.antt
-use mathlib.Core.Path.{_≡_, refl, sym, ap, _∙_}
-use mathlib.Core.Bool.{Bool, true, false}
-use mathlib.Core.List.{List}
-use Prim.Native.Nat.{ℕ, _≤_}
-use Rattle.refusals.specs.Refusals.{brokenPool}
-use Rattle.pool.specs.Pool.{Pool, pool, Out, done, refused, Run, limit, isPool}
-=======
 -- The ways in which a call from outside ends: the pool is refused, a demand is, or the work is done.
 -- Assumes nothing.
 use mathlib.Core.Path.{_≡_, sym, _∙_}
@@ -17,16 +6,11 @@ use mathlib.Core.List.{List}
 use Prim.Native.Nat.{ℕ}
 use Rattle.refusals.specs.Refusals.{brokenPool}
 use Rattle.pool.specs.Pool.{Pool, pool, Out, refused, Run, limit, isPool}
->>>>>>> 0497e57
 use Rattle.constructor_laws.specs.Grown.{Grows}
 use Rattle.constructor_laws.proofs.Growth.{Growing}
 use Rattle.lent.specs.Lent.{TakenIn}
 use Rattle.lent.specs.Call.{Left, left, leaves, lentPool, demand, onPool}
-<<<<<<< HEAD
-use Rattle.lent.specs.declared.Answer.the-variants.{Node, Refused}
-=======
 use Rattle.lent.specs.declared.Answer.the-variants.{Refused}
->>>>>>> 0497e57
 use Rattle.lent.proofs.Finishing.{Sized, pool-sized}
 
 -- a demand that is met
@@ -56,9 +40,3 @@ module _ {r : Bool} {ks ws : List ℕ} {n : ℕ} {k w : List ℕ} (t : TakenIn r
 -- the work only appends
 pub appends : {run : Run} {P : Pool} {x : Out} → Growing run → x ≡ run P → Grows P x
 appends {P = P} g e = rw e (g .grows P)
-<<<<<<< HEAD
-========
-pub use Rattle.lent.proofs.Calling.{met, is-pool, sizes, broken, demanded, on-lent, worked, appends}
->>>>>>>> 0497e57:crates/engine/proofs/Calling.antt
-=======
->>>>>>> 0497e57
