@@ -29,13 +29,13 @@ pub fn derive_in(
 {
     if (root as usize) < LIMIT {
         let mut kept = [0u64; LIMIT];
-        return derive_at(kinds, words, &mut kept, room, root, var);
+        return walk_at(kinds, words, &mut kept, room, root, var);
     }
     Made::Refused(refusals::BROKEN_POOL)
 }
 
 // From a node: its result is kept, as one more than its number.
-fn derive_at(
+fn walk_at(
     kinds: &mut [u8; LIMIT],
     words: &mut [u64; LIMIT],
     kept: &mut [u64; LIMIT],
@@ -54,7 +54,7 @@ fn derive_at(
             room,
         };
     }
-    let visited = derive_node(kinds, words, kept, room, term, var);
+    let visited = walk_node(kinds, words, kept, room, term, var);
     let Made::Node {
         node: result,
         room: rest,
@@ -70,7 +70,7 @@ fn derive_at(
 }
 
 // At a node, by its kind.
-fn derive_node(
+fn walk_node(
     kinds: &mut [u8; LIMIT],
     words: &mut [u64; LIMIT],
     kept: &mut [u64; LIMIT],
@@ -91,18 +91,18 @@ fn derive_node(
             crate::rules::slope(v, var),
         ),
         Node::Lit(_) => crate::rules::lit_rule(kinds, words, room, 0),
-        Node::Add(a, b) => derive_two(kinds, words, kept, room, term, Two::Add, a, b, var),
-        Node::Mul(a, b) => derive_two(kinds, words, kept, room, term, Two::Mul, a, b, var),
-        Node::Div(a, b) => derive_two(kinds, words, kept, room, term, Two::Div, a, b, var),
-        Node::Exp(a) => derive_one(kinds, words, kept, room, term, One::Exp, a, var),
-        Node::Log(a) => derive_one(kinds, words, kept, room, term, One::Log, a, var),
-        Node::Pow(a, e) => derive_one(kinds, words, kept, room, term, One::Pow(e), a, var),
+        Node::Add(a, b) => walk_two(kinds, words, kept, room, term, Two::Add, a, b, var),
+        Node::Mul(a, b) => walk_two(kinds, words, kept, room, term, Two::Mul, a, b, var),
+        Node::Div(a, b) => walk_two(kinds, words, kept, room, term, Two::Div, a, b, var),
+        Node::Exp(a) => walk_one(kinds, words, kept, room, term, One::Exp, a, var),
+        Node::Log(a) => walk_one(kinds, words, kept, room, term, One::Log, a, var),
+        Node::Pow(a, e) => walk_one(kinds, words, kept, room, term, One::Pow(e), a, var),
         Node::Max(_, _) => Made::Refused(refusals::MAX_REACHED),
     }
 }
 
 // A node of two parts, left before right.
-fn derive_two(
+fn walk_two(
     kinds: &mut [u8; LIMIT],
     words: &mut [u64; LIMIT],
     kept: &mut [u64; LIMIT],
@@ -116,7 +116,7 @@ fn derive_two(
     requires { ⌜ term < limit ⌝ }
     ensures { λ r. ⌜ walked r (now (kinds .exit)) (now (words .exit)) (now (kept .exit)) ≡ deriveTwo (walkBelow (deriveAt var) term) op a b (stateOf (now (kinds .entry)) (now (words .entry)) (now (kept .entry)) room) ⌝ }
 {
-    let left = derive_part(kinds, words, kept, room, term, a, var);
+    let left = walk_part(kinds, words, kept, room, term, a, var);
     let Made::Node {
         node: da,
         room: more,
@@ -124,7 +124,7 @@ fn derive_two(
     else {
         return left;
     };
-    let right = derive_part(kinds, words, kept, more, term, b, var);
+    let right = walk_part(kinds, words, kept, more, term, b, var);
     let Made::Node {
         node: db,
         room: rest,
@@ -136,7 +136,7 @@ fn derive_two(
 }
 
 // A node of one part.
-fn derive_one(
+fn walk_one(
     kinds: &mut [u8; LIMIT],
     words: &mut [u64; LIMIT],
     kept: &mut [u64; LIMIT],
@@ -149,7 +149,7 @@ fn derive_one(
     requires { ⌜ term < limit ⌝ }
     ensures { λ r. ⌜ walked r (now (kinds .exit)) (now (words .exit)) (now (kept .exit)) ≡ deriveOne (walkBelow (deriveAt var) term) term op a (stateOf (now (kinds .entry)) (now (words .entry)) (now (kept .entry)) room) ⌝ }
 {
-    let part = derive_part(kinds, words, kept, room, term, a, var);
+    let part = walk_part(kinds, words, kept, room, term, a, var);
     let Made::Node {
         node: da,
         room: rest,
@@ -161,7 +161,7 @@ fn derive_one(
 }
 
 // A part, which has a smaller number than the node.
-fn derive_part(
+fn walk_part(
     kinds: &mut [u8; LIMIT],
     words: &mut [u64; LIMIT],
     kept: &mut [u64; LIMIT],
@@ -174,7 +174,7 @@ fn derive_part(
     ensures { λ r. ⌜ walked r (now (kinds .exit)) (now (words .exit)) (now (kept .exit)) ≡ walkBelow (deriveAt var) term a (stateOf (now (kinds .entry)) (now (words .entry)) (now (kept .entry)) room) ⌝ }
 {
     if a < term {
-        return derive_at(kinds, words, kept, room, a, var);
+        return walk_at(kinds, words, kept, room, a, var);
     }
     Made::Refused(refusals::BROKEN_POOL)
 }

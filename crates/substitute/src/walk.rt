@@ -31,13 +31,13 @@ pub fn substitute_in(
 {
     if (root as usize) < LIMIT {
         let mut kept = [0u64; LIMIT];
-        return substitute_at(kinds, words, &mut kept, room, root, var, value);
+        return walk_at(kinds, words, &mut kept, room, root, var, value);
     }
     Made::Refused(refusals::BROKEN_POOL)
 }
 
 // From a node: its result is kept, as one more than its number.
-fn substitute_at(
+fn walk_at(
     kinds: &mut [u8; LIMIT],
     words: &mut [u64; LIMIT],
     kept: &mut [u64; LIMIT],
@@ -57,7 +57,7 @@ fn substitute_at(
             room,
         };
     }
-    let visited = substitute_node(kinds, words, kept, room, term, var, value);
+    let visited = walk_node(kinds, words, kept, room, term, var, value);
     let Made::Node {
         node: result,
         room: rest,
@@ -83,7 +83,7 @@ fn put_for(v: u32, term: u32, var: u32, value: u32) -> u32
 }
 
 // At a node, by its kind.
-fn substitute_node(
+fn walk_node(
     kinds: &mut [u8; LIMIT],
     words: &mut [u64; LIMIT],
     kept: &mut [u64; LIMIT],
@@ -103,72 +103,18 @@ fn substitute_node(
             room,
         },
         Node::Lit(_) => Made::Node { node: term, room },
-        Node::Add(a, b) => substitute_two(
-            kinds,
-            words,
-            kept,
-            room,
-            term,
-            Two::Add,
-            a,
-            b,
-            var,
-            value,
-        ),
-        Node::Mul(a, b) => substitute_two(
-            kinds,
-            words,
-            kept,
-            room,
-            term,
-            Two::Mul,
-            a,
-            b,
-            var,
-            value,
-        ),
-        Node::Div(a, b) => substitute_two(
-            kinds,
-            words,
-            kept,
-            room,
-            term,
-            Two::Div,
-            a,
-            b,
-            var,
-            value,
-        ),
-        Node::Exp(a) => substitute_one(kinds, words, kept, room, term, One::Exp, a, var, value),
-        Node::Log(a) => substitute_one(kinds, words, kept, room, term, One::Log, a, var, value),
-        Node::Pow(a, e) => substitute_one(
-            kinds,
-            words,
-            kept,
-            room,
-            term,
-            One::Pow(e),
-            a,
-            var,
-            value,
-        ),
-        Node::Max(a, b) => substitute_two(
-            kinds,
-            words,
-            kept,
-            room,
-            term,
-            Two::Max,
-            a,
-            b,
-            var,
-            value,
-        ),
+        Node::Add(a, b) => walk_two(kinds, words, kept, room, term, Two::Add, a, b, var, value),
+        Node::Mul(a, b) => walk_two(kinds, words, kept, room, term, Two::Mul, a, b, var, value),
+        Node::Div(a, b) => walk_two(kinds, words, kept, room, term, Two::Div, a, b, var, value),
+        Node::Exp(a) => walk_one(kinds, words, kept, room, term, One::Exp, a, var, value),
+        Node::Log(a) => walk_one(kinds, words, kept, room, term, One::Log, a, var, value),
+        Node::Pow(a, e) => walk_one(kinds, words, kept, room, term, One::Pow(e), a, var, value),
+        Node::Max(a, b) => walk_two(kinds, words, kept, room, term, Two::Max, a, b, var, value),
     }
 }
 
 // A node of two parts, left before right.
-fn substitute_two(
+fn walk_two(
     kinds: &mut [u8; LIMIT],
     words: &mut [u64; LIMIT],
     kept: &mut [u64; LIMIT],
@@ -183,7 +129,7 @@ fn substitute_two(
     requires { ⌜ term < limit ⌝ }
     ensures { λ r. ⌜ walked r (now (kinds .exit)) (now (words .exit)) (now (kept .exit)) ≡ substituteTwo (walkBelow (substituteAt var value) term) term op a b (stateOf (now (kinds .entry)) (now (words .entry)) (now (kept .entry)) room) ⌝ }
 {
-    let left = substitute_part(kinds, words, kept, room, term, a, var, value);
+    let left = walk_part(kinds, words, kept, room, term, a, var, value);
     let Made::Node {
         node: a2,
         room: more,
@@ -191,7 +137,7 @@ fn substitute_two(
     else {
         return left;
     };
-    let right = substitute_part(kinds, words, kept, more, term, b, var, value);
+    let right = walk_part(kinds, words, kept, more, term, b, var, value);
     let Made::Node {
         node: b2,
         room: rest,
@@ -203,7 +149,7 @@ fn substitute_two(
 }
 
 // A node of one part.
-fn substitute_one(
+fn walk_one(
     kinds: &mut [u8; LIMIT],
     words: &mut [u64; LIMIT],
     kept: &mut [u64; LIMIT],
@@ -217,7 +163,7 @@ fn substitute_one(
     requires { ⌜ term < limit ⌝ }
     ensures { λ r. ⌜ walked r (now (kinds .exit)) (now (words .exit)) (now (kept .exit)) ≡ substituteOne (walkBelow (substituteAt var value) term) term op a (stateOf (now (kinds .entry)) (now (words .entry)) (now (kept .entry)) room) ⌝ }
 {
-    let part = substitute_part(kinds, words, kept, room, term, a, var, value);
+    let part = walk_part(kinds, words, kept, room, term, a, var, value);
     let Made::Node {
         node: a2,
         room: rest,
@@ -229,7 +175,7 @@ fn substitute_one(
 }
 
 // A part, which has a smaller number than the node.
-fn substitute_part(
+fn walk_part(
     kinds: &mut [u8; LIMIT],
     words: &mut [u64; LIMIT],
     kept: &mut [u64; LIMIT],
@@ -243,7 +189,7 @@ fn substitute_part(
     ensures { λ r. ⌜ walked r (now (kinds .exit)) (now (words .exit)) (now (kept .exit)) ≡ walkBelow (substituteAt var value) term a (stateOf (now (kinds .entry)) (now (words .entry)) (now (kept .entry)) room) ⌝ }
 {
     if a < term {
-        return substitute_at(kinds, words, kept, room, a, var, value);
+        return walk_at(kinds, words, kept, room, a, var, value);
     }
     Made::Refused(refusals::BROKEN_POOL)
 }
