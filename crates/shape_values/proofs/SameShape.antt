@@ -1,0 +1,187 @@
+-- Values and texts go by the shape of an expression alone: a bounded walk gives one answer at paired nodes of two tables, by induction on the node's number, because parts fall on both sides.
+-- Assumes nothing.
+use mathlib.Core.Path.{_≡_, refl, sym, ap, _∙_, subst⁻¹, fun-ext}
+use mathlib.Core.Bool.{true, false}
+use mathlib.Core.List.{List, [], _∷_}
+use Prim.Native.Nat.{ℕ, zero, suc, _<_}
+use native.Mathlib.Nat.{not-suc-le-zero}
+use native.Mathlib.Omega.{arith}
+use lib.Dec.{ltb}
+use lib.Ieee.{Float}
+use lib.ListN.{getD}
+use borrow.Author.Tests.{eq-eqb, ne-eqb}
+use Rattle.refusals.specs.Refusals.{brokenPool}
+use Rattle.double.specs.declared.Valued.the-variants as valued
+use Rattle.residue.specs.declared.Divided.the-variants as divided
+use Rattle.pool.specs.Nodes.{parts}
+use Rattle.pool.specs.Pool.{Pool, nodeAt}
+use Rattle.pool.specs.declared.node.Node.{Node}
+use Rattle.pool.specs.declared.node.Node.the-variants.{Empty, Variable, Lit, Add, Mul, Div, Exp, Log, Pow, Max}
+use Rattle.walks.specs.Evaluate.{evaluateNode, evaluateBelow, evaluate}
+use Rattle.walks.specs.EvaluateResidue.{residueNode, residueBelow, evaluateResidue}
+use Rattle.walks.specs.Print.{precedence, bracketed, nodeText, textBelow, textOf, nodeHasMax, hasMaxBelow, hasMax}
+use Rattle.walks.proofs.Bounded.{Bounded, below}
+use Rattle.shape.specs.Shape.{rename, has, Reach, root, part, OneShape}
+use Rattle.shape.specs.Walked.{Falls}
+use Rattle.shape.specs.Demand.{KeepsRules, SameShape}
+use Rattle.shape.proofs.Lists.{All, here, further, has-map}
+use Rattle.shape.proofs.Renaming.{parts-rename}
+use Rattle.shape.proofs.Pools.{falls-in}
+
+-- what is done at a node goes by its kind and by what is done at its parts, whatever numbers these have
+abbrev pub GoesByShape : {A : Type 0} → ((ℕ → A) → Node → A) → Type 0
+GoesByShape {A} node =
+    (f : ℕ → ℕ) (down down′ : ℕ → A) (n : Node) → All (λ a. down a ≡ down′ (f a)) (parts n) → node down n ≡ node down′ (rename f n)
+
+-- the left or only part, and the right one
+first : {P : ℕ → Type 0} (a : ℕ) (more : List ℕ) → All P (a ∷ more) → P a
+first a more h = h a (here a more)
+
+second : {P : ℕ → Type 0} (a b : ℕ) → All P (a ∷ b ∷ []) → P b
+second a b h = h b (further a (b ∷ []) b (here b []))
+
+module _ {A : Type 0} {none : A} {node : (ℕ → A) → Node → A} (goes : GoesByShape node)
+    {p q : ℕ → Node} {walk walk′ : ℕ → ℕ → A}
+    (bounded : Bounded none (λ down k. node down (p k)) walk) (bounded′ : Bounded none (λ down k. node down (q k)) walk′)
+    (falls : Falls p) (falls′ : Falls q) where
+  module _ {roots others : List ℕ} (shape : OneShape p roots q others) where
+    abbrev there : ℕ → ℕ
+    there = shape .there
+
+    -- a part's like is a part of the node's like
+    part-there : (i a : ℕ) → Reach p roots i → has (parts (p i)) a ≡ true → has (parts (q (there i))) (there a) ≡ true
+    part-there i a r m =
+        subst⁻¹ (λ ps. has ps (there a) ≡ true) (ap parts (shape .agree i r) ∙ parts-rename there (p i)) (has-map there (parts (p i)) a m)
+
+    -- one answer at the parts, so one at the node
+    from-parts :
+        (i : ℕ) → Reach p roots i → All (λ a. walk (suc a) a ≡ walk′ (suc (there a)) (there a)) (parts (p i)) → walk (suc i) i ≡ walk′ (suc (there i)) (there i)
+    from-parts i r less =
+        bounded .visits i
+        ∙ goes there (walk i) (walk′ (there i)) (p i) (λ a m.
+        sym (below bounded i a (falls i a m))
+        ∙ less a m
+        ∙ below bounded′ (there i) (there a) (falls′ (there i) (there a) (part-there i a r m)))
+        ∙ ap (node (walk′ (there i))) (sym (shape .agree i r))
+        ∙ sym (bounded′ .visits (there i))
+
+    paired-below : (k i : ℕ) → i < k → Reach p roots i → walk (suc i) i ≡ walk′ (suc (there i)) (there i)
+    paired-below zero i h r = absurd (not-suc-le-zero h)
+    paired-below (suc k) i h r =
+        from-parts i r (λ a m. let l : a < i = falls i a m in paired-below k a (omega arith) (part r m))
+
+    -- one answer at each pair of nodes
+    pub paired : (i : ℕ) → Reach p roots i → walk (suc i) i ≡ walk′ (suc (there i)) (there i)
+    paired i r = paired-below (suc i) i (omega arith) r
+
+  -- one answer at two roots of one shape
+  pub at-the-root : (r s : ℕ) → OneShape p (r ∷ []) q (s ∷ []) → walk (suc r) r ≡ walk′ (suc s) s
+  at-the-root r s shape =
+      paired shape r (root (here r [])) ∙ ap (λ j. walk′ (suc j) j) (ap (λ js. getD js 0 0) (shape .roots-pair))
+
+-- the four walks that build nothing
+module _ (values : List Float) where
+  value-by-shape : GoesByShape (evaluateNode values)
+  value-by-shape f down down′ Empty same = refl
+  value-by-shape f down down′ (Variable v) same = refl
+  value-by-shape f down down′ (Lit z) same = refl
+  value-by-shape f down down′ (Add a b) same = rw (first a (b ∷ []) same, second a b same)
+  value-by-shape f down down′ (Mul a b) same = rw (first a (b ∷ []) same, second a b same)
+  value-by-shape f down down′ (Div a b) same = rw (first a (b ∷ []) same, second a b same)
+  value-by-shape f down down′ (Exp a) same = rw (first a [] same)
+  value-by-shape f down down′ (Log a) same = rw (first a [] same)
+  value-by-shape f down down′ (Pow a e) same = rw (first a [] same)
+  value-by-shape f down down′ (Max a b) same = rw (first a (b ∷ []) same, second a b same)
+
+  value-bounded : (at : ℕ → Node) → Bounded (valued.Refused brokenPool) (λ down k. evaluateNode values down (at k)) (evaluateBelow at values)
+  unfolding evaluateBelow
+  value-bounded at = record { ends = λ i. refl; visits = λ k. rw (eq-eqb k k refl); passes = λ k i n. rw (ne-eqb i k n) }
+
+module _ (m : ℕ) (values : List ℕ) where
+  residue-by-shape : GoesByShape (residueNode m values)
+  residue-by-shape f down down′ Empty same = refl
+  residue-by-shape f down down′ (Variable v) same = refl
+  residue-by-shape f down down′ (Lit z) same = refl
+  residue-by-shape f down down′ (Add a b) same = rw (first a (b ∷ []) same, second a b same)
+  residue-by-shape f down down′ (Mul a b) same = rw (first a (b ∷ []) same, second a b same)
+  residue-by-shape f down down′ (Div a b) same = rw (first a (b ∷ []) same, second a b same)
+  residue-by-shape f down down′ (Exp a) same = rw (first a [] same)
+  residue-by-shape f down down′ (Log a) same = rw (first a [] same)
+  residue-by-shape f down down′ (Pow a e) same = rw (first a [] same)
+  residue-by-shape f down down′ (Max a b) same = rw (first a (b ∷ []) same, second a b same)
+
+  residue-bounded : (at : ℕ → Node) → Bounded (divided.Refused brokenPool) (λ down k. residueNode m values down (at k)) (residueBelow m at values)
+  unfolding residueBelow
+  residue-bounded at = record { ends = λ i. refl; visits = λ k. rw (eq-eqb k k refl); passes = λ k i n. rw (ne-eqb i k n) }
+
+-- a text is a walk whose answer waits for the precedence around it
+abbrev textNode : (ℕ → ℕ → List ℕ) → Node → ℕ → List ℕ
+textNode down n parent = bracketed (ltb (precedence n) parent) (nodeText (λ around a. down a around) n)
+
+text-by-shape : GoesByShape textNode
+text-by-shape f down down′ Empty same = refl
+text-by-shape f down down′ (Variable v) same = refl
+text-by-shape f down down′ (Lit z) same = refl
+text-by-shape f down down′ (Add a b) same = fun-ext (λ parent. rw (first a (b ∷ []) same, second a b same))
+text-by-shape f down down′ (Mul a b) same = fun-ext (λ parent. rw (first a (b ∷ []) same, second a b same))
+text-by-shape f down down′ (Div a b) same = fun-ext (λ parent. rw (first a (b ∷ []) same, second a b same))
+text-by-shape f down down′ (Exp a) same = fun-ext (λ parent. rw (first a [] same))
+text-by-shape f down down′ (Log a) same = fun-ext (λ parent. rw (first a [] same))
+text-by-shape f down down′ (Pow a e) same = fun-ext (λ parent. rw (first a [] same))
+text-by-shape f down down′ (Max a b) same = refl
+
+text-bounded : (at : ℕ → Node) → Bounded (λ parent. []) (λ down k. textNode down (at k)) (λ k i parent. textBelow at k parent i)
+unfolding textBelow
+text-bounded at =
+    record {
+      ends = λ i. refl;
+      visits = λ k. fun-ext (λ parent. rw (eq-eqb k k refl));
+      passes = λ k i n. fun-ext (λ parent. rw (ne-eqb i k n));
+    }
+
+max-by-shape : GoesByShape nodeHasMax
+max-by-shape f down down′ Empty same = refl
+max-by-shape f down down′ (Variable v) same = refl
+max-by-shape f down down′ (Lit z) same = refl
+max-by-shape f down down′ (Add a b) same = rw (first a (b ∷ []) same, second a b same)
+max-by-shape f down down′ (Mul a b) same = rw (first a (b ∷ []) same, second a b same)
+max-by-shape f down down′ (Div a b) same = rw (first a (b ∷ []) same, second a b same)
+max-by-shape f down down′ (Exp a) same = first a [] same
+max-by-shape f down down′ (Log a) same = first a [] same
+max-by-shape f down down′ (Pow a e) same = first a [] same
+max-by-shape f down down′ (Max a b) same = refl
+
+max-bounded : (at : ℕ → Node) → Bounded false (λ down k. nodeHasMax down (at k)) (hasMaxBelow at)
+unfolding hasMaxBelow
+max-bounded at = record { ends = λ i. refl; visits = λ k. rw (eq-eqb k k refl); passes = λ k i n. rw (ne-eqb i k n) }
+
+-- two tables whose parts fall, and two roots of one shape
+module _ (p q : ℕ → Node) (falls : Falls p) (falls′ : Falls q) (r s : ℕ) (shape : OneShape p (r ∷ []) q (s ∷ [])) where
+  pub one-shape-one-value : (values : List Float) → evaluate p values r ≡ evaluate q values s
+  one-shape-one-value values =
+      at-the-root (value-by-shape values) (value-bounded values p) (value-bounded values q) falls falls′ r s shape
+
+  pub one-shape-one-residue : (m : ℕ) (values : List ℕ) → evaluateResidue m p values r ≡ evaluateResidue m q values s
+  one-shape-one-residue m values =
+      at-the-root (residue-by-shape m values) (residue-bounded m values p) (residue-bounded m values q) falls falls′ r s shape
+
+  pub one-shape-one-text : textOf p r ≡ textOf q s
+  one-shape-one-text =
+      ap (λ text. text 0) (at-the-root text-by-shape (text-bounded p) (text-bounded q) falls falls′ r s shape)
+
+  pub one-shape-one-max : hasMax p r ≡ hasMax q s
+  one-shape-one-max = at-the-root max-by-shape (max-bounded p) (max-bounded q) falls falls′ r s shape
+
+-- two pools that keep the rules: there parts fall
+module _ (P Q : Pool) (keeps : KeepsRules P) (keeps′ : KeepsRules Q) (r s : ℕ) (shape : SameShape P r Q s) where
+  pub same-shape-same-value : (values : List Float) → evaluate (nodeAt P) values r ≡ evaluate (nodeAt Q) values s
+  same-shape-same-value = one-shape-one-value (nodeAt P) (nodeAt Q) (falls-in P keeps) (falls-in Q keeps′) r s shape
+
+  pub same-shape-same-residue : (m : ℕ) (values : List ℕ) → evaluateResidue m (nodeAt P) values r ≡ evaluateResidue m (nodeAt Q) values s
+  same-shape-same-residue = one-shape-one-residue (nodeAt P) (nodeAt Q) (falls-in P keeps) (falls-in Q keeps′) r s shape
+
+  pub same-shape-same-text : textOf (nodeAt P) r ≡ textOf (nodeAt Q) s
+  same-shape-same-text = one-shape-one-text (nodeAt P) (nodeAt Q) (falls-in P keeps) (falls-in Q keeps′) r s shape
+
+  pub same-shape-same-max : hasMax (nodeAt P) r ≡ hasMax (nodeAt Q) s
+  same-shape-same-max = one-shape-one-max (nodeAt P) (nodeAt Q) (falls-in P keeps) (falls-in Q keeps′) r s shape
