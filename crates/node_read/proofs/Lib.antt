@@ -3,6 +3,5 @@ pub mod LowFirst
 pub mod Sizes
 pub mod Entering
 pub mod Places
-pub mod Shifting
 pub mod OneByOne
 pub mod Accepting

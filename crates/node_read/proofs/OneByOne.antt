@@ -1,20 +1,26 @@
 -- Nodes appended one after the other in a loop: what is done so far is the definition's, and a refusal ends the whole.
 -- Assumes nothing.
-use mathlib.Core.Path.{_≡_, refl, sym, ap, _∙_, subst}
+use mathlib.Core.Path.{_≡_, refl, sym, ap, _∙_, subst, subst⁻¹}
 use mathlib.Core.Logic.{⊎-elim}
 use mathlib.Core.List.{List}
 use Prim.Native.Nat.{ℕ, zero, suc, _+_, _<_, _≤_}
 use native.Mathlib.Numerals.{add-one}
 use native.Mathlib.Nat.{not-suc-le-zero}
 use native.Mathlib.Omega.{arith}
-use Rattle.pool.specs.Pool.{Pool, done, refused, append, bind}
+use Rattle.pool.specs.Pool.{limit, Pool, done, refused, append, bind}
 use Rattle.pool.specs.Made.{made, poolOf}
 use Rattle.pool.specs.declared.node.Node.{Node}
 use Rattle.pool.specs.declared.table.Made.{Made}
 use Rattle.pool.specs.declared.table.Made.the-variants as made-as
 use Rattle.pool.specs.declared.table.Room.{Room}
 use Rattle.shape.specs.File.{appendFirst}
+use Rattle.shape.specs.Walked.{Falls}
 use Rattle.shape.proofs.Lists.{same-or-not}
+use Rattle.node_read.specs.Reads.{PartsBelow}
+
+-- the parts of an entry are small enough to be shifted
+pub all-below-limit : (p : ℕ → Node) → Falls p → (i : ℕ) → i < limit → {x : Node} → x ≡ p i → PartsBelow limit x
+all-below-limit p falls i l e = subst⁻¹ (PartsBelow limit) e (λ j h. let below : j < i = falls i j h in omega arith)
 
 -- the first i of n nodes are appended: the last has the number `last`, and Q is the pool
 pub record Appended (q : ℕ → Node) (P : Pool) (n i last : ℕ) (Q : Pool) : Type 0 where

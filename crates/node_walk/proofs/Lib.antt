@@ -1,2 +1,3 @@
+pub mod EachPart
 pub mod Visiting
 pub mod Renamed

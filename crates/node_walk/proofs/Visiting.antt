@@ -1,32 +1,23 @@
 -- A visit of the code, step by step: its parts in turn, then the node's own number.
 -- Assumes nothing.
-use mathlib.Core.Path.{_≡_, sym, ap, _∙_, subst⁻¹}
+use mathlib.Core.Path.{_≡_, _∙_, subst⁻¹}
 use mathlib.Core.Logic.{⊎-elim}
-use mathlib.Core.Bool.{true}
 use mathlib.Core.List.{List, [], _∷_}
 use Prim.Native.Nat.{ℕ, _<_, _≤_}
 use lib.ListN.{getD, replicate, length-replicate, getD-replicate, List·getD-eq-default}
 use Rattle.pool.specs.Nodes.{parts}
 use Rattle.pool.specs.Pool.{limit}
 use Rattle.pool.specs.declared.node.Node.{Node}
-use Rattle.shape.specs.Shape.{has}
 use Rattle.shape.specs.Order.{inTurn, walk, numbered}
 use Rattle.shape.specs.Walked.{Falls, Walked}
-use Rattle.shape.proofs.Lists.{here, further, below-or-not}
+use Rattle.shape.proofs.Lists.{below-or-not}
 use Rattle.shape.proofs.Walked.{walk-done, numbered-from-one, walked-none, walked-done, walked-not-done, visit-room, visit-stored}
-use Rattle.node_walk.specs.Visits.{partsIn, Stands, Visits, Fresh, Stored}
-use Rattle.node_walk.specs.declared.Parts.{Parts}
+use Rattle.node_walk.specs.Visits.{Stands, Visits, Fresh, Stored}
+use Rattle.node_walk.proofs.EachPart.{of-left, of-right}
 
 -- visits of several nodes in turn
 abbrev pub Turns : (ℕ → Node) → List ℕ → List ℕ → List ℕ → ℕ → List ℕ → List ℕ → ℕ → Type 0
 Turns p is number order done number′ order′ done′ = (o : List ℕ) → Walked p o number order done → Walked p (inTurn (walk p limit) o is) number′ order′ done′
-
--- from the answer of `parts_of` to the parts of the node
-pub parts-told : (n : Node) {r x : Parts} → partsIn r ≡ parts n → r ≡ x → parts n ≡ partsIn x
-parts-told n e g = sym e ∙ ap partsIn g
-
-pub its-parts : {r x : Parts} {n m : Node} → partsIn r ≡ parts n → n ≡ m → r ≡ x → parts m ≡ partsIn x
-its-parts {n = n} e f g = ap parts (sym f) ∙ parts-told n e g
 
 -- a node that has its number stays as it is
 pub visited-before : (p : ℕ → Node) (i : ℕ) {number order : List ℕ} {done : ℕ} → (getD number i 0 ≡ 0 → ⊥) → Visits p i number order done number order done
@@ -40,10 +31,10 @@ stands-after p i v (o, w) = (walk p limit o i, v o w)
 
 module _ (p : ℕ → Node) (i : ℕ) where
   pub left-is-below : Falls p → {a : ℕ} {more : List ℕ} → parts (p i) ≡ a ∷ more → a < i
-  left-is-below falls {a} {more} e = falls i a (subst⁻¹ (λ is. has is a ≡ true) e (here a more))
+  left-is-below falls e = of-left (λ j. j < i) e (falls i)
 
   pub right-is-below : Falls p → {a b : ℕ} → parts (p i) ≡ a ∷ b ∷ [] → b < i
-  right-is-below falls {a} {b} e = falls i b (subst⁻¹ (λ is. has is b ≡ true) e (further a (b ∷ []) b (here b [])))
+  right-is-below falls e = of-right (λ j. j < i) e (falls i)
 
 -- node i has no number yet, and its parts are visited
 module _ (p : ℕ → Node) (falls : Falls p) (i : ℕ) (l : i < limit) {is number order number₁ order₁ : List ℕ} {done done₁ : ℕ} (none : getD number i 0 ≡ 0) (e : parts (p i) ≡ is)

@@ -32,7 +32,9 @@ read-file-requires : tie.Need-read-file-requires
 read-file-requires c κs = sizes (c .before .before .before .take-in .ensures) (not-false _ (c .before .before .if1 .left)) .small
 
 finish-requires : tie.Need-finish-requires
-finish-requires c κs = let taken = c .before .before .before .before .before .before .before .before .before .take-in .ensures in let pool-taken = not-false _ (c .before .before .before .before .before .before .before .before .if1 .left) in (is-pool taken pool-taken, appends (reading-grows (now (c .before .before .before .before .before .before .before .before .before .before .before .before .before .before .before .before .before .before .args .file))) (on-lent taken (readFile (now (c .before .before .before .before .before .before .before .before .before .before .before .before .before .before .before .before .before .before .args .file))) pool-taken (c .before .before .before .before .before .read-file .ensures)))
+finish-requires c κs =
+    let start = c .before .before .before .before .before .before .before .before .before .before .before .before .before .before .before .before .before .before in
+    let taken = c .before .before .before .before .before .before .before .before .before .take-in .ensures in let pool-taken = not-false _ (c .before .before .before .before .before .before .before .before .if1 .left) in (is-pool taken pool-taken, appends (reading-grows (now (start .args .file))) (on-lent taken (readFile (now (start .args .file))) pool-taken (c .before .before .before .before .before .read-file .ensures)))
 
 same-length-3 : tie.Need-same-length-3
 same-length-3 c = search needs
@@ -41,7 +43,9 @@ same-length-4 : tie.Need-same-length-4
 same-length-4 c = search needs
 
 returns-2 : tie.Need-returns-2
-returns-2 c = let taken = c .before .before .before .before .before .before .before .before .before .before .before .before .before .before .take-in .ensures in let pool-taken = not-false _ (c .before .before .before .before .before .before .before .before .before .before .before .before .before .if1 .left) in worked taken (readFile (now (c .before .before .before .before .before .before .before .before .before .before .before .before .before .before .before .before .before .before .before .before .before .before .before .args .file))) pool-taken (c .before .before .before .before .finish .ensures) (on-lent taken (readFile (now (c .before .before .before .before .before .before .before .before .before .before .before .before .before .before .before .before .before .before .before .before .before .before .before .args .file))) pool-taken (c .before .before .before .before .before .before .before .before .before .before .read-file .ensures))
+returns-2 c =
+    let start = c .before .before .before .before .before .before .before .before .before .before .before .before .before .before .before .before .before .before .before .before .before .before .before in
+    let taken = c .before .before .before .before .before .before .before .before .before .before .before .before .before .before .take-in .ensures in let pool-taken = not-false _ (c .before .before .before .before .before .before .before .before .before .before .before .before .before .if1 .left) in worked taken (readFile (now (start .args .file))) pool-taken (c .before .before .before .before .finish .ensures) (on-lent taken (readFile (now (start .args .file))) pool-taken (c .before .before .before .before .before .before .before .before .before .before .read-file .ensures))
 
 pub read-spec : {M : Type 1} → statement M
 read-spec =

@@ -15,19 +15,27 @@ take-in-requires : tie.Need-take-in-requires
 take-in-requires c κs = search needs
 
 returns : tie.Need-returns
-returns c = pool-refused (c .before .take-in .ensures) (c .before .before .before .before .before .before .before .args .root) (now (c .before .before .before .before .before .before .before .args .out)) (not-true _ (c .if1 .taken))
+returns c =
+    let start = c .before .before .before .before .before .before .before in
+    pool-refused (c .before .take-in .ensures) (start .args .root) (now (start .args .out)) (not-true _ (c .if1 .taken))
 
 one-given-requires : tie.Need-one-given-requires
 one-given-requires c κs = search needs
 
 returns-2 : tie.Need-returns-2
-returns-2 c = root-refused (c .before .before .before .take-in .ensures) (c .before .before .before .before .before .before .before .before .before .args .root) (now (c .before .before .before .before .before .before .before .before .before .args .out)) (not-false _ (c .before .before .if1 .left)) (sym (c .before .one-given .ensures) ∙ not-true _ (c .if2 .taken))
+returns-2 c =
+    let start = c .before .before .before .before .before .before .before .before .before in
+    root-refused (c .before .before .before .take-in .ensures) (start .args .root) (now (start .args .out)) (not-false _ (c .before .before .if1 .left)) (sym (c .before .one-given .ensures) ∙ not-true _ (c .if2 .taken))
 
 cast-write-file : tie.Need-cast-write-file
-cast-write-file c = record { fits = omega (arith, one-is-below (c .before .before .before .before .before .before .before .before .before .before .before .args .count) (c .before .before .before .before .before .before .before .before .before .before .before .args .root) (sym (c .before .before .before .one-given .ensures) ∙ not-false _ (c .before .before .if2 .left)), sizes (c .before .before .before .before .before .take-in .ensures) (not-false _ (c .before .before .before .before .if1 .left)) .small) }
+cast-write-file c =
+    let start = c .before .before .before .before .before .before .before .before .before .before .before in
+    record { fits = omega (arith, one-is-below (start .args .count) (start .args .root) (sym (c .before .before .before .one-given .ensures) ∙ not-false _ (c .before .before .if2 .left)), sizes (c .before .before .before .before .before .take-in .ensures) (not-false _ (c .before .before .before .before .if1 .left)) .small) }
 
 write-file-requires : tie.Need-write-file-requires
-write-file-requires c κs = has-root (c .before .before .before .before .before .before .take-in .ensures) (c .before .before .before .before .before .before .before .before .before .before .before .before .args .root) (now (c .before .before .before .before .before .before .before .before .before .before .before .before .args .out)) (not-false _ (c .before .before .before .before .before .if1 .left)) (sym (c .before .before .before .before .one-given .ensures) ∙ not-false _ (c .before .before .before .if2 .left))
+write-file-requires c κs =
+    let start = c .before .before .before .before .before .before .before .before .before .before .before .before in
+    has-root (c .before .before .before .before .before .before .take-in .ensures) (start .args .root) (now (start .args .out)) (not-false _ (c .before .before .before .before .before .if1 .left)) (sym (c .before .before .before .before .one-given .ensures) ∙ not-false _ (c .before .before .before .if2 .left))
 
 enum-known-length : tie.Need-enum-known-length
 enum-known-length c = search needs
@@ -39,13 +47,17 @@ same-length : tie.Need-same-length
 same-length c = search needs
 
 returns-3 : tie.Need-returns-3
-returns-3 c = file-there (c .before .before .before .before .before .before .before .before .before .before .before .before .take-in .ensures) (c .before .before .before .before .before .before .before .before .before .before .before .before .before .before .before .before .before .before .args .root) (now (c .before .before .before .before .before .before .before .before .before .before .before .before .before .before .before .before .before .before .args .out)) (not-false _ (c .before .before .before .before .before .before .before .before .before .before .before .if1 .left)) (sym (c .before .before .before .before .before .before .before .before .before .before .one-given .ensures) ∙ not-false _ (c .before .before .before .before .before .before .before .before .before .if2 .left)) (c .before .before .before .before .before .write-file .last .1 .1 .1 .0) (c .before .length .given .1) (c .before .before .before .before .before .write-file .ensures)
+returns-3 c =
+    let start = c .before .before .before .before .before .before .before .before .before .before .before .before .before .before .before .before .before .before in
+    file-there (c .before .before .before .before .before .before .before .before .before .before .before .before .take-in .ensures) (start .args .root) (now (start .args .out)) (not-false _ (c .before .before .before .before .before .before .before .before .before .before .before .if1 .left)) (sym (c .before .before .before .before .before .before .before .before .before .before .one-given .ensures) ∙ not-false _ (c .before .before .before .before .before .before .before .before .before .if2 .left)) (c .before .before .before .before .before .write-file .last .1 .1 .1 .0) (c .before .length .given .1) (c .before .before .before .before .before .write-file .ensures)
 
 same-length-2 : tie.Need-same-length-2
 same-length-2 c = search needs
 
 returns-4 : tie.Need-returns-4
-returns-4 c = no-room-there (c .before .before .before .before .before .before .before .before .before .before .before .take-in .ensures) (c .before .before .before .before .before .before .before .before .before .before .before .before .before .before .before .before .before .args .root) (now (c .before .before .before .before .before .before .before .before .before .before .before .before .before .before .before .before .before .args .out)) (not-false _ (c .before .before .before .before .before .before .before .before .before .before .if1 .left)) (sym (c .before .before .before .before .before .before .before .before .before .one-given .ensures) ∙ not-false _ (c .before .before .before .before .before .before .before .before .if2 .left)) (c .before .before .before .before .write-file .last .1 .1 .1 .0) (c .enum-told .given .1) (c .before .before .before .before .write-file .ensures)
+returns-4 c =
+    let start = c .before .before .before .before .before .before .before .before .before .before .before .before .before .before .before .before .before in
+    no-room-there (c .before .before .before .before .before .before .before .before .before .before .before .take-in .ensures) (start .args .root) (now (start .args .out)) (not-false _ (c .before .before .before .before .before .before .before .before .before .before .if1 .left)) (sym (c .before .before .before .before .before .before .before .before .before .one-given .ensures) ∙ not-false _ (c .before .before .before .before .before .before .before .before .if2 .left)) (c .before .before .before .before .write-file .last .1 .1 .1 .0) (c .enum-told .given .1) (c .before .before .before .before .write-file .ensures)
 
 pub write-spec : {M : Type 1} → statement M
 write-spec =

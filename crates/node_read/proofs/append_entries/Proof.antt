@@ -7,8 +7,7 @@ use denote.Ref.{now}
 use Rattle.pool.specs.Pool.{nodeIn}
 use Rattle.pool.specs.Made.{poolOf}
 use Rattle.shape.specs.Shape.{rename}
-use Rattle.node_read.proofs.OneByOne.{Appended, none-appended, one-appended, none-more, all-appended}
-use Rattle.node_read.proofs.Shifting.{all-below-limit}
+use Rattle.node_read.proofs.OneByOne.{all-below-limit, Appended, none-appended, one-appended, none-more, all-appended}
 use Rattle.node_read.proofs.append_entries.Statement.{statement}
 use Rattle.node_read.proofs.append_entries.Tie as tie
 
@@ -28,7 +27,9 @@ node-at-requires : tie.Need-node-at-requires Inv-loop μ-loop
 node-at-requires c κs = tt
 
 shifted-requires : tie.Need-shifted-requires Inv-loop μ-loop
-shifted-requires c κs = (c .before .before .before .pre .0 .1, all-below-limit (nodeIn (now (c .before .before .before .args .k)) (now (c .before .before .before .args .w))) (c .before .before .before .pre .1) (c .before .before .loop .i) (omega (arith, c .before .before .before .pre .0 .0, c .before .loop-test .taken)) (c .node-at .ensures))
+shifted-requires c κs =
+    let start = c .before .before .before in
+    (start .pre .0 .1, all-below-limit (nodeIn (now (start .args .k)) (now (start .args .w))) (start .pre .1) (c .before .before .loop .i) (omega (arith, start .pre .0 .0, c .before .loop-test .taken)) (c .node-at .ensures))
 
 append-requires : tie.Need-append-requires Inv-loop μ-loop
 append-requires c κs = tt

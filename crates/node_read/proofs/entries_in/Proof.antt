@@ -22,22 +22,34 @@ add-kind : tie.Need-add-kind Inv-loop μ-loop
 add-kind c = omega (arith, c .before .before .before .pre .0 .few, c .before .before .before .pre .0 .long, c .loop-test .taken)
 
 shared-slice-read-kind : tie.Need-shared-slice-read-kind Inv-loop μ-loop
-shared-slice-read-kind c = omega (arith, c .before .before .before .before .pre .0 .few, c .before .before .before .before .pre .0 .long, c .before .loop-test .taken)
+shared-slice-read-kind c =
+    let start = c .before .before .before .before in
+    omega (arith, start .pre .0 .few, start .pre .0 .long, c .before .loop-test .taken)
 
 add-number-at : tie.Need-add-number-at Inv-loop μ-loop
-add-number-at c = record { fits = omega (arith, c .before .before .before .before .pre .0 .few, c .before .before .before .before .pre .0 .long, c .before .loop-test .taken) }
+add-number-at c =
+    let start = c .before .before .before .before in
+    record { fits = omega (arith, start .pre .0 .few, start .pre .0 .long, c .before .loop-test .taken) }
 
 mul-number-at : tie.Need-mul-number-at Inv-loop μ-loop
-mul-number-at c = record { fits = omega (arith, c .before .before .before .before .pre .0 .few, c .before .before .before .before .pre .0 .long, c .before .loop-test .taken) }
+mul-number-at c =
+    let start = c .before .before .before .before in
+    record { fits = omega (arith, start .pre .0 .few, start .pre .0 .long, c .before .loop-test .taken) }
 
 add-number-at-2 : tie.Need-add-number-at-2 Inv-loop μ-loop
-add-number-at-2 c = record { fits = omega (arith, c .before .before .before .before .pre .0 .few, c .before .before .before .before .pre .0 .long, c .before .loop-test .taken) }
+add-number-at-2 c =
+    let start = c .before .before .before .before in
+    record { fits = omega (arith, start .pre .0 .few, start .pre .0 .long, c .before .loop-test .taken) }
 
 number-at-requires : tie.Need-number-at-requires Inv-loop μ-loop
-number-at-requires c κs = (omega arith, omega (arith, c .before .before .before .before .pre .0 .few, c .before .before .before .before .pre .0 .long, c .before .loop-test .taken))
+number-at-requires c κs =
+    let start = c .before .before .before .before in
+    (omega arith, omega (arith, start .pre .0 .few, start .pre .0 .long, c .before .loop-test .taken))
 
 cast-may-stand-at : tie.Need-cast-may-stand-at Inv-loop μ-loop
-cast-may-stand-at c = record { fits = omega (arith, c .before .before .before .before .before .pre .0 .few, c .before .before .before .before .before .pre .0 .long, c .before .before .loop-test .taken) }
+cast-may-stand-at c =
+    let start = c .before .before .before .before .before in
+    record { fits = omega (arith, start .pre .0 .few, start .pre .0 .long, c .before .before .loop-test .taken) }
 
 decode-requires : tie.Need-decode-requires Inv-loop μ-loop
 decode-requires c κs = tt
@@ -46,25 +58,37 @@ may-stand-at-requires : tie.Need-may-stand-at-requires Inv-loop μ-loop
 may-stand-at-requires c κs = tt
 
 returns : tie.Need-returns Inv-loop μ-loop
-returns c = not-entered (now (c .before .before .before .before .before .before .before .before .args .bytes)) (c .before .before .before .before .before .before .before .before .pre .0) (c .before .before .before .before .before .before .loop .inv) (c .before .before .before .before .before .loop-test .taken) (c .before .before .before .number-at .ensures) (c .before .before .decode .ensures) (sym (c .before .may-stand-at .ensures) ∙ not-true _ (c .if1 .taken))
+returns c =
+    let start = c .before .before .before .before .before .before .before .before in
+    not-entered (now (start .args .bytes)) (start .pre .0) (c .before .before .before .before .before .before .loop .inv) (c .before .before .before .before .before .loop-test .taken) (c .before .before .before .number-at .ensures) (c .before .before .decode .ensures) (sym (c .before .may-stand-at .ensures) ∙ not-true _ (c .if1 .taken))
 
 element-write-k : tie.Need-element-write-k Inv-loop μ-loop
-element-write-k c = omega (arith, c .before .before .before .before .before .before .before .before .pre .0 .few, c .before .before .before .before .before .before .before .before .pre .0 .long, c .before .before .before .before .before .loop-test .taken)
+element-write-k c =
+    let start = c .before .before .before .before .before .before .before .before in
+    omega (arith, start .pre .0 .few, start .pre .0 .long, c .before .before .before .before .before .loop-test .taken)
 
 mul-w : tie.Need-mul-w Inv-loop μ-loop
-mul-w c = record { fits = omega (arith, c .before .before .before .before .before .before .before .before .pre .0 .few, c .before .before .before .before .before .before .before .before .pre .0 .long, c .before .before .before .before .before .loop-test .taken) }
+mul-w c =
+    let start = c .before .before .before .before .before .before .before .before in
+    record { fits = omega (arith, start .pre .0 .few, start .pre .0 .long, c .before .before .before .before .before .loop-test .taken) }
 
 element-write-w : tie.Need-element-write-w Inv-loop μ-loop
-element-write-w c = omega (arith, c .before .before .before .before .before .before .before .before .pre .0 .few, c .before .before .before .before .before .before .before .before .pre .0 .long, c .before .before .before .before .before .loop-test .taken)
+element-write-w c =
+    let start = c .before .before .before .before .before .before .before .before in
+    omega (arith, start .pre .0 .few, start .pre .0 .long, c .before .before .before .before .before .loop-test .taken)
 
 add-i : tie.Need-add-i Inv-loop μ-loop
-add-i c = omega (arith, c .before .before .before .before .before .before .before .before .pre .0 .few, c .before .before .before .before .before .before .before .before .pre .0 .long, c .before .before .before .before .before .loop-test .taken)
+add-i c =
+    let start = c .before .before .before .before .before .before .before .before in
+    omega (arith, start .pre .0 .few, start .pre .0 .long, c .before .before .before .before .before .loop-test .taken)
 
 loop-less : tie.Need-loop-less Inv-loop μ-loop
 loop-less c = omega (arith, c .before .before .before .before .before .loop-test .taken)
 
 loop-again : tie.Need-loop-again Inv-loop μ-loop
-loop-again c = one-entered (now (c .before .before .before .before .before .before .before .before .args .bytes)) (c .before .before .before .before .before .before .before .before .pre .0) (c .before .before .before .before .before .before .loop .inv) (c .before .before .before .before .before .loop-test .taken) (c .before .before .before .number-at .ensures) (c .before .before .decode .ensures) (sym (c .before .may-stand-at .ensures) ∙ not-false _ (c .if1 .left))
+loop-again c =
+    let start = c .before .before .before .before .before .before .before .before in
+    one-entered (now (start .args .bytes)) (start .pre .0) (c .before .before .before .before .before .before .loop .inv) (c .before .before .before .before .before .loop-test .taken) (c .before .before .before .number-at .ensures) (c .before .before .decode .ensures) (sym (c .before .may-stand-at .ensures) ∙ not-false _ (c .if1 .left))
 
 returns-2 : tie.Need-returns-2 Inv-loop μ-loop
 returns-2 c = all-entered (now (c .before .before .before .args .bytes)) (c .before .before .before .pre .0) (c .before .loop .inv) (c .loop-test .left)

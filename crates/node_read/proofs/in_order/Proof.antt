@@ -25,7 +25,9 @@ in-place-requires : tie.Need-in-place-requires
 in-place-requires c κs = search needs
 
 returns : tie.Need-returns
-returns c = c .in-place .ensures ∙ in-order-by-marks (nodeIn (now (c .before .before .before .before .before .args .k)) (now (c .before .before .before .before .before .args .w))) ((c .before .before .before .before .before .args .n - 1) ∷ []) (c .before .before .before .before .before .args .n) (c .before .before .number-from .ensures)
+returns c =
+    let start = c .before .before .before .before .before in
+    c .in-place .ensures ∙ in-order-by-marks (nodeIn (now (start .args .k)) (now (start .args .w))) ((start .args .n - 1) ∷ []) (start .args .n) (c .before .before .number-from .ensures)
 
 pub in-order-spec : {M : Type 1} → statement M
 in-order-spec =

@@ -32,7 +32,9 @@ add-if1 : tie.Need-add-if1 Inv-loop μ-loop
 add-if1 c = omega (arith, c .before .before .before .pre, c .before .loop-test .taken)
 
 returns : tie.Need-returns Inv-loop μ-loop
-returns c = one-fails (c .before .before .before .before .args .n) (λ j. eqb (getD (now (c .before .before .before .before .args .number)) j 0) (j + 1)) (c .before .before .before .loop .i) (c .before .before .loop-test .taken) (ne-eqb _ _ (c .if1 .taken))
+returns c =
+    let start = c .before .before .before .before in
+    one-fails (start .args .n) (λ j. eqb (getD (now (start .args .number)) j 0) (j + 1)) (c .before .before .before .loop .i) (c .before .before .loop-test .taken) (ne-eqb _ _ (c .if1 .taken))
 
 add-i : tie.Need-add-i Inv-loop μ-loop
 add-i c = omega (arith, c .before .before .before .before .pre, c .before .before .loop-test .taken)

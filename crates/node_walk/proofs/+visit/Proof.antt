@@ -6,7 +6,8 @@ use denote.Ref.{now}
 use borrow.Fn.Kinds.{In}
 use borrow.Fn.PlainCycle.{Measures, is, falls, and}
 use Rattle.pool.specs.Pool.{nodeIn}
-use Rattle.node_walk.proofs.Visiting.{its-parts, visited-before, left-is-below, right-is-below, stands-after, has-a-place, numbered-next}
+use Rattle.node_walk.proofs.EachPart.{its-parts}
+use Rattle.node_walk.proofs.Visiting.{visited-before, left-is-below, right-is-below, stands-after, has-a-place, numbered-next}
 use Rattle.node_walk.proofs.visit.Reads as visit
 use Rattle.node_walk.proofs.visit.Kinds as visit-kinds
 use Rattle.node_walk.proofs.+visit.Lts-visit as visit-lts

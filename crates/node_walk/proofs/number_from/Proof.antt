@@ -11,7 +11,9 @@ visit-requires : tie.Need-visit-requires
 visit-requires c κs = let start = c .before .before in (start .pre .0, (start .pre .1 .0, ([], none-done (nodeIn (now (c .before .before .args .kinds)) (now (c .before .before .args .words))) (start .pre .1 .1))))
 
 returns : tie.Need-returns
-returns c = walked-from (nodeIn (now (c .before .before .before .args .kinds)) (now (c .before .before .before .args .words))) (c .before .before .before .pre .1 .1) (c .before .before .before .args .root) (c .visit .ensures)
+returns c =
+    let start = c .before .before .before in
+    walked-from (nodeIn (now (start .args .kinds)) (now (start .args .words))) (start .pre .1 .1) (start .args .root) (c .visit .ensures)
 
 pub number-from-spec : {M : Type 1} → statement M
 number-from-spec = tie.close (tie.spec visit-requires returns)

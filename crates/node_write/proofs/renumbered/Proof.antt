@@ -3,10 +3,9 @@
 use borrow.Author.Needs.{needs}
 use mathlib.Core.Path.{_∙_}
 use denote.Ref.{now}
-use Rattle.node_walk.proofs.Visiting.{parts-told}
+use Rattle.node_walk.proofs.EachPart.{of-left, of-right, parts-told}
 use Rattle.node_walk.proofs.Renamed.{renamed-none, renamed-one, renamed-two}
-use Rattle.node_write.specs.Entries.{numberIn}
-use Rattle.node_write.proofs.Marks.{left-marked, right-marked}
+use Rattle.node_write.specs.Entries.{numberIn, Marked}
 use Rattle.node_write.proofs.renumbered.Statement.{statement}
 use Rattle.node_write.proofs.renumbered.Tie as tie
 
@@ -20,7 +19,9 @@ enum-known-a : tie.Need-enum-known-a
 enum-known-a c = search needs
 
 number-of-requires : tie.Need-number-of-requires
-number-of-requires c κs = left-marked (parts-told (c .before .before .before .before .args .node) (c .before .before .before .parts-of .ensures) (c .before .a .given .1)) (c .before .before .before .before .pre)
+number-of-requires c κs =
+    let start = c .before .before .before .before in
+    of-left (Marked (now (start .args .number))) (parts-told (start .args .node) (c .before .before .before .parts-of .ensures) (c .before .a .given .1)) (start .pre)
 
 with-parts-requires : tie.Need-with-parts-requires
 with-parts-requires c κs = search needs
@@ -29,22 +30,32 @@ enum-known-a-2 : tie.Need-enum-known-a-2
 enum-known-a-2 c = search needs
 
 number-of-requires-2 : tie.Need-number-of-requires-2
-number-of-requires-2 c κs = left-marked (parts-told (c .before .before .before .before .args .node) (c .before .before .before .parts-of .ensures) (c .before .a2 .given .1)) (c .before .before .before .before .pre)
+number-of-requires-2 c κs =
+    let start = c .before .before .before .before in
+    of-left (Marked (now (start .args .number))) (parts-told (start .args .node) (c .before .before .before .parts-of .ensures) (c .before .a2 .given .1)) (start .pre)
 
 number-of-requires-3 : tie.Need-number-of-requires-3
-number-of-requires-3 c κs = right-marked (parts-told (c .before .before .before .before .before .args .node) (c .before .before .before .before .parts-of .ensures) (c .before .before .a2 .given .1)) (c .before .before .before .before .before .pre)
+number-of-requires-3 c κs =
+    let start = c .before .before .before .before .before in
+    of-right (Marked (now (start .args .number))) (parts-told (start .args .node) (c .before .before .before .before .parts-of .ensures) (c .before .before .a2 .given .1)) (start .pre)
 
 with-parts-requires-2 : tie.Need-with-parts-requires-2
 with-parts-requires-2 c κs = search needs
 
 returns : tie.Need-returns
-returns c = renamed-none (numberIn (now (c .before .before .before .args .number))) (c .before .before .before .args .node) (parts-told (c .before .before .before .args .node) (c .before .before .parts-of .ensures) (c .enum-told .given .1))
+returns c =
+    let start = c .before .before .before in
+    renamed-none (numberIn (now (start .args .number))) (start .args .node) (parts-told (start .args .node) (c .before .before .parts-of .ensures) (c .enum-told .given .1))
 
 returns-2 : tie.Need-returns-2
-returns-2 c = c .with-parts .ensures ∙ renamed-one (numberIn (now (c .before .before .before .before .before .before .args .number))) (c .before .before .before .before .before .before .args .node) (parts-told (c .before .before .before .before .before .before .args .node) (c .before .before .before .before .before .parts-of .ensures) (c .before .before .before .a .given .1)) (c .before .number-of .ensures)
+returns-2 c =
+    let start = c .before .before .before .before .before .before in
+    c .with-parts .ensures ∙ renamed-one (numberIn (now (start .args .number))) (start .args .node) (parts-told (start .args .node) (c .before .before .before .before .before .parts-of .ensures) (c .before .before .before .a .given .1)) (c .before .number-of .ensures)
 
 returns-3 : tie.Need-returns-3
-returns-3 c = c .with-parts2 .ensures ∙ renamed-two (numberIn (now (c .before .before .before .before .before .before .before .args .number))) (c .before .before .before .before .before .before .before .args .node) (parts-told (c .before .before .before .before .before .before .before .args .node) (c .before .before .before .before .before .before .parts-of .ensures) (c .before .before .before .before .a2 .given .1)) (c .before .before .number-of2 .ensures) (c .before .number-of3 .ensures)
+returns-3 c =
+    let start = c .before .before .before .before .before .before .before in
+    c .with-parts2 .ensures ∙ renamed-two (numberIn (now (start .args .number))) (start .args .node) (parts-told (start .args .node) (c .before .before .before .before .before .before .parts-of .ensures) (c .before .before .before .before .a2 .given .1)) (c .before .before .number-of2 .ensures) (c .before .number-of3 .ensures)
 
 pub renumbered-spec : {M : Type 1} → statement M
 renumbered-spec =

@@ -25,22 +25,30 @@ add-length : tie.Need-add-length
 add-length c = search needs
 
 returns : tie.Need-returns
-returns c = has-no-room (now (c .before .before .before .before .before .args .kinds)) (now (c .before .before .before .before .before .args .words)) (c .before .before .before .before .before .args .root) (c .before .number-from .ensures) (now (c .before .before .before .before .before .args .out)) (c .if1 .taken)
+returns c =
+    let start = c .before .before .before .before .before in
+    has-no-room (now (start .args .kinds)) (now (start .args .words)) (start .args .root) (c .before .number-from .ensures) (now (start .args .out)) (c .if1 .taken)
 
 put-bytes-requires : tie.Need-put-bytes-requires
 put-bytes-requires c κs = search needs
 
 put-kinds-requires : tie.Need-put-kinds-requires
-put-kinds-requires c κs = (all-listed (nodeIn (now (c .before .before .before .before .before .before .before .before .before .before .before .before .args .kinds)) (now (c .before .before .before .before .before .before .before .before .before .before .before .before .args .words))) (numbered (nodeIn (now (c .before .before .before .before .before .before .before .before .before .before .before .before .args .kinds)) (now (c .before .before .before .before .before .before .before .before .before .before .before .before .args .words))) (c .before .before .before .before .before .before .before .before .before .before .before .before .args .root ∷ [])) _ _ _ (c .before .before .before .before .before .before .before .before .number-from .ensures), omega (arith, c .before .before .before .before .before .put-bytes .kept .0, c .before .before .before .before .before .before .before .if1 .left))
+put-kinds-requires c κs =
+    let start = c .before .before .before .before .before .before .before .before .before .before .before .before in
+    (all-listed (nodeIn (now (start .args .kinds)) (now (start .args .words))) (numbered (nodeIn (now (start .args .kinds)) (now (start .args .words))) (start .args .root ∷ [])) _ _ _ (c .before .before .before .before .before .before .before .before .number-from .ensures), omega (arith, c .before .before .before .before .before .put-bytes .kept .0, c .before .before .before .before .before .before .before .if1 .left))
 
 put-words-requires : tie.Need-put-words-requires
-put-words-requires c κs = (all-listed (nodeIn (now (c .before .before .before .before .before .before .before .before .before .before .before .before .before .before .before .before .before .before .args .kinds)) (now (c .before .before .before .before .before .before .before .before .before .before .before .before .before .before .before .before .before .before .args .words))) (numbered (nodeIn (now (c .before .before .before .before .before .before .before .before .before .before .before .before .before .before .before .before .before .before .args .kinds)) (now (c .before .before .before .before .before .before .before .before .before .before .before .before .before .before .before .before .before .before .args .words))) (c .before .before .before .before .before .before .before .before .before .before .before .before .before .before .before .before .before .before .args .root ∷ [])) _ _ _ (c .before .before .before .before .before .before .before .before .before .before .before .before .before .before .number-from .ensures), omega (arith, c .before .before .before .before .before .put-kinds .kept .1 .1 .1 .1 .1 .0, c .before .before .before .before .before .before .before .before .before .before .before .put-bytes .kept .0, c .before .before .before .before .before .before .before .before .before .before .before .before .before .if1 .left))
+put-words-requires c κs =
+    let start = c .before .before .before .before .before .before .before .before .before .before .before .before .before .before .before .before .before .before in
+    (all-listed (nodeIn (now (start .args .kinds)) (now (start .args .words))) (numbered (nodeIn (now (start .args .kinds)) (now (start .args .words))) (start .args .root ∷ [])) _ _ _ (c .before .before .before .before .before .before .before .before .before .before .before .before .before .before .number-from .ensures), omega (arith, c .before .before .before .before .before .put-kinds .kept .1 .1 .1 .1 .1 .0, c .before .before .before .before .before .before .before .before .before .before .before .put-bytes .kept .0, c .before .before .before .before .before .before .before .before .before .before .before .before .before .if1 .left))
 
 same-length : tie.Need-same-length
 same-length c = search needs
 
 returns-2 : tie.Need-returns-2
-returns-2 c = is-written (now (c .before .before .before .before .before .before .before .before .before .before .before .before .before .before .before .before .before .before .before .before .before .args .kinds)) (now (c .before .before .before .before .before .before .before .before .before .before .before .before .before .before .before .before .before .before .before .before .before .args .words)) (c .before .before .before .before .before .before .before .before .before .before .before .before .before .before .before .before .before .before .before .before .before .args .root) (c .before .before .before .before .before .before .before .before .before .before .before .before .before .before .before .before .before .number-from .ensures) (now (c .before .before .before .before .before .before .before .before .before .before .before .before .before .before .before .before .before .before .before .before .before .args .out)) (c .before .before .before .before .before .before .before .before .before .before .before .before .before .before .before .before .if1 .left) (c .before .before .before .before .before .before .before .before .before .before .before .before .before .before .put-bytes .ensures) (c .before .before .before .before .before .before .before .before .put-kinds .ensures) (c .before .before .put-words .ensures)
+returns-2 c =
+    let start = c .before .before .before .before .before .before .before .before .before .before .before .before .before .before .before .before .before .before .before .before .before in
+    is-written (now (start .args .kinds)) (now (start .args .words)) (start .args .root) (c .before .before .before .before .before .before .before .before .before .before .before .before .before .before .before .before .before .number-from .ensures) (now (start .args .out)) (c .before .before .before .before .before .before .before .before .before .before .before .before .before .before .before .before .if1 .left) (c .before .before .before .before .before .before .before .before .before .before .before .before .before .before .put-bytes .ensures) (c .before .before .before .before .before .before .before .before .put-kinds .ensures) (c .before .before .put-words .ensures)
 
 pub write-file-spec : {M : Type 1} → statement M
 write-file-spec =
