@@ -60,7 +60,7 @@ module _ (values : List ℕ) where
   pub residues-below : areResidues values ≡ true → Residues fixedModulus values
   residues-below e =
       record {
-        below = λ v h. ltb-true (getD values v 0) fixedModulus (each-at (length values) (λ j. ltb (getD values j 0) fixedModulus) v h (and-right (leb (length values) mostValues) _ e))
+        below = λ v h. ltb-true (getD values v 0) fixedModulus (each-at (length values) (λ j. ltb (getD values j 0) fixedModulus) v h (and-right (leb (length values) mostValues) _ e));
       }
 
 module _ (ks ws : List ℕ) (n root : ℕ) (values : List ℕ) where

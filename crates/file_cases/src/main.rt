@@ -82,9 +82,19 @@ fn written(name: &[u8], count: u64, k: [u8; 4], w: [u64; 4]) {
 fn writing() {
     written(b"x0 * x0", 2, [1, 4, 0, 0], [0, 0, 0, 0]);
     written(b"x0 + x1", 3, [1, 1, 3, 0], [0, 1, 0x1_0000_0000, 0]);
-    written(b"x0 + x1, other nodes and another order", 4, [2, 1, 1, 3], [7, 1, 0, 0x1_0000_0002]);
+    written(
+        b"x0 + x1, other nodes and another order",
+        4,
+        [2, 1, 1, 3],
+        [7, 1, 0, 0x1_0000_0002],
+    );
     written(b"x0 + x0, one variable", 2, [1, 3, 0, 0], [0, 0, 0, 0]);
-    written(b"x0 + x0, two variables", 3, [1, 1, 3, 0], [0, 0, 0x1_0000_0000, 0]);
+    written(
+        b"x0 + x0, two variables",
+        3,
+        [1, 1, 3, 0],
+        [0, 0, 0x1_0000_0000, 0],
+    );
     written(b"a part of its own number", 2, [1, 4, 0, 0], [0, 1, 0, 0]);
 }
 
