@@ -1,0 +1,113 @@
+-- `taylor_base::sums::add_in` meets its contract: two constants, a constant at coefficient 0 of a list, or two lists side by side.
+-- Assumes nothing.
+use borrow.Author.Needs.{needs}
+use mathlib.Core.Path.{refl}
+use mathlib.Core.Bool.{false}
+use mathlib.Core.Path.{_≡_, refl}
+use Rattle.pool.specs.Made.{poolOf}
+use Rattle.taylor.specs.Work.{add}
+use Rattle.taylor_base.proofs.Steps.{with-those}
+use Rattle.taylor_base.proofs.Lists.{constant-answers, lists-answer, lists-same, first-lists}
+use Rattle.taylor_base.proofs.Operations.{Coded, coded-some, shorter-entries, two-made}
+use Rattle.taylor.specs.Work.{add}
+use Rattle.taylor_base.proofs.Steps.{with-those}
+use Rattle.taylor_base.proofs.Operations.{Coded, given-coded, coded-some, shorter-entries, two-made}
+use Rattle.taylor_base.proofs.sums.add_in.Statement.{statement}
+use Rattle.taylor_base.proofs.sums.add_in.Tie as tie
+
+lhs-list : (c : tie.Start) → c .args .t4 .constant ≡ false → Coded (c .args .t4)
+lhs-list c h = given-coded (c .pre .0) (search needs) h
+
+rhs-list : (c : tie.Start) → c .args .t5 .constant ≡ false → Coded (c .args .t5)
+rhs-list c h = given-coded (c .pre .1) (search needs) h
+
+element-copy-out-r : tie.Need-element-copy-out-r
+element-copy-out-r c = search needs
+
+element-copy-out-l : tie.Need-element-copy-out-l
+element-copy-out-l c = search needs
+
+entry-in-requires : tie.Need-entry-in-requires
+entry-in-requires c κs = search needs
+
+answer-of-requires : tie.Need-answer-of-requires
+answer-of-requires c κs = search needs
+
+returns : tie.Need-returns
+returns c =
+    let entry = c .before .entry-in in
+    rw (c .before .before .before .before .before .before .before .if1 .taken, c .before .before .before .before .before .if2 .taken) (constant-answers (entry .result) (entry .last .0) (entry .last .1 .0) (c .answer-of .ensures) (entry .ensures))
+
+at-requires : tie.Need-at-requires
+at-requires c κs = (c .before .before .before .before .before .pre .0 .least (c .before .before .if2 .left), c .before .before .before .before .before .pre .0 .most (c .before .before .if2 .left))
+
+entry-in-requires-2 : tie.Need-entry-in-requires-2
+entry-in-requires-2 c κs = search needs
+
+with-first-requires : tie.Need-with-first-requires
+with-first-requires c κs = (c .before .before .before .before .before .before .before .pre .0 .least (c .before .before .before .before .if2 .left), c .before .before .before .before .before .before .before .pre .0 .most (c .before .before .before .before .if2 .left))
+
+returns-2 : tie.Need-returns-2
+returns-2 c =
+    let entry = c .before .entry-in2 in
+    rw (c .before .before .before .before .before .before .before .if1 .taken, c .before .before .before .before .before .if2 .left)
+    (lists-answer
+    (first-lists (entry .result) (c .before .before .before .before .before .before .before .before .args .t4) _ (poolOf (c .before .before .before .before .before .before .before .before .args .kinds .now) (c .before .before .before .before .before .before .before .before .args .words .now) (c .before .before .before .before .before .before .before .before .args .room)) (entry .last .0) (entry .last .1 .0) (c .with-first .ensures)
+    (with-those (λ r l. add l r (poolOf (c .before .before .before .before .before .before .before .before .args .kinds .now) (c .before .before .before .before .before .before .before .before .args .words .now) (c .before .before .before .before .before .before .before .before .args .room))) refl (c .before .before .at .ensures) (entry .ensures))
+    (coded-some (c .before .before .before .before .before .before .before .before .args .t4) (lhs-list (c .before .before .before .before .before .before .before .before) (c .before .before .before .before .before .if2 .left)))))
+
+element-copy-out-l-2 : tie.Need-element-copy-out-l-2
+element-copy-out-l-2 c = search needs
+
+at-requires-2 : tie.Need-at-requires-2
+at-requires-2 c κs = (c .before .before .before .before .before .pre .1 .least (c .before .before .before .before .if1 .left), c .before .before .before .before .before .pre .1 .most (c .before .before .before .before .if1 .left))
+
+entry-in-requires-3 : tie.Need-entry-in-requires-3
+entry-in-requires-3 c κs = search needs
+
+with-first-requires-2 : tie.Need-with-first-requires-2
+with-first-requires-2 c κs = (c .before .before .before .before .before .before .before .pre .1 .least (c .before .before .before .before .before .before .if1 .left), c .before .before .before .before .before .before .before .pre .1 .most (c .before .before .before .before .before .before .if1 .left))
+
+returns-3 : tie.Need-returns-3
+returns-3 c =
+    let entry = c .before .entry-in3 in
+    rw (c .before .before .before .before .before .before .before .if1 .left, c .before .before .before .before .before .before .if3 .taken)
+    (lists-answer
+    (first-lists (entry .result) (c .before .before .before .before .before .before .before .before .args .t5) _ (poolOf (c .before .before .before .before .before .before .before .before .args .kinds .now) (c .before .before .before .before .before .before .before .before .args .words .now) (c .before .before .before .before .before .before .before .before .args .room)) (entry .last .0) (entry .last .1 .0) (c .with-first2 .ensures)
+    (with-those (λ l r. add r l (poolOf (c .before .before .before .before .before .before .before .before .args .kinds .now) (c .before .before .before .before .before .before .before .before .args .words .now) (c .before .before .before .before .before .before .before .before .args .room))) refl (c .before .before .at2 .ensures) (entry .ensures))
+    (coded-some (c .before .before .before .before .before .before .before .before .args .t5) (rhs-list (c .before .before .before .before .before .before .before .before) (c .before .before .before .before .before .before .before .if1 .left)))))
+
+shorter-requires : tie.Need-shorter-requires
+shorter-requires c κs = search needs
+
+entries-in-requires : tie.Need-entries-in-requires
+entries-in-requires c κs = shorter-entries (c .before .before .before .before .before .args .t4) (c .before .before .before .before .before .args .t5) (lhs-list (c .before .before .before .before .before) (c .before .before .before .if3 .left)) (rhs-list (c .before .before .before .before .before) (c .before .before .before .before .if1 .left)) (c .shorter .ensures)
+
+returns-4 : tie.Need-returns-4
+returns-4 c =
+    rw (c .before .before .before .before .before .if1 .left, c .before .before .before .before .if3 .left)
+    (lists-answer
+    (lists-same (c .entries-in .ensures)
+    (two-made (c .before .before .before .before .before .before .args .t4) (c .before .before .before .before .before .before .args .t5) (lhs-list (c .before .before .before .before .before .before) (c .before .before .before .before .if3 .left)) (rhs-list (c .before .before .before .before .before .before) (c .before .before .before .before .before .if1 .left)) (c .before .shorter .ensures) (λ u w. add w u) (poolOf (c .before .before .before .before .before .before .args .kinds .now) (c .before .before .before .before .before .before .args .words .now) (c .before .before .before .before .before .before .args .room)))))
+
+pub add-in-spec : {M : Type 1} → statement M
+add-in-spec =
+    tie.close
+    (tie.spec
+    element-copy-out-r
+    element-copy-out-l
+    entry-in-requires
+    answer-of-requires
+    returns
+    at-requires
+    entry-in-requires-2
+    with-first-requires
+    returns-2
+    element-copy-out-l-2
+    at-requires-2
+    entry-in-requires-3
+    with-first-requires-2
+    returns-3
+    shorter-requires
+    entries-in-requires
+    returns-4)

@@ -1,0 +1,81 @@
+-- `taylor_products::product::times_in` meets its contract: two constants, each entry of a list times a constant, or two lists.
+-- Assumes nothing.
+use borrow.Author.Needs.{needs}
+use mathlib.Core.Bool.{false}
+use mathlib.Core.Path.{_≡_, ap}
+use Rattle.pool.specs.Made.{poolOf}
+use Rattle.taylor.specs.Work.{answered, mul, at}
+use Rattle.taylor.specs.Expansion.{times}
+use Rattle.taylor_base.proofs.Lists.{constant-answers, lists-answer, lists-same}
+use Rattle.taylor_base.proofs.Operations.{Coded, given-coded, all-entries, each-made}
+use Rattle.taylor_products.proofs.product.times_in.Statement.{statement}
+use Rattle.taylor_products.proofs.product.times_in.Tie as tie
+
+lhs-list : (c : tie.Start) → c .args .t4 .constant ≡ false → Coded (c .args .t4)
+lhs-list c h = given-coded (c .pre .0) (search needs) h
+
+rhs-list : (c : tie.Start) → c .args .t5 .constant ≡ false → Coded (c .args .t5)
+rhs-list c h = given-coded (c .pre .1) (search needs) h
+
+element-copy-out-l : tie.Need-element-copy-out-l
+element-copy-out-l c = search needs
+
+element-copy-out-r : tie.Need-element-copy-out-r
+element-copy-out-r c = search needs
+
+mul-in-requires : tie.Need-mul-in-requires
+mul-in-requires c κs = search needs
+
+answer-of-requires : tie.Need-answer-of-requires
+answer-of-requires c κs = search needs
+
+returns : tie.Need-returns
+unfolding times
+returns c =
+    let product = c .before .mul-in in
+    rw (c .before .before .before .before .before .before .before .if1 .taken, c .before .before .before .before .before .if2 .taken) (constant-answers (product .result) (product .last .0) (product .last .1 .0) (c .answer-of .ensures) (ap answered (product .ensures)))
+
+entries-in-requires : tie.Need-entries-in-requires
+entries-in-requires c κs = all-entries (c .before .before .before .before .before .args .t5) (rhs-list (c .before .before .before .before .before) (c .before .before .if2 .left))
+
+returns-2 : tie.Need-returns-2
+unfolding times
+returns-2 c =
+    rw (c .before .before .before .before .before .if1 .taken, c .before .before .before .if2 .left)
+    (lists-answer (lists-same (c .entries-in .ensures) (each-made (c .before .before .before .before .before .before .args .t5) (rhs-list (c .before .before .before .before .before .before) (c .before .before .before .if2 .left)) (λ w. mul w (at (c .before .before .before .before .before .before .args .t4 .coeffs) 0)) (poolOf (c .before .before .before .before .before .before .args .kinds .now) (c .before .before .before .before .before .before .args .words .now) (c .before .before .before .before .before .before .args .room)))))
+
+element-copy-out-r-2 : tie.Need-element-copy-out-r-2
+element-copy-out-r-2 c = search needs
+
+entries-in-requires-2 : tie.Need-entries-in-requires-2
+entries-in-requires-2 c κs = all-entries (c .before .before .before .before .before .args .t4) (lhs-list (c .before .before .before .before .before) (c .before .before .before .before .if1 .left))
+
+returns-3 : tie.Need-returns-3
+unfolding times
+returns-3 c =
+    rw (c .before .before .before .before .before .if1 .left, c .before .before .before .before .if3 .taken)
+    (lists-answer (lists-same (c .entries-in2 .ensures) (each-made (c .before .before .before .before .before .before .args .t4) (lhs-list (c .before .before .before .before .before .before) (c .before .before .before .before .before .if1 .left)) (λ u. mul u (at (c .before .before .before .before .before .before .args .t5 .coeffs) 0)) (poolOf (c .before .before .before .before .before .before .args .kinds .now) (c .before .before .before .before .before .before .args .words .now) (c .before .before .before .before .before .before .args .room)))))
+
+times-lists-requires : tie.Need-times-lists-requires
+times-lists-requires c κs = ((c .before .before .before .before .pre .0 .least (c .before .before .before .if1 .left), c .before .before .before .before .pre .0 .most (c .before .before .before .if1 .left)), (c .before .before .before .before .pre .1 .least (c .before .before .if3 .left), c .before .before .before .before .pre .1 .most (c .before .before .if3 .left)))
+
+returns-4 : tie.Need-returns-4
+unfolding times
+returns-4 c = rw (c .before .before .before .before .if1 .left, c .before .before .before .if3 .left) (lists-answer (c .times-lists .ensures))
+
+pub times-in-spec : {M : Type 1} → statement M
+times-in-spec =
+    tie.close
+    (tie.spec
+    element-copy-out-l
+    element-copy-out-r
+    mul-in-requires
+    answer-of-requires
+    returns
+    entries-in-requires
+    returns-2
+    element-copy-out-r-2
+    entries-in-requires-2
+    returns-3
+    times-lists-requires
+    returns-4)

@@ -1,0 +1,83 @@
+-- `taylor_products::term::fold_in` meets its contract: it is `fold`, one term a turn.
+-- Assumes nothing.
+use native.Mathlib.Omega.{arith}
+use borrow.Author.Needs.{needs}
+use Prim.Native.Nat.{_-_}
+use Rattle.pool.specs.Made.{poolOf}
+use Rattle.taylor.specs.Work.{fold}
+use Rattle.taylor_base.specs.Answers.{listOf}
+use Rattle.taylor_products.specs.Terms.{termWork, termAt}
+use Rattle.taylor_base.proofs.Steps.{with-those}
+use Rattle.taylor_products.proofs.Folding.{Folding, fold-starts, fold-stopped, fold-onward, fold-done}
+use Rattle.taylor_products.proofs.term.fold_in.Statement.{statement}
+use Rattle.taylor_products.proofs.term.fold_in.Tie as tie
+
+abbrev Inv-loop : tie.InvT-loop
+Inv-loop kinds₀ words₀ rule xs ys k first todo start left₀ sum₀ end j₀ kinds words left sum j =
+    Folding (termAt rule (listOf xs) (listOf ys) k) first end (fold (termAt rule (listOf xs) (listOf ys) k) first todo start (poolOf kinds₀ words₀ left₀)) j sum (poolOf kinds words left)
+
+abbrev μ-loop : tie.MeasureT-loop
+μ-loop kinds₀ words₀ rule xs ys k first todo start left₀ sum₀ end j₀ kinds words left sum j = end - j
+
+add-end : tie.Need-add-end Inv-loop μ-loop
+add-end c = omega (arith, c .pre .rising, c .pre .rising-most)
+
+loop-holds : tie.Need-loop-holds Inv-loop μ-loop
+loop-holds c = fold-starts _ (c .args .first) (c .args .todo) (c .args .start) _
+
+at-requires : tie.Need-at-requires Inv-loop μ-loop
+at-requires c κs = (omega (arith, c .loop-test .taken, c .before .before .pre .rising), c .before .before .pre .rising-most)
+
+sub-at : tie.Need-sub-at Inv-loop μ-loop
+sub-at c = omega (arith, c .before .loop-test .taken, c .before .before .before .pre .within)
+
+at-requires-2 : tie.Need-at-requires-2 Inv-loop μ-loop
+at-requires-2 c κs = (omega (arith, c .before .loop-test .taken, c .before .before .before .pre .within, c .before .before .before .pre .falling, c .before .before .loop .inv .least), c .before .before .before .pre .falling-most)
+
+term-in-requires : tie.Need-term-in-requires Inv-loop μ-loop
+term-in-requires c κs = search needs
+
+enum-known-term : tie.Need-enum-known-term Inv-loop μ-loop
+enum-known-term c = search needs
+
+enum-told : tie.Need-enum-told Inv-loop μ-loop
+enum-told c = search needs
+
+returns : tie.Need-returns Inv-loop μ-loop
+returns c =
+    let term = c .before .before .term-in in
+    fold-stopped (c .before .before .before .before .before .before .before .before .loop .inv) (c .before .before .before .before .before .before .before .loop-test .taken) (term .last .0) (term .last .1 .0) (with-those (λ x y. termWork (c .before .before .before .before .before .before .before .before .before .args .rule) x y (c .before .before .before .before .before .before .before .before .loop .j) (c .before .before .before .before .before .before .before .before .loop .sum) (poolOf (c .before .before .before .before .before .before .before .before .loop .kinds) (c .before .before .before .before .before .before .before .before .loop .words) (c .before .before .before .before .before .before .before .before .loop .left))) (c .before .before .before .before .before .before .at .ensures) (c .before .before .before .before .before .at2 .ensures) (term .ensures)) _ _ (c .enum-told .given .1)
+
+add-j : tie.Need-add-j Inv-loop μ-loop
+add-j c = omega (arith, c .before .before .before .before .before .before .before .before .loop-test .taken, c .before .before .before .before .before .before .before .before .before .before .pre .within, c .before .before .before .before .before .before .before .before .before .before .pre .rising, c .before .before .before .before .before .before .before .before .before .before .pre .rising-most)
+
+loop-less : tie.Need-loop-less Inv-loop μ-loop
+loop-less c = omega (arith, c .before .before .before .before .before .before .before .before .loop-test .taken)
+
+loop-again : tie.Need-loop-again Inv-loop μ-loop
+loop-again c =
+    let term = c .before .before .before .term-in in
+    fold-onward (c .before .before .before .before .before .before .before .before .before .loop .inv) (c .before .before .before .before .before .before .before .before .loop-test .taken) (term .last .0) (term .last .1 .0) (with-those (λ x y. termWork (c .before .before .before .before .before .before .before .before .before .before .args .rule) x y (c .before .before .before .before .before .before .before .before .before .loop .j) (c .before .before .before .before .before .before .before .before .before .loop .sum) (poolOf (c .before .before .before .before .before .before .before .before .before .loop .kinds) (c .before .before .before .before .before .before .before .before .before .loop .words) (c .before .before .before .before .before .before .before .before .before .loop .left))) (c .before .before .before .before .before .before .before .at .ensures) (c .before .before .before .before .before .before .at2 .ensures) (term .ensures)) (c .before .term .given .1)
+
+returns-2 : tie.Need-returns-2 Inv-loop μ-loop
+returns-2 c = fold-done (c .before .loop .inv) (c .loop-test .left)
+
+pub fold-in-spec : {M : Type 1} → statement M
+fold-in-spec =
+    tie.close
+    (tie.spec
+    Inv-loop
+    μ-loop
+    add-end
+    loop-holds
+    at-requires
+    sub-at
+    at-requires-2
+    term-in-requires
+    enum-known-term
+    enum-told
+    returns
+    add-j
+    loop-less
+    loop-again
+    returns-2)

@@ -1,0 +1,20 @@
+-- One step of a power and of a substitution.
+-- Assumes nothing.
+use mathlib.Core.Bool.{Bool}
+use Prim.Native.Nat.{ℕ}
+use Rattle.taylor.specs.Work.{Work, _>>=_, yield}
+use Rattle.taylor.specs.Expansion.{Expansion, Constant, times, addTo, when}
+
+-- the exponent has 32 bits
+abbrev pub digits : ℕ
+digits = 32
+
+-- lhs *= rhs where it is asked for
+abbrev pub timesIf : Bool → Expansion → Expansion → Work Expansion
+timesIf asked lhs rhs = when asked (times lhs rhs) (yield lhs)
+
+-- res * subst + Constant(c)
+abbrev pub hornerStep : Expansion → ℕ → Expansion → Work Expansion
+hornerStep inner c res = do
+  p ← times res inner
+  addTo p (Constant c)
