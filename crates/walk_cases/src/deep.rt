@@ -7,6 +7,7 @@ use crate::calls::put;
 use crate::calls::substitute;
 use crate::entries::ADD;
 use crate::entries::VARIABLE;
+use crate::entries::clear;
 use crate::entries::set;
 use crate::entries::set_run;
 use pool::LIMIT;
@@ -29,40 +30,30 @@ fn every(k: &mut [u8; LIMIT], w: &mut [u64; LIMIT], n: &mut u64, root: u64) {
 }
 
 // x0 and its sum with itself, whose right part is not smaller than its own number; and x0 and x1. No root.
-fn bad() {
-    let mut k = [0u8; LIMIT];
-    let mut w = [0u64; LIMIT];
+fn bad(k: &mut [u8; LIMIT], w: &mut [u64; LIMIT]) {
+    clear(k, w);
     let mut n = 2;
-    set(&mut k, &mut w, 0, VARIABLE, 0);
-    set(&mut k, &mut w, 1, ADD, 0x1_0000_0000);
+    set(k, w, 0, VARIABLE, 0);
+    set(k, w, 1, ADD, 0x1_0000_0000);
     put(b"a broken pool and no root\n");
-    every(&mut k, &mut w, &mut n, 2);
-    set(&mut k, &mut w, 1, VARIABLE, 1);
+    every(k, w, &mut n, 2);
+    set(k, w, 1, VARIABLE, 1);
     put(b"no root\n");
-    every(&mut k, &mut w, &mut n, 2);
+    every(k, w, &mut n, 2);
 }
 
 // x0, x1, x0 + x0, and from entry 3 on each the sum of the one before with itself.
-fn doublings(name: &[u8], count: u32) {
-    let mut k = [0u8; LIMIT];
-    let mut w = [0u64; LIMIT];
+fn doublings(name: &[u8], k: &mut [u8; LIMIT], w: &mut [u64; LIMIT], count: u32) {
+    clear(k, w);
     let mut n = count as u64;
-    set(&mut k, &mut w, 0, VARIABLE, 0);
-    set(&mut k, &mut w, 1, VARIABLE, 1);
-    set(&mut k, &mut w, 2, ADD, 0);
-    set_run(
-        &mut k,
-        &mut w,
-        3,
-        count as usize,
-        ADD,
-        0x2_0000_0002,
-        0x1_0000_0001,
-    );
+    set(k, w, 0, VARIABLE, 0);
+    set(k, w, 1, VARIABLE, 1);
+    set(k, w, 2, ADD, 0);
+    set_run(k, w, 3, count as usize, ADD, 0x2_0000_0002, 0x1_0000_0001);
     put(name);
     if 0 < n {
         let root = n - 1;
-        every(&mut k, &mut w, &mut n, root);
+        every(k, w, &mut n, root);
     }
 }
 
@@ -72,39 +63,36 @@ fn set_chain(k: &mut [u8; LIMIT], w: &mut [u64; LIMIT], count: usize) {
     set_run(k, w, 1, count, ADD, 0, 1);
 }
 
-fn chain(name: &[u8], count: u32) {
-    let mut k = [0u8; LIMIT];
-    let mut w = [0u64; LIMIT];
+fn chain(name: &[u8], k: &mut [u8; LIMIT], w: &mut [u64; LIMIT], count: u32) {
+    clear(k, w);
     let mut n = count as u64;
-    set_chain(&mut k, &mut w, count as usize);
+    set_chain(k, w, count as usize);
     put(name);
     if 0 < n {
         let root = n - 1;
-        every(&mut k, &mut w, &mut n, root);
+        every(k, w, &mut n, root);
     }
 }
 
-fn derive_chain(name: &[u8], count: u32, var: u64) {
-    let mut k = [0u8; LIMIT];
-    let mut w = [0u64; LIMIT];
+fn derive_chain(name: &[u8], k: &mut [u8; LIMIT], w: &mut [u64; LIMIT], count: u32, var: u64) {
+    clear(k, w);
     let mut n = count as u64;
-    set_chain(&mut k, &mut w, count as usize);
+    set_chain(k, w, count as usize);
     if 0 < n {
         let root = n - 1;
-        derive(name, &mut k, &mut w, &mut n, root, var);
+        derive(name, k, w, &mut n, root, var);
     }
 }
 
 // x0 := x0 gives the root back.
-fn keep_chain() {
-    let mut k = [0u8; LIMIT];
-    let mut w = [0u64; LIMIT];
+fn keep_chain(k: &mut [u8; LIMIT], w: &mut [u64; LIMIT]) {
+    clear(k, w);
     let mut n = LIMIT as u64;
-    set_chain(&mut k, &mut w, LIMIT);
+    set_chain(k, w, LIMIT);
     substitute(
         b"x0 := x0 in a chain of 4096 nodes",
-        &mut k,
-        &mut w,
+        k,
+        w,
         &mut n,
         4095,
         0,
@@ -112,16 +100,16 @@ fn keep_chain() {
     );
 }
 
-pub fn all() {
-    bad();
-    doublings(b"40 doublings\n", 42);
-    doublings(b"53 doublings\n", 55);
-    chain(b"a chain of 4096 nodes\n", 4096);
-    chain(b"a chain of 2048 nodes\n", 2048);
-    chain(b"a chain of 2049 nodes\n", 2049);
-    keep_chain();
-    derive_chain(b"derive a chain of 2048 nodes", 2048, 0);
-    derive_chain(b"derive a chain of 2049 nodes", 2049, 0);
-    derive_chain(b"derive a chain of 4095 nodes by x1", 4095, 1);
-    derive_chain(b"derive a chain of 4096 nodes by x1", 4096, 1);
+pub fn all(k: &mut [u8; LIMIT], w: &mut [u64; LIMIT]) {
+    bad(k, w);
+    doublings(b"40 doublings\n", k, w, 42);
+    doublings(b"53 doublings\n", k, w, 55);
+    chain(b"a chain of 4096 nodes\n", k, w, 4096);
+    chain(b"a chain of 2048 nodes\n", k, w, 2048);
+    chain(b"a chain of 2049 nodes\n", k, w, 2049);
+    keep_chain(k, w);
+    derive_chain(b"derive a chain of 2048 nodes", k, w, 2048, 0);
+    derive_chain(b"derive a chain of 2049 nodes", k, w, 2049, 0);
+    derive_chain(b"derive a chain of 4095 nodes by x1", k, w, 4095, 1);
+    derive_chain(b"derive a chain of 4096 nodes by x1", k, w, 4096, 1);
 }

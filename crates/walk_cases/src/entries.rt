@@ -45,3 +45,25 @@ pub fn set_run(
         i += 1;
     }
 }
+
+// An empty pool.
+pub fn clear(kinds: &mut [u8; LIMIT], words: &mut [u64; LIMIT]) {
+    set_run(kinds, words, 0, LIMIT, 0, 0, 0);
+}
+
+fn kind_at(kinds: &[u8], i: usize) -> u8 {
+    if i < kinds.len() { kinds[i] } else { 0 }
+}
+
+fn word_at(words: &[u64], i: usize) -> u64 {
+    if i < words.len() { words[i] } else { 0 }
+}
+
+// A pool of the entries of two short tables; the rest is empty.
+pub fn load(kinds: &mut [u8; LIMIT], words: &mut [u64; LIMIT], k: &[u8], w: &[u64]) {
+    let mut i = 0;
+    while i < LIMIT {
+        set(kinds, words, i, kind_at(k, i), word_at(w, i));
+        i += 1;
+    }
+}

@@ -10,7 +10,7 @@ use crate::entries::MAX;
 use crate::entries::MUL;
 use crate::entries::POW;
 use crate::entries::VARIABLE;
-use crate::entries::set;
+use crate::entries::load;
 use pool::LIMIT;
 
 // How many entries the pool has.
@@ -18,38 +18,66 @@ const COUNT: u64 = 26;
 
 // x0 = 0, x9 = 1, exp x0 = 2, exp x0 + x9 = 3, x9 + exp x0 = 4, exp x9 = 5, 1 = 6, 0 = 7, 1/0 = 8, max(1/0, exp x0) = 9, 3 = 10, 1/3 = 11,
 // 2 = 12, 1/2 = 13, 0/0 = 14, max(x0, x0) = 15.
-fn set_pool(k: &mut [u8; LIMIT], w: &mut [u64; LIMIT]) {
-    set(k, w, 0, VARIABLE, 0);
-    set(k, w, 1, VARIABLE, 9);
-    set(k, w, 2, EXP, 0);
-    set(k, w, 3, ADD, 0x1_0000_0002);
-    set(k, w, 4, ADD, 0x2_0000_0001);
-    set(k, w, 5, EXP, 1);
-    set(k, w, 6, LIT, 1);
-    set(k, w, 7, LIT, 0);
-    set(k, w, 8, DIV, 0x7_0000_0006);
-    set(k, w, 9, MAX, 0x2_0000_0008);
-    set(k, w, 10, LIT, 3);
-    set(k, w, 11, DIV, 0xa_0000_0006);
-    set(k, w, 12, LIT, 2);
-    set(k, w, 13, DIV, 0xc_0000_0006);
-    set(k, w, 14, DIV, 0x7_0000_0007);
-    set(k, w, 15, MAX, 0);
-}
-
 // -1 = 16, -1/0 = 17, (1/3) * 3 = 18, -(2^53 - 1) = 19, 2147483647 = 20, 1/2147483647 = 21, x0^2147483646 = 22, x0^4294967295 = 23, log x0 = 24,
 // x65535 = 25.
-fn set_rest(k: &mut [u8; LIMIT], w: &mut [u64; LIMIT]) {
-    set(k, w, 16, LIT, 0xffff_ffff_ffff_ffff);
-    set(k, w, 17, DIV, 0x7_0000_0010);
-    set(k, w, 18, MUL, 0xa_0000_000b);
-    set(k, w, 19, LIT, 0xffe0_0000_0000_0001);
-    set(k, w, 20, LIT, 2_147_483_647);
-    set(k, w, 21, DIV, 0x14_0000_0006);
-    set(k, w, 22, POW, 0x7fff_fffe_0000_0000);
-    set(k, w, 23, POW, 0xffff_ffff_0000_0000);
-    set(k, w, 24, LOG, 0);
-    set(k, w, 25, VARIABLE, 65_535);
+fn set_pool(k: &mut [u8; LIMIT], w: &mut [u64; LIMIT]) {
+    let kinds = [
+        VARIABLE,
+        VARIABLE,
+        EXP,
+        ADD,
+        ADD,
+        EXP,
+        LIT,
+        LIT,
+        DIV,
+        MAX,
+        LIT,
+        DIV,
+        LIT,
+        DIV,
+        DIV,
+        MAX,
+        LIT,
+        DIV,
+        MUL,
+        LIT,
+        LIT,
+        DIV,
+        POW,
+        POW,
+        LOG,
+        VARIABLE,
+    ];
+    let words = [
+        0,
+        9,
+        0,
+        0x1_0000_0002,
+        0x2_0000_0001,
+        1,
+        1,
+        0,
+        0x7_0000_0006,
+        0x2_0000_0008,
+        3,
+        0xa_0000_0006,
+        2,
+        0xc_0000_0006,
+        0x7_0000_0007,
+        0,
+        0xffff_ffff_ffff_ffff,
+        0x7_0000_0010,
+        0xa_0000_000b,
+        0xffe0_0000_0000_0001,
+        2_147_483_647,
+        0x14_0000_0006,
+        0x7fff_fffe_0000_0000,
+        0xffff_ffff_0000_0000,
+        0,
+        65_535,
+    ];
+    load(k, w, &kinds, &words);
 }
 
 fn values(k: &[u8; LIMIT], w: &[u64; LIMIT]) {
@@ -86,12 +114,16 @@ fn residues(k: &[u8; LIMIT], w: &[u64; LIMIT]) {
     evaluate_residue(b"2^4294967295 by residues", k, w, COUNT, 23, &two);
 }
 
-fn refused_residues(k: &[u8; LIMIT], w: &[u64; LIMIT]) {
+fn no_inverses(k: &[u8; LIMIT], w: &[u64; LIMIT]) {
     let two = [2u32];
     evaluate_residue(b"1/0 by residues", k, w, COUNT, 8, &two);
     evaluate_residue(b"0/0 by residues", k, w, COUNT, 14, &two);
     evaluate_residue(b"1/2147483647 by residues", k, w, COUNT, 21, &two);
     evaluate_residue(b"max(1/0, exp x0) by residues", k, w, COUNT, 9, &two);
+}
+
+fn no_residues(k: &[u8; LIMIT], w: &[u64; LIMIT]) {
+    let two = [2u32];
     evaluate_residue(b"max(x0, x0) by residues", k, w, COUNT, 15, &two);
     evaluate_residue(b"exp x0 + x9 by residues", k, w, COUNT, 3, &two);
     evaluate_residue(b"x9 + exp x0 by residues", k, w, COUNT, 4, &two);
@@ -157,16 +189,14 @@ fn long_residues(k: &[u8; LIMIT], w: &[u64; LIMIT]) {
     with_first_residues(b"1/2 with 65537 residues", k, w, 13, &table, 65_537);
 }
 
-pub fn all() {
-    let mut k = [0u8; LIMIT];
-    let mut w = [0u64; LIMIT];
-    set_pool(&mut k, &mut w);
-    set_rest(&mut k, &mut w);
-    values(&k, &w);
-    quotients(&k, &w);
-    residues(&k, &w);
-    refused_residues(&k, &w);
-    tables(&k, &w);
-    long_values(&k, &w);
-    long_residues(&k, &w);
+pub fn all(k: &mut [u8; LIMIT], w: &mut [u64; LIMIT]) {
+    set_pool(k, w);
+    values(k, w);
+    quotients(k, w);
+    residues(k, w);
+    no_inverses(k, w);
+    no_residues(k, w);
+    tables(k, w);
+    long_values(k, w);
+    long_residues(k, w);
 }

@@ -6,8 +6,7 @@ use crate::entries::MAX;
 use crate::entries::MUL;
 use crate::entries::POW;
 use crate::entries::VARIABLE;
-use crate::entries::set;
-use crate::entries::set_run;
+use crate::entries::load;
 use pool::LIMIT;
 
 // How many entries the pool has.
@@ -16,20 +15,49 @@ const COUNT: u64 = 19;
 // x0 to x5 = 0 to 5, x1 + x2 = 6, x3 + x3 = 7, x3 + x4 = 8, x1 * x4 = 9, x5 / x3 = 10, max(x0, x5) = 11, max(x5, x0) = 12, max(x0, x0) = 13,
 // max(x4, x3) = 14, max(x3, x4) = 15, x3^3 = 16, x2^2 = 17, x0^2 = 18.
 fn set_pool(k: &mut [u8; LIMIT], w: &mut [u64; LIMIT]) {
-    set_run(k, w, 0, 6, VARIABLE, 0, 1);
-    set(k, w, 6, ADD, 0x2_0000_0001);
-    set(k, w, 7, ADD, 0x3_0000_0003);
-    set(k, w, 8, ADD, 0x4_0000_0003);
-    set(k, w, 9, MUL, 0x4_0000_0001);
-    set(k, w, 10, DIV, 0x3_0000_0005);
-    set(k, w, 11, MAX, 0x5_0000_0000);
-    set(k, w, 12, MAX, 0x0_0000_0005);
-    set(k, w, 13, MAX, 0);
-    set(k, w, 14, MAX, 0x3_0000_0004);
-    set(k, w, 15, MAX, 0x4_0000_0003);
-    set(k, w, 16, POW, 0x3_0000_0003);
-    set(k, w, 17, POW, 0x2_0000_0002);
-    set(k, w, 18, POW, 0x2_0000_0000);
+    let kinds = [
+        VARIABLE,
+        VARIABLE,
+        VARIABLE,
+        VARIABLE,
+        VARIABLE,
+        VARIABLE,
+        ADD,
+        ADD,
+        ADD,
+        MUL,
+        DIV,
+        MAX,
+        MAX,
+        MAX,
+        MAX,
+        MAX,
+        POW,
+        POW,
+        POW,
+    ];
+    let words = [
+        0,
+        1,
+        2,
+        3,
+        4,
+        5,
+        0x2_0000_0001,
+        0x3_0000_0003,
+        0x4_0000_0003,
+        0x4_0000_0001,
+        0x3_0000_0005,
+        0x5_0000_0000,
+        0x0_0000_0005,
+        0,
+        0x3_0000_0004,
+        0x4_0000_0003,
+        0x3_0000_0003,
+        0x2_0000_0002,
+        0x2_0000_0000,
+    ];
+    load(k, w, &kinds, &words);
 }
 
 // x0 is a NaN, x1 and x2 the infinities, x3 minus zero, x4 zero and x5 two.
@@ -56,15 +84,13 @@ fn choices(k: &[u8; LIMIT], w: &[u64; LIMIT], table: &[f64]) {
     evaluate(b"NaN^2", k, w, COUNT, 18, table);
 }
 
-pub fn all() {
-    let mut k = [0u8; LIMIT];
-    let mut w = [0u64; LIMIT];
-    set_pool(&mut k, &mut w);
+pub fn all(k: &mut [u8; LIMIT], w: &mut [u64; LIMIT]) {
+    set_pool(k, w);
     let nan = double::quotient(0.0, 0.0);
     let infinity = double::quotient(1.0, 0.0);
     let minus_infinity = double::quotient(-1.0, 0.0);
     let minus_zero = double::quotient(0.0, -1.0);
     let table = [nan, infinity, minus_infinity, minus_zero, 0.0, 2.0];
-    sums(&k, &w, &table);
-    choices(&k, &w, &table);
+    sums(k, w, &table);
+    choices(k, w, &table);
 }

@@ -10,6 +10,8 @@ use crate::entries::MAX;
 use crate::entries::MUL;
 use crate::entries::POW;
 use crate::entries::VARIABLE;
+use crate::entries::clear;
+use crate::entries::load;
 use crate::entries::set;
 use crate::entries::set_run;
 use pool::LIMIT;
@@ -19,37 +21,68 @@ const COUNT: u64 = 27;
 
 // x0 = 0, x1 = 1, x2 = 2, -2 = 3, x0 + x1 = 4, x1 * x2 = 5, (x0 + x1) * x2 = 6, x0 / (x1 * x2) = 7, (x1 * x2) / x0 = 8, (x1 * x2)^2 = 9, x0^2 = 10,
 // (x0^2)^3 = 11, (-2)^3 = 12, x0 / -2 = 13, x0 + -2 = 14, exp(x0 + x1) = 15, log(x1 * x2) = 16.
-fn set_pool(k: &mut [u8; LIMIT], w: &mut [u64; LIMIT]) {
-    set_run(k, w, 0, 3, VARIABLE, 0, 1);
-    set(k, w, 3, LIT, 0xffff_ffff_ffff_fffe);
-    set(k, w, 4, ADD, 0x1_0000_0000);
-    set(k, w, 5, MUL, 0x2_0000_0001);
-    set(k, w, 6, MUL, 0x2_0000_0004);
-    set(k, w, 7, DIV, 0x5_0000_0000);
-    set(k, w, 8, DIV, 0x0_0000_0005);
-    set(k, w, 9, POW, 0x2_0000_0005);
-    set(k, w, 10, POW, 0x2_0000_0000);
-    set(k, w, 11, POW, 0x3_0000_000a);
-    set(k, w, 12, POW, 0x3_0000_0003);
-    set(k, w, 13, DIV, 0x3_0000_0000);
-    set(k, w, 14, ADD, 0x3_0000_0000);
-    set(k, w, 15, EXP, 4);
-    set(k, w, 16, LOG, 5);
-}
-
 // (x0 / (x1 * x2)) / x0 = 17, x0 / (x0 / (x1 * x2)) = 18, x2 + (x0 + x1) = 19, x25 = 20, x26 = 21, x65535 = 22, -(2^53 - 1) = 23, max(x0, x1) = 24,
 // exp(max(x0, x1)) = 25, x0 / x0^2 = 26.
-fn set_rest(k: &mut [u8; LIMIT], w: &mut [u64; LIMIT]) {
-    set(k, w, 17, DIV, 0x0_0000_0007);
-    set(k, w, 18, DIV, 0x7_0000_0000);
-    set(k, w, 19, ADD, 0x4_0000_0002);
-    set(k, w, 20, VARIABLE, 25);
-    set(k, w, 21, VARIABLE, 26);
-    set(k, w, 22, VARIABLE, 65_535);
-    set(k, w, 23, LIT, 0xffe0_0000_0000_0001);
-    set(k, w, 24, MAX, 0x1_0000_0000);
-    set(k, w, 25, EXP, 24);
-    set(k, w, 26, DIV, 0xa_0000_0000);
+fn set_pool(k: &mut [u8; LIMIT], w: &mut [u64; LIMIT]) {
+    let kinds = [
+        VARIABLE,
+        VARIABLE,
+        VARIABLE,
+        LIT,
+        ADD,
+        MUL,
+        MUL,
+        DIV,
+        DIV,
+        POW,
+        POW,
+        POW,
+        POW,
+        DIV,
+        ADD,
+        EXP,
+        LOG,
+        DIV,
+        DIV,
+        ADD,
+        VARIABLE,
+        VARIABLE,
+        VARIABLE,
+        LIT,
+        MAX,
+        EXP,
+        DIV,
+    ];
+    let words = [
+        0,
+        1,
+        2,
+        0xffff_ffff_ffff_fffe,
+        0x1_0000_0000,
+        0x2_0000_0001,
+        0x2_0000_0004,
+        0x5_0000_0000,
+        0x0_0000_0005,
+        0x2_0000_0005,
+        0x2_0000_0000,
+        0x3_0000_000a,
+        0x3_0000_0003,
+        0x3_0000_0000,
+        0x3_0000_0000,
+        4,
+        5,
+        0x0_0000_0007,
+        0x7_0000_0000,
+        0x4_0000_0002,
+        25,
+        26,
+        65_535,
+        0xffe0_0000_0000_0001,
+        0x1_0000_0000,
+        24,
+        0xa_0000_0000,
+    ];
+    load(k, w, &kinds, &words);
 }
 
 // The text in the first `room` bytes of an output of dots.
@@ -114,26 +147,28 @@ fn set_long(k: &mut [u8; LIMIT], w: &mut [u64; LIMIT], literal: u64) {
     set_run(k, w, 16, 31, MUL, 0xf_0000_0000, 0x1_0000_0001);
 }
 
-fn print_long(name: &[u8], literal: u64, out: &mut [u8]) {
-    let mut k = [0u8; LIMIT];
-    let mut w = [0u64; LIMIT];
-    set_long(&mut k, &mut w, literal);
-    print(name, &k, &w, 31, 30, out);
+fn print_long(
+    name: &[u8],
+    k: &mut [u8; LIMIT],
+    w: &mut [u64; LIMIT],
+    literal: u64,
+    out: &mut [u8],
+) {
+    clear(k, w);
+    set_long(k, w, literal);
+    print(name, k, w, 31, 30, out);
 }
 
-fn long_texts() {
+fn long_texts(k: &mut [u8; LIMIT], w: &mut [u64; LIMIT]) {
     let mut out = [b'.'; 65_536];
-    print_long(b"a text of 65536 bytes", 10, &mut out);
-    print_long(b"a text of 65535 bytes", 9, &mut out);
+    print_long(b"a text of 65536 bytes", k, w, 10, &mut out);
+    print_long(b"a text of 65535 bytes", k, w, 9, &mut out);
 }
 
-pub fn all() {
-    let mut k = [0u8; LIMIT];
-    let mut w = [0u64; LIMIT];
-    set_pool(&mut k, &mut w);
-    set_rest(&mut k, &mut w);
-    brackets(&k, &w);
-    leaves(&k, &w);
-    rooms(&k, &w);
-    long_texts();
+pub fn all(k: &mut [u8; LIMIT], w: &mut [u64; LIMIT]) {
+    set_pool(k, w);
+    brackets(k, w);
+    leaves(k, w);
+    rooms(k, w);
+    long_texts(k, w);
 }
