@@ -1,7 +1,7 @@
 -- `walk_cases::entries::load` returns: each turn counts up to the limit.
 -- Assumes nothing.
-use native.Mathlib.Omega.{arith}
 use Prim.Native.Nat.{_-_}
+use native.Mathlib.Omega.{arith}
 use Rattle.pool.specs.Pool.{limit}
 use Rattle.walk_cases.proofs.entries.load.Statement.{statement}
 use Rattle.walk_cases.proofs.entries.load.Tie as tie

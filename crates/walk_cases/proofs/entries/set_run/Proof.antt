@@ -1,7 +1,7 @@
 -- `walk_cases::entries::set_run` returns: each turn counts up.
 -- Assumes nothing.
-use native.Mathlib.Omega.{arith}
 use Prim.Native.Nat.{_-_}
+use native.Mathlib.Omega.{arith}
 use Rattle.walk_cases.proofs.entries.set_run.Statement.{statement}
 use Rattle.walk_cases.proofs.entries.set_run.Tie as tie
 
