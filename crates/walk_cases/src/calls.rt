@@ -57,29 +57,52 @@ fn show(name: &[u8], kinds: &[u8; LIMIT], words: &[u64; LIMIT], count: u64, answ
     put(b"\n");
 }
 
-pub fn substitute(
+fn substitute_in(
     name: &[u8],
     k: &mut [u8; LIMIT],
     w: &mut [u64; LIMIT],
-    n: &mut u64,
+    count: u64,
     root: u64,
     var: u64,
     value: u64,
 ) {
-    let answer = engine_walk::substitute_var(k, w, n, root, var, value);
-    show(name, k, w, *n, answer);
+    let mut n = count;
+    let answer = engine_walk::substitute_var(k, w, &mut n, root, var, value);
+    show(name, k, w, n, answer);
 }
 
-pub fn derive(
+// Each call that works on the pool has a copy of its own.
+pub fn substitute(
+    name: &[u8],
+    k: &[u8; LIMIT],
+    w: &[u64; LIMIT],
+    count: u64,
+    root: u64,
+    var: u64,
+    value: u64,
+) {
+    let mut kinds = *k;
+    let mut words = *w;
+    substitute_in(name, &mut kinds, &mut words, count, root, var, value);
+}
+
+fn derive_in(
     name: &[u8],
     k: &mut [u8; LIMIT],
     w: &mut [u64; LIMIT],
-    n: &mut u64,
+    count: u64,
     root: u64,
     var: u64,
 ) {
-    let answer = engine_walk::derive(k, w, n, root, var);
-    show(name, k, w, *n, answer);
+    let mut n = count;
+    let answer = engine_walk::derive(k, w, &mut n, root, var);
+    show(name, k, w, n, answer);
+}
+
+pub fn derive(name: &[u8], k: &[u8; LIMIT], w: &[u64; LIMIT], count: u64, root: u64, var: u64) {
+    let mut kinds = *k;
+    let mut words = *w;
+    derive_in(name, &mut kinds, &mut words, count, root, var);
 }
 
 pub fn evaluate(name: &[u8], k: &[u8; LIMIT], w: &[u64; LIMIT], n: u64, root: u64, values: &[f64]) {

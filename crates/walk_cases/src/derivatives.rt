@@ -14,6 +14,9 @@ use crate::entries::load;
 use crate::entries::set_run;
 use pool::LIMIT;
 
+// How many entries the pool has.
+const COUNT: u64 = 15;
+
 // x0 = 0, x1 = 1, x0 * x1 = 2, x0^3 = 3, x0 / x1 = 4, max(x0, x1) = 5, exp x0 = 6, log x0 = 7, x0^4294967295 = 8, 2^53 - 1 = 9,
 // (2^53 - 1) * x0 = 10, its square = 11, x0 + max = 12, max + x0 = 13, (x0 * x1) + (x0 * x1) = 14.
 fn set_pool(k: &mut [u8; LIMIT], w: &mut [u64; LIMIT]) {
@@ -54,54 +57,55 @@ fn set_pool(k: &mut [u8; LIMIT], w: &mut [u64; LIMIT]) {
     load(k, w, &kinds, &words);
 }
 
-fn of_products(k: &mut [u8; LIMIT], w: &mut [u64; LIMIT], n: &mut u64) {
-    derive(b"derive x0^3", k, w, n, 3, 0);
-    derive(b"derive x0 / x1 by x0", k, w, n, 4, 0);
-    derive(b"derive x0 / x1 by x1", k, w, n, 4, 1);
-    derive(b"derive x0 * x1 by x0", k, w, n, 2, 0);
-    derive(b"derive a product added to itself", k, w, n, 14, 0);
+fn of_products(k: &[u8; LIMIT], w: &[u64; LIMIT]) {
+    derive(b"derive x0^3", k, w, COUNT, 3, 0);
+    derive(b"derive x0 / x1 by x0", k, w, COUNT, 4, 0);
+    derive(b"derive x0 / x1 by x1", k, w, COUNT, 4, 1);
+    derive(b"derive x0 * x1 by x0", k, w, COUNT, 2, 0);
+    derive(b"derive a product added to itself", k, w, COUNT, 14, 0);
 }
 
-fn of_others(k: &mut [u8; LIMIT], w: &mut [u64; LIMIT], n: &mut u64) {
-    derive(b"derive exp x0", k, w, n, 6, 0);
-    derive(b"derive log x0", k, w, n, 7, 0);
-    derive(b"derive x0^4294967295", k, w, n, 8, 0);
-    derive(b"derive x0 by x65535", k, w, n, 0, 65_535);
+fn of_others(k: &[u8; LIMIT], w: &[u64; LIMIT]) {
+    derive(b"derive exp x0", k, w, COUNT, 6, 0);
+    derive(b"derive log x0", k, w, COUNT, 7, 0);
+    derive(b"derive x0^4294967295", k, w, COUNT, 8, 0);
+    derive(b"derive x0 by x65535", k, w, COUNT, 0, 65_535);
 }
 
-fn refused(k: &mut [u8; LIMIT], w: &mut [u64; LIMIT], n: &mut u64) {
-    derive(b"derive ((2^53 - 1) * x0)^2", k, w, n, 11, 0);
-    derive(b"derive max", k, w, n, 5, 0);
-    derive(b"derive x0 + max", k, w, n, 12, 0);
-    derive(b"derive x0 by x65536", k, w, n, 0, 65_536);
-    let count = *n;
-    derive(b"derive no node by x65536", k, w, n, count, 65_536);
+fn refused(k: &[u8; LIMIT], w: &[u64; LIMIT]) {
+    derive(b"derive ((2^53 - 1) * x0)^2", k, w, COUNT, 11, 0);
+    derive(b"derive max", k, w, COUNT, 5, 0);
+    derive(b"derive x0 + max", k, w, COUNT, 12, 0);
+    derive(b"derive x0 by x65536", k, w, COUNT, 0, 65_536);
+    derive(b"derive no node by x65536", k, w, COUNT, COUNT, 65_536);
 }
 
-fn examples(k: &mut [u8; LIMIT], w: &mut [u64; LIMIT]) {
-    let mut n = 15;
-    set_pool(k, w);
-    of_products(k, w, &mut n);
-    of_others(k, w, &mut n);
-    refused(k, w, &mut n);
+fn examples() {
+    let mut k = [0u8; LIMIT];
+    let mut w = [0u64; LIMIT];
+    set_pool(&mut k, &mut w);
+    of_products(&k, &w);
+    of_others(&k, &w);
+    refused(&k, &w);
 }
 
-fn refused_when_full(k: &mut [u8; LIMIT], w: &mut [u64; LIMIT], n: &mut u64) {
-    derive(b"full pool, derive x0 + max", k, w, n, 12, 0);
-    derive(b"full pool, derive max + x0", k, w, n, 13, 0);
-    substitute(b"full pool, x0 := x1 in x0 * x1", k, w, n, 2, 0, 1);
-    substitute(b"full pool, x0 := x1 in x0", k, w, n, 0, 0, 1);
+fn refused_when_full(k: &[u8; LIMIT], w: &[u64; LIMIT]) {
+    derive(b"full pool, derive x0 + max", k, w, 4096, 12, 0);
+    derive(b"full pool, derive max + x0", k, w, 4096, 13, 0);
+    substitute(b"full pool, x0 := x1 in x0 * x1", k, w, 4096, 2, 0, 1);
+    substitute(b"full pool, x0 := x1 in x0", k, w, 4096, 0, 0, 1);
 }
 
 // The same entries in a full pool.
-fn full(k: &mut [u8; LIMIT], w: &mut [u64; LIMIT]) {
-    let mut n = LIMIT as u64;
-    set_pool(k, w);
-    set_run(k, w, 15, LIMIT, VARIABLE, 0, 0);
-    refused_when_full(k, w, &mut n);
+fn full() {
+    let mut k = [0u8; LIMIT];
+    let mut w = [0u64; LIMIT];
+    set_pool(&mut k, &mut w);
+    set_run(&mut k, &mut w, 15, LIMIT, VARIABLE, 0, 0);
+    refused_when_full(&k, &w);
 }
 
-pub fn all(k: &mut [u8; LIMIT], w: &mut [u64; LIMIT]) {
-    examples(k, w);
-    full(k, w);
+pub fn all() {
+    examples();
+    full();
 }

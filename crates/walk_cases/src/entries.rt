@@ -46,11 +46,6 @@ pub fn set_run(
     }
 }
 
-// An empty pool.
-pub fn clear(kinds: &mut [u8; LIMIT], words: &mut [u64; LIMIT]) {
-    set_run(kinds, words, 0, LIMIT, 0, 0, 0);
-}
-
 fn kind_at(kinds: &[u8], i: usize) -> u8 {
     if i < kinds.len() { kinds[i] } else { 0 }
 }

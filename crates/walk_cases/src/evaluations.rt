@@ -189,14 +189,16 @@ fn long_residues(k: &[u8; LIMIT], w: &[u64; LIMIT]) {
     with_first_residues(b"1/2 with 65537 residues", k, w, 13, &table, 65_537);
 }
 
-pub fn all(k: &mut [u8; LIMIT], w: &mut [u64; LIMIT]) {
-    set_pool(k, w);
-    values(k, w);
-    quotients(k, w);
-    residues(k, w);
-    no_inverses(k, w);
-    no_residues(k, w);
-    tables(k, w);
-    long_values(k, w);
-    long_residues(k, w);
+pub fn all() {
+    let mut k = [0u8; LIMIT];
+    let mut w = [0u64; LIMIT];
+    set_pool(&mut k, &mut w);
+    values(&k, &w);
+    quotients(&k, &w);
+    residues(&k, &w);
+    no_inverses(&k, &w);
+    no_residues(&k, &w);
+    tables(&k, &w);
+    long_values(&k, &w);
+    long_residues(&k, &w);
 }

@@ -10,15 +10,11 @@ mod specials;
 mod substitutions;
 mod texts;
 
-use pool::LIMIT;
-
 fn main() {
-    let mut k = [0u8; LIMIT];
-    let mut w = [0u64; LIMIT];
-    substitutions::all(&mut k, &mut w);
-    derivatives::all(&mut k, &mut w);
-    evaluations::all(&mut k, &mut w);
-    specials::all(&mut k, &mut w);
-    texts::all(&mut k, &mut w);
-    deep::all(&mut k, &mut w);
+    substitutions::all();
+    derivatives::all();
+    evaluations::all();
+    specials::all();
+    texts::all();
+    deep::all();
 }

@@ -84,13 +84,15 @@ fn choices(k: &[u8; LIMIT], w: &[u64; LIMIT], table: &[f64]) {
     evaluate(b"NaN^2", k, w, COUNT, 18, table);
 }
 
-pub fn all(k: &mut [u8; LIMIT], w: &mut [u64; LIMIT]) {
-    set_pool(k, w);
+pub fn all() {
+    let mut k = [0u8; LIMIT];
+    let mut w = [0u64; LIMIT];
+    set_pool(&mut k, &mut w);
     let nan = double::quotient(0.0, 0.0);
     let infinity = double::quotient(1.0, 0.0);
     let minus_infinity = double::quotient(-1.0, 0.0);
     let minus_zero = double::quotient(0.0, -1.0);
     let table = [nan, infinity, minus_infinity, minus_zero, 0.0, 2.0];
-    sums(k, w, &table);
-    choices(k, w, &table);
+    sums(&k, &w, &table);
+    choices(&k, &w, &table);
 }

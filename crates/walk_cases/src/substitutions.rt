@@ -8,11 +8,13 @@ use crate::entries::MAX;
 use crate::entries::MUL;
 use crate::entries::POW;
 use crate::entries::VARIABLE;
-use crate::entries::clear;
 use crate::entries::load;
 use crate::entries::set;
 use crate::entries::set_run;
 use pool::LIMIT;
+
+// How many entries the pool has.
+const COUNT: u64 = 15;
 
 // x0 = 0, x1 = 1, 2 = 2, x0 * x1 = 3, (x0 * x1) + (x0 * x1) = 4, max(x0, x1) = 5, exp x0 = 6, x0 + x0 = 7, 2^53 - 1 = 8, 0 = 9,
 // x2 = 10, x1 * x2 = 11, x0^4294967295 = 12, (x1 * x2) * x0^4294967295 = 13, log x0 = 14.
@@ -54,41 +56,65 @@ fn set_pool(k: &mut [u8; LIMIT], w: &mut [u64; LIMIT]) {
     load(k, w, &kinds, &words);
 }
 
-fn in_products(k: &mut [u8; LIMIT], w: &mut [u64; LIMIT], n: &mut u64) {
-    substitute(b"x0 := 2 in x0 * x1", k, w, n, 3, 0, 2);
-    substitute(b"x1 := 2 in x0 * x1", k, w, n, 3, 1, 2);
-    substitute(b"x0 := x0 in x0 * x1", k, w, n, 3, 0, 0);
-    substitute(b"x0 := 2 in x0", k, w, n, 0, 0, 2);
+fn in_products(k: &[u8; LIMIT], w: &[u64; LIMIT]) {
+    substitute(b"x0 := 2 in x0 * x1", k, w, COUNT, 3, 0, 2);
+    substitute(b"x1 := 2 in x0 * x1", k, w, COUNT, 3, 1, 2);
+    substitute(b"x0 := x0 in x0 * x1", k, w, COUNT, 3, 0, 0);
+    substitute(b"x0 := 2 in x0", k, w, COUNT, 0, 0, 2);
 }
 
-fn in_others(k: &mut [u8; LIMIT], w: &mut [u64; LIMIT], n: &mut u64) {
-    substitute(b"x0 := 2 in a product added to itself", k, w, n, 4, 0, 2);
-    substitute(b"x0 := 2 in max, which is not printed", k, w, n, 5, 0, 2);
-    substitute(b"x0 := 0 in exp x0", k, w, n, 6, 0, 9);
-    substitute(b"x65535 := 2 in x0 * x1", k, w, n, 3, 65_535, 2);
+fn in_others(k: &[u8; LIMIT], w: &[u64; LIMIT]) {
+    substitute(
+        b"x0 := 2 in a product added to itself",
+        k,
+        w,
+        COUNT,
+        4,
+        0,
+        2,
+    );
+    substitute(
+        b"x0 := 2 in max, which is not printed",
+        k,
+        w,
+        COUNT,
+        5,
+        0,
+        2,
+    );
+    substitute(b"x0 := 0 in exp x0", k, w, COUNT, 6, 0, 9);
+    substitute(b"x65535 := 2 in x0 * x1", k, w, COUNT, 3, 65_535, 2);
 }
 
-fn refused_by_work(k: &mut [u8; LIMIT], w: &mut [u64; LIMIT], n: &mut u64) {
-    substitute(b"x0 := 2 in exp x0", k, w, n, 6, 0, 2);
-    substitute(b"x0 := 2 in log x0", k, w, n, 14, 0, 2);
-    substitute(b"x0 := 2^53 - 1 in x0 + x0", k, w, n, 7, 0, 8);
-    substitute(b"x2 := x0 in (x1 * x2) * x0^4294967295", k, w, n, 13, 2, 0);
+fn refused_by_work(k: &[u8; LIMIT], w: &[u64; LIMIT]) {
+    substitute(b"x0 := 2 in exp x0", k, w, COUNT, 6, 0, 2);
+    substitute(b"x0 := 2 in log x0", k, w, COUNT, 14, 0, 2);
+    substitute(b"x0 := 2^53 - 1 in x0 + x0", k, w, COUNT, 7, 0, 8);
+    substitute(
+        b"x2 := x0 in (x1 * x2) * x0^4294967295",
+        k,
+        w,
+        COUNT,
+        13,
+        2,
+        0,
+    );
 }
 
-fn refused_at_first(k: &mut [u8; LIMIT], w: &mut [u64; LIMIT], n: &mut u64) {
-    substitute(b"x65536 := 2", k, w, n, 3, 65_536, 2);
-    let count = *n;
-    substitute(b"x65536 := no node", k, w, n, 3, 65_536, count);
-    substitute(b"x0 := 2 in no node", k, w, n, count, 0, 2);
+fn refused_at_first(k: &[u8; LIMIT], w: &[u64; LIMIT]) {
+    substitute(b"x65536 := 2", k, w, COUNT, 3, 65_536, 2);
+    substitute(b"x65536 := no node", k, w, COUNT, 3, 65_536, COUNT);
+    substitute(b"x0 := 2 in no node", k, w, COUNT, COUNT, 0, 2);
 }
 
-fn examples(k: &mut [u8; LIMIT], w: &mut [u64; LIMIT]) {
-    let mut n = 15;
-    set_pool(k, w);
-    in_products(k, w, &mut n);
-    in_others(k, w, &mut n);
-    refused_by_work(k, w, &mut n);
-    refused_at_first(k, w, &mut n);
+fn examples() {
+    let mut k = [0u8; LIMIT];
+    let mut w = [0u64; LIMIT];
+    set_pool(&mut k, &mut w);
+    in_products(&k, &w);
+    in_others(&k, &w);
+    refused_by_work(&k, &w);
+    refused_at_first(&k, &w);
 }
 
 // x0 = 0, x2 = 1, 2 = 2, x1 = 3, then products up to entry `top`, each 2 times the one before, the first 2 times x1, and at last `top` times x2.
@@ -103,16 +129,16 @@ fn set_nested(k: &mut [u8; LIMIT], w: &mut [u64; LIMIT], top: u32) {
 }
 
 // x2 := x0 there: the product of the nested products with x0.
-fn nested(name: &[u8], k: &mut [u8; LIMIT], w: &mut [u64; LIMIT], top: u32) {
-    clear(k, w);
-    set_nested(k, w, top);
+fn nested(name: &[u8], top: u32) {
+    let mut k = [0u8; LIMIT];
+    let mut w = [0u64; LIMIT];
+    set_nested(&mut k, &mut w, top);
     let root = (top as u64) + 1;
-    let mut n = root + 1;
-    substitute(name, k, w, &mut n, root, 2, 0);
+    substitute(name, &k, &w, root + 1, root, 2, 0);
 }
 
-pub fn all(k: &mut [u8; LIMIT], w: &mut [u64; LIMIT]) {
-    examples(k, w);
-    nested(b"x2 := x0 in 199 nested products times x2", k, w, 202);
-    nested(b"x2 := x0 in 200 nested products times x2", k, w, 203);
+pub fn all() {
+    examples();
+    nested(b"x2 := x0 in 199 nested products times x2", 202);
+    nested(b"x2 := x0 in 200 nested products times x2", 203);
 }

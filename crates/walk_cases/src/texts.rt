@@ -10,7 +10,6 @@ use crate::entries::MAX;
 use crate::entries::MUL;
 use crate::entries::POW;
 use crate::entries::VARIABLE;
-use crate::entries::clear;
 use crate::entries::load;
 use crate::entries::set;
 use crate::entries::set_run;
@@ -147,28 +146,25 @@ fn set_long(k: &mut [u8; LIMIT], w: &mut [u64; LIMIT], literal: u64) {
     set_run(k, w, 16, 31, MUL, 0xf_0000_0000, 0x1_0000_0001);
 }
 
-fn print_long(
-    name: &[u8],
-    k: &mut [u8; LIMIT],
-    w: &mut [u64; LIMIT],
-    literal: u64,
-    out: &mut [u8],
-) {
-    clear(k, w);
-    set_long(k, w, literal);
-    print(name, k, w, 31, 30, out);
+fn print_long(name: &[u8], literal: u64, out: &mut [u8]) {
+    let mut k = [0u8; LIMIT];
+    let mut w = [0u64; LIMIT];
+    set_long(&mut k, &mut w, literal);
+    print(name, &k, &w, 31, 30, out);
 }
 
-fn long_texts(k: &mut [u8; LIMIT], w: &mut [u64; LIMIT]) {
+fn long_texts() {
     let mut out = [b'.'; 65_536];
-    print_long(b"a text of 65536 bytes", k, w, 10, &mut out);
-    print_long(b"a text of 65535 bytes", k, w, 9, &mut out);
+    print_long(b"a text of 65536 bytes", 10, &mut out);
+    print_long(b"a text of 65535 bytes", 9, &mut out);
 }
 
-pub fn all(k: &mut [u8; LIMIT], w: &mut [u64; LIMIT]) {
-    set_pool(k, w);
-    brackets(k, w);
-    leaves(k, w);
-    rooms(k, w);
-    long_texts(k, w);
+pub fn all() {
+    let mut k = [0u8; LIMIT];
+    let mut w = [0u64; LIMIT];
+    set_pool(&mut k, &mut w);
+    brackets(&k, &w);
+    leaves(&k, &w);
+    rooms(&k, &w);
+    long_texts();
 }
