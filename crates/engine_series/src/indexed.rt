@@ -89,13 +89,7 @@ fn on_index(
 }
 
 // Coefficient `index`.
-pub fn coeff(
-    kinds: &mut [u8],
-    words: &mut [u64],
-    count: &mut u64,
-    e: Series,
-    index: u64,
-) -> Answer
+pub fn coeff(kinds: &mut [u8], words: &mut [u64], count: &mut u64, e: Series, index: u64) -> Answer
     ensures { λ r. ⌜ left r (now (kinds .exit)) (now (words .exit)) (now (count .exit)) ≡ onPool (asRun (givenIndex e index (coeff (given e) index))) (now (kinds .entry)) (now (words .entry)) (now (count .entry)) ⌝ }
 {
     on_index(kinds, words, count, Indexed::Coeff, e, index)

@@ -39,13 +39,7 @@ fn unary_in(
 }
 
 // 1, 2 and 5, then the work.
-fn on_one(
-    kinds: &mut [u8],
-    words: &mut [u64],
-    count: &mut u64,
-    op: Unary,
-    s: Series,
-) -> Outcome
+fn on_one(kinds: &mut [u8], words: &mut [u64], count: &mut u64, op: Unary, s: Series) -> Outcome
     ensures { λ r. ⌜ left r (now (kinds .exit)) (now (words .exit)) (now (count .exit)) ≡ onPool (onOne op s) (now (kinds .entry)) (now (words .entry)) (now (count .entry)) ⌝ }
 {
     let mut k = [0u8; LIMIT];
