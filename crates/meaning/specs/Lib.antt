@@ -1,0 +1,4 @@
+pub mod Model
+pub mod Value
+pub mod Integers
+pub mod Examples
