@@ -1,9 +1,7 @@
 -- The value of a node in an algebra, for given values of the variables, and what it is for an answer to mean a value.
 -- Assumes nothing.
 use mathlib.Core.Path.{_≡_}
-use mathlib.Core.Bool.{Bool, true, false, cond}
 use Prim.Native.Nat.{ℕ, zero, suc, _<_}
-use lib.Dec.{eqb}
 use lib.IntN.{pos}
 use Rattle.pool.specs.declared.node.Node.{Node}
 use Rattle.pool.specs.declared.node.Node.the-variants.{Empty, Variable, Lit, Add, Mul, Div, Exp, Log, Pow, Max}
@@ -14,10 +12,6 @@ module _ (A : Algebra) where
   -- the values of the variables
   abbrev pub Values : Type 0
   Values = ℕ → A .carrier
-
-  -- one variable has the value x, all others keep theirs
-  abbrev pub setting : Values → ℕ → A .carrier → Values
-  setting env v x u = cond (eqb u v) x (env u)
 
   module _ (env : Values) where
     -- the value of a node from the values of its parts; what is no node counts as 0
