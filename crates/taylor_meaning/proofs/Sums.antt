@@ -1,0 +1,69 @@
+-- Sums and recurrences: equal terms have equal sums, and a recurrence that looks only below k solves its equation.
+-- Assumes nothing.
+use mathlib.Core.Path.{_≡_, refl, sym, ap, _∙_}
+use Prim.Native.Nat.{ℕ, zero, suc, _-_, _<_}
+use native.Mathlib.Omega.{arith}
+use lib.IntN.{pos, negsuc}
+use Rattle.meaning.specs.Model.{Algebra, Model, Distributive}
+use Rattle.meaning.proofs.Values.{same-op}
+use Rattle.meaning.proofs.Laws.{sums, products, sum-comm, sum-assoc, sum-swap, sum-zero, zero-sum, product-comm, product-zero, zero-product}
+use Rattle.taylor_meaning.specs.Series.{sum, minus, Series, below, recurrence, overStep, expStep, logStep}
+
+module _ (A : Algebra) where
+  open Algebra A using (carrier, int, plus as _⊕_, times as _⊗_, over as _⊘_)
+  infixl 20 _⊕_
+  infixl 30 _⊗_ _⊘_
+
+  pub sum-more : (f : ℕ → carrier) (n : ℕ) → sum A f (suc n) ≡ sum A f n ⊕ f n
+  unfolding sum
+  sum-more f n = refl
+
+  pub sum-none : (f : ℕ → carrier) → sum A f 0 ≡ int (pos 0)
+  unfolding sum
+  sum-none f = refl
+
+  pub sum-same : (f g : ℕ → carrier) (n : ℕ) → ((j : ℕ) → j < n → f j ≡ g j) → sum A f n ≡ sum A g n
+  unfolding sum
+  sum-same f g zero h = refl
+  sum-same f g (suc n) h = same-op _⊕_ (sum-same f g n (λ j l. h j (omega arith))) (h n (omega arith))
+
+  -- coefficient k is had from those below k
+  abbrev pub LooksBelow : (Series A → Series A) → Type 0
+  LooksBelow step = (f g : Series A) (k : ℕ) → ((j : ℕ) → j < k → f j ≡ g j) → step f k ≡ step g k
+
+  bounds-same : (step : Series A → Series A) → LooksBelow step → (n m k : ℕ) → k < n → k < m → below A step n k ≡ below A step m k
+  unfolding below
+  bounds-same step looks zero m k h l = absurd (none k h)
+    where
+      none : (k : ℕ) → k < 0 → ⊥
+      none k h = omega arith
+  bounds-same step looks (suc n) zero k h l = absurd (none k l)
+    where
+      none : (k : ℕ) → k < 0 → ⊥
+      none k h = omega arith
+  bounds-same step looks (suc n) (suc m) k h l = looks (below A step n) (below A step m) k (λ j s. bounds-same step looks n m j (omega arith) (omega arith))
+
+  pub recurrence-solves : (step : Series A → Series A) → LooksBelow step → (k : ℕ) → recurrence A step k ≡ step (recurrence A step) k
+  unfolding recurrence below
+  recurrence-solves step looks k = looks (below A step k) (recurrence A step) k (λ j s. bounds-same step looks k (suc j) j s (omega arith))
+
+  pub over-looks-below : (u w : Series A) → LooksBelow (overStep A u w)
+  unfolding overStep
+  over-looks-below u w f g k h =
+      ap (λ x. (int (pos 1) ⊘ w 0) ⊗ minus A (u k) x) (sum-same (λ j. f j ⊗ w (k - j)) (λ j. g j ⊗ w (k - j)) k (λ j l. ap (λ x. x ⊗ w (k - j)) (h j l)))
+
+  pub exp-looks-below : (u : Series A) → LooksBelow (expStep A u)
+  unfolding expStep
+  exp-looks-below u f g zero h = refl
+  exp-looks-below u f g (suc k) h =
+      ap (λ x. x ⊘ int (pos (suc k)))
+      (sum-same (λ i. f (k - i) ⊗ (int (pos (suc i)) ⊗ u (suc i))) (λ i. g (k - i) ⊗ (int (pos (suc i)) ⊗ u (suc i))) (suc k)
+      (λ i l. ap (λ x. x ⊗ (int (pos (suc i)) ⊗ u (suc i))) (h (k - i) (omega arith))))
+
+  pub log-looks-below : (u : Series A) → LooksBelow (logStep A u)
+  unfolding logStep
+  log-looks-below u f g zero h = refl
+  log-looks-below u f g (suc k) h =
+      ap (λ x. minus A (int (pos (suc k)) ⊗ u (suc k)) x ⊘ u 0 ⊘ int (pos (suc k)))
+      (sum-same (λ i. u (k - i) ⊗ (int (pos (suc i)) ⊗ f (suc i))) (λ i. u (k - i) ⊗ (int (pos (suc i)) ⊗ g (suc i))) k
+      (λ i l. ap (λ x. u (k - i) ⊗ (int (pos (suc i)) ⊗ x)) (h (suc i) (omega arith))))
