@@ -73,7 +73,7 @@ module _ {A : Algebra} (M : Model A) (env : Values A) where
   pub is-same : {P : Pool} {x y : carrier} {r : Result ℕ} → x ≡ y → Gives P (Is x) r → Gives P (Is y) r
   is-same e h = gives-weaker (λ Q i g s. has-same e s) h
 
-  answered-gives : {P : Pool} {x : carrier} {o : Out} → After M env P (λ y. y ≡ x) o → Gives P (Is x) (answered o)
+  pub answered-gives : {P : Pool} {x : carrier} {o : Out} → After M env P (λ y. y ≡ x) o → Gives P (Is x) (answered o)
   answered-gives (came k e) = gave (k .keeps) (k .grown) (record { below = k .there; is = e })
   answered-gives ended = ended-work
 
