@@ -34,7 +34,7 @@ each-from [] b f = tt
 each-from (a ∷ more) b f = (f a (b .0), each-from more (b .1) f)
 
 -- each number in a list is had in it
-each-had : {H : ℕ → Type 0} (l : List ℕ) → ((a : ℕ) → has l a ≡ true → H a) → Each H l
+pub each-had : {H : ℕ → Type 0} (l : List ℕ) → ((a : ℕ) → has l a ≡ true → H a) → Each H l
 each-had [] f = tt
 each-had (a ∷ more) f = (f a (here a more), each-had more (λ b h. f b (further a more b h)))
 

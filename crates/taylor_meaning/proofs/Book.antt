@@ -9,7 +9,7 @@ use Rattle.meaning.proofs.Values.{same-op}
 use Rattle.meaning.proofs.Laws.{sum-comm, sum-assoc, sum-zero, product-comm, product-assoc, one-product}
 use Rattle.meaning.proofs.Limits.{negative}
 use Rattle.taylor_meaning.specs.Series.{minus, sum, Series, timesSeries, recurrence, overStep, expStep, logStep}
-use Rattle.taylor_meaning.specs.Book.{ProductBook, QuotientBook, ExpBook, LogBook, Divides, DividesCounts}
+use Rattle.taylor_meaning.specs.Book.{ProductBook, QuotientBook, ExpBook, LogBook, Divides}
 use Rattle.taylor_meaning.proofs.Sums.{sum-more, recurrence-solves, over-looks-below, exp-looks-below, log-looks-below}
 
 module _ (A : Algebra) where
@@ -25,22 +25,22 @@ module _ (A : Algebra) where
   unfolding overStep
   quotient-book u w = record { each = recurrence-solves A (overStep A u w) (over-looks-below A u w) }
 
-  pub exp-book : DividesCounts A → (u : Series A) → ExpBook A u (recurrence A (expStep A u))
+  pub exp-book : (u : Series A) → ExpBook A u (recurrence A (expStep A u))
   unfolding expStep
-  exp-book exact u =
+  exp-book u =
       record {
         first = recurrence-solves A (expStep A u) (exp-looks-below A u) 0;
-        each = λ k. ap (λ x. int (pos (suc k)) ⊗ x) (recurrence-solves A (expStep A u) (exp-looks-below A u) (suc k)) ∙ exact k _;
+        each = λ k exact. ap (λ x. int (pos (suc k)) ⊗ x) (recurrence-solves A (expStep A u) (exp-looks-below A u) (suc k)) ∙ exact _;
       }
 
-  pub log-book : DividesCounts A → (u : Series A) → Divides A (u 0) → LogBook A u (recurrence A (logStep A u))
+  pub log-book : (u : Series A) → LogBook A u (recurrence A (logStep A u))
   unfolding logStep
-  log-book exact u exact₀ =
+  log-book u =
       record {
         first = recurrence-solves A (logStep A u) (log-looks-below A u) 0;
-        each = λ k.
+        each = λ k exact₀ exact.
             ap (λ x. u 0 ⊗ (int (pos (suc k)) ⊗ x)) (recurrence-solves A (logStep A u) (log-looks-below A u) (suc k))
-            ∙ ap (λ x. u 0 ⊗ x) (exact k _)
+            ∙ ap (λ x. u 0 ⊗ x) (exact _)
             ∙ exact₀ _;
       }
 

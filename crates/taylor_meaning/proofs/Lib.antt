@@ -10,3 +10,4 @@ pub mod Walking
 pub mod Expanding
 pub mod Book
 pub mod Theorems
+pub mod PolynomialExpressions

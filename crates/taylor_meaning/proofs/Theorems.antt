@@ -50,7 +50,7 @@ short-word kind w h =
     (short-pick (eqb kind 8) _ _ (short-pick (leb leastExponent (highOf w)) (Pow (lowOf w) (highOf w)) Empty (omega arith) tt)
     (short-pick (eqb kind 9) (Max (lowOf w) (highOf w)) Empty tt tt))))))))
 
-node-short : (P : Pool) → ((i : ℕ) → getD (P .words) i 0 < 2 ^ 64) → (i : ℕ) → Short (nodeAt P i)
+pub node-short : (P : Pool) → ((i : ℕ) → getD (P .words) i 0 < 2 ^ 64) → (i : ℕ) → Short (nodeAt P i)
 unfolding nodeIn
 node-short P words i = short-pick (ltb i limit) (decode (getD (P .kinds) i 0) (getD (P .words) i 0)) Empty (short-word (getD (P .kinds) i 0) (getD (P .words) i 0) (words i)) tt
 
@@ -76,7 +76,7 @@ module _ {A : Algebra} (M : Model A) (env : Values A) where
 
   module _ {P : Pool} (keeps : Keeps P) where
     -- what is known after accepted work that gives a series
-    series-meant : {n : ℕ} {f : Series A} {r : Result Expansion} {e : Expansion} {Q : Pool} → Gives P (Expands M env n f) r → r ≡ gives e Q → MeansSeries A env P n f e Q
+    pub series-meant : {n : ℕ} {f : Series A} {r : Result Expansion} {e : Expansion} {Q : Pool} → Gives P (Expands M env n f) r → r ≡ gives e Q → MeansSeries A env P n f e Q
     series-meant {n} {f} {r} {e} {Q} h eq = go (subst (Gives P (Expands M env n f)) eq h)
       where
         go : Gives P (Expands M env n f) (gives e Q) → MeansSeries A env P n f e Q

@@ -22,20 +22,16 @@ module _ (A : Algebra) where
   pub record QuotientBook (u w v : Series A) : Type 0 where
     pub each : (k : ℕ) → v k ≡ (int (pos 1) ⊘ w 0) ⊗ minus A (u k) (sum A (λ j. v j ⊗ w (k - j)) k)
 
-  -- v = exp u: ṽ_k = Σ_(j=1..k) v_(k-j) × ũ_j
-  pub record ExpBook (u v : Series A) : Type 0 where
-    pub first : v 0 ≡ exp (u 0)
-    pub each : (k : ℕ) → tilde v (suc k) ≡ sum A (λ i. v (k - i) ⊗ tilde u (suc i)) (suc k)
-
-  -- v = ln u: u_0 × ṽ_k = ũ_k - Σ_(j=1..k-1) u_(k-j) × ṽ_j
-  pub record LogBook (u v : Series A) : Type 0 where
-    pub first : v 0 ≡ log (u 0)
-    pub each : (k : ℕ) → u 0 ⊗ tilde v (suc k) ≡ minus A (tilde u (suc k)) (sum A (λ i. u (k - i) ⊗ tilde v (suc i)) k)
-
   -- division by y is exact: y × (x / y) = x
   abbrev pub Divides : carrier → Type 0
   Divides y = (x : carrier) → y ⊗ (x ⊘ y) ≡ x
 
-  -- division by the whole numbers 1, 2, .. is exact
-  abbrev pub DividesCounts : Type 0
-  DividesCounts = (k : ℕ) → Divides (int (pos (suc k)))
+  -- v = exp u: ṽ_k = Σ_(j=1..k) v_(k-j) × ũ_j, where division by k is exact
+  pub record ExpBook (u v : Series A) : Type 0 where
+    pub first : v 0 ≡ exp (u 0)
+    pub each : (k : ℕ) → Divides (int (pos (suc k))) → tilde v (suc k) ≡ sum A (λ i. v (k - i) ⊗ tilde u (suc i)) (suc k)
+
+  -- v = ln u: u_0 × ṽ_k = ũ_k - Σ_(j=1..k-1) u_(k-j) × ṽ_j, where division by u_0 and by k is exact
+  pub record LogBook (u v : Series A) : Type 0 where
+    pub first : v 0 ≡ log (u 0)
+    pub each : (k : ℕ) → Divides (u 0) → Divides (int (pos (suc k))) → u 0 ⊗ tilde v (suc k) ≡ minus A (tilde u (suc k)) (sum A (λ i. u (k - i) ⊗ tilde v (suc i)) k)
