@@ -14,9 +14,9 @@ use Rattle.taylor_meaning.proofs.Sums.{sum-more, recurrence-solves, ove
 
 module _ (A : Algebra) where
   open Algebra A using (carrier, int, plus as _⊕_, times as _⊗_, over as _⊘_)
+
   infixl 20 _⊕_
   infixl 30 _⊗_ _⊘_
-
   pub product-book : (u w : Series A) → ProductBook A u w (timesSeries A u w)
   unfolding timesSeries
   product-book u w = record { each = λ k. refl }

@@ -21,9 +21,9 @@ use Rattle.taylor_meaning.proofs.Operations.{Expands, constant, list, c
 
 module _ {A : Algebra} (M : Model A) (env : Values A) where
   open Algebra A using (carrier, int, plus as _⊕_, times as _⊗_, over as _⊘_)
+
   infixl 20 _⊕_
   infixl 30 _⊗_ _⊘_
-
   -- the value of a fold over j = 1, 2, .. before step j
   abbrev partial : (ℕ → carrier) → ℕ → carrier
   partial f zero = int (pos 0)

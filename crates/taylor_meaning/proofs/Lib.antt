@@ -11,3 +11,4 @@ pub mod Expanding
 pub mod Book
 pub mod Theorems
 pub mod PolynomialExpressions
+pub mod Functions

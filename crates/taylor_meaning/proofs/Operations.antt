@@ -23,9 +23,9 @@ use Rattle.taylor_meaning.proofs.Working.{Gives, gives-weaker, gives-he
 
 module _ {A : Algebra} (M : Model A) (env : Values A) where
   open Algebra A using (carrier, int, plus as _⊕_, times as _⊗_, over as _⊘_, exp, log)
+
   infixl 20 _⊕_
   infixl 30 _⊗_ _⊘_
-
   -- an expansion has the coefficients of a series: a constant all of them, a list its n first ones or more
   pub data Expands (n : ℕ) (f : Series A) (P : Pool) : Expansion → Type 0 where
     constant : {c : ℕ} → Has M env P c (f 0) → ((k : ℕ) → f (suc k) ≡ int (pos 0)) → Expands n f P (Constant c)

@@ -13,9 +13,9 @@ use Rattle.taylor_meaning.proofs.SeriesRing.{constant-times, times-cons
 
 module _ {A : Algebra} (M : Model A) (D : Distributive A) where
   open Algebra A using (carrier, int, plus as _⊕_, times as _⊗_)
+
   infixl 20 _⊕_
   infixl 30 _⊗_
-
   none-above : (z : ℤ) (k : ℕ) → constantSeries A (int z) (suc k) ≡ int (pos 0)
   none-above z k = refl
 

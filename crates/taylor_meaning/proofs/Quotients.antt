@@ -23,9 +23,9 @@ use Rattle.taylor_meaning.proofs.Operations.{Expands, constant, list, e
 
 module _ {A : Algebra} (M : Model A) (D : Distributive A) (env : Values A) (u w : Series A) where
   open Algebra A using (carrier, int, plus as _⊕_, times as _⊗_, over as _⊘_)
+
   infixl 20 _⊕_
   infixl 30 _⊗_ _⊘_
-
   abbrev overV : Series A
   overV = recurrence A (overStep A u w)
 

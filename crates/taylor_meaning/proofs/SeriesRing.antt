@@ -12,9 +12,9 @@ use Rattle.taylor_meaning.proofs.Sums.{sum-more, sum-none, sum-same}
 
 module _ {A : Algebra} (M : Model A) where
   open Algebra A using (carrier, int, plus as _⊕_, times as _⊗_)
+
   infixl 20 _⊕_
   infixl 30 _⊗_
-
   -- ---- sums
 
   pub sum-zeros : (f : ℕ → carrier) (n : ℕ) → ((j : ℕ) → j < n → f j ≡ int (pos 0)) → sum A f n ≡ int (pos 0)
@@ -83,7 +83,7 @@ module _ {A : Algebra} (M : Model A) where
       ∙ sum-comm M (timesSeries A (rest w) u k) (w 0 ⊗ u (suc k))
       ∙ sym (times-front w u k)
 
-  zero-times : (u w : Series A) → ((k : ℕ) → u k ≡ int (pos 0)) → (k : ℕ) → timesSeries A u w k ≡ int (pos 0)
+  pub zero-times : (u w : Series A) → ((k : ℕ) → u k ≡ int (pos 0)) → (k : ℕ) → timesSeries A u w k ≡ int (pos 0)
   unfolding timesSeries
   zero-times u w c k = sum-zeros (λ j. u j ⊗ w (k - j)) (suc k) (λ j l. ap (λ x. x ⊗ w (k - j)) (c j) ∙ zero-product M (w (k - j)))
 

@@ -11,9 +11,9 @@ use Rattle.taylor_meaning.specs.Series.{sum, minus, Series, below, recur
 
 module _ (A : Algebra) where
   open Algebra A using (carrier, int, plus as _⊕_, times as _⊗_, over as _⊘_)
+
   infixl 20 _⊕_
   infixl 30 _⊗_ _⊘_
-
   pub sum-more : (f : ℕ → carrier) (n : ℕ) → sum A f (suc n) ≡ sum A f n ⊕ f n
   unfolding sum
   sum-more f n = refl

@@ -49,9 +49,9 @@ gives-next ended-work go = ended-work
 
 module _ {A : Algebra} (M : Model A) (env : Values A) where
   open Algebra A using (carrier, int, plus as _⊕_, times as _⊗_, over as _⊘_)
+
   infixl 20 _⊕_
   infixl 30 _⊗_ _⊘_
-
   abbrev pub val : Pool → ℕ → carrier
   val P i = value A env (nodeAt P) i
 

@@ -8,8 +8,8 @@ use Rattle.taylor_meaning.specs.Series.{minus, sum, Series}
 
 module _ (A : Algebra) where
   open Algebra A using (carrier, int, times as _⊗_, over as _⊘_, exp, log)
-  infixl 30 _⊗_ _⊘_
 
+  infixl 30 _⊗_ _⊘_
   -- j × u_j
   abbrev pub tilde : Series A → Series A
   tilde u j = int (pos j) ⊗ u j

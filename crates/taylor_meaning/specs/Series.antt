@@ -7,9 +7,9 @@ use Rattle.meaning.specs.Model.{Algebra}
 
 module _ (A : Algebra) where
   open Algebra A using (carrier, int, plus as _⊕_, times as _⊗_, over as _⊘_, exp, log)
+
   infixl 20 _⊕_
   infixl 30 _⊗_ _⊘_
-
   -- a quotient is the product with 1 over the divisor. Only a constant divisor needs it: there the Rust divides each coefficient, where the book multiplies by 1/w_0.
   pub record Fractions : Type 0 where
     pub as-product : (x y : carrier) → x ⊘ y ≡ (int (pos 1) ⊘ y) ⊗ x
