@@ -7,7 +7,7 @@ use lib.IntN.{pos, negsuc}
 use Rattle.meaning.specs.Model.{Algebra, Model, Distributive}
 use Rattle.meaning.proofs.Values.{same-op}
 use Rattle.meaning.proofs.Laws.{sums, products, sum-comm, sum-assoc, sum-swap, sum-zero, zero-sum, product-comm, product-zero, zero-product}
-use Rattle.taylor_meaning.specs.Series.{sum, minus, Series, below, recurrence, overStep, expStep, logStep}
+use Rattle.taylor_meaning.specs.Series.{sum, minus, Series, below, recurrence, overFrom, overStep, expStep, logStep}
 
 module _ (A : Algebra) where
   open Algebra A using (carrier, int, plus as _⊕_, times as _⊗_, over as _⊘_)
@@ -50,7 +50,7 @@ module _ (A : Algebra) where
   pub over-looks-below : (u w : Series A) → LooksBelow (overStep A u w)
   unfolding overStep
   over-looks-below u w f g k h =
-      ap (λ x. (int (pos 1) ⊘ w 0) ⊗ minus A (u k) x) (sum-same (λ j. f j ⊗ w (k - j)) (λ j. g j ⊗ w (k - j)) k (λ j l. ap (λ x. x ⊗ w (k - j)) (h j l)))
+      ap (overFrom A (w 0) (u k)) (sum-same (λ j. f j ⊗ w (k - j)) (λ j. g j ⊗ w (k - j)) k (λ j l. ap (λ x. x ⊗ w (k - j)) (h j l)))
 
   pub exp-looks-below : (u : Series A) → LooksBelow (expStep A u)
   unfolding expStep

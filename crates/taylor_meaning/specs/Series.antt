@@ -53,9 +53,13 @@ module _ (A : Algebra) where
   unfoldable pub recurrence : (Series → Series) → Series
   recurrence step k = below step (suc k) k
 
+  -- (1/w_0) × (u_k - the sum)
+  abbrev pub overFrom : carrier → carrier → carrier → carrier
+  overFrom w₀ uₖ less = (int (pos 1) ⊘ w₀) ⊗ minus uₖ less
+
   -- v_k = (1/w_0) × (u_k - Σ_(j=0..k-1) v_j × w_(k-j))
   unfoldable pub overStep : Series → Series → Series → Series
-  overStep u w v k = (int (pos 1) ⊘ w 0) ⊗ minus (u k) (sum (λ j. v j ⊗ w (k - j)) k)
+  overStep u w v k = overFrom (w 0) (u k) (sum (λ j. v j ⊗ w (k - j)) k)
 
   -- v_k = (Σ_(j=1..k) v_(k-j) × (j × u_j)) / k, with j = i + 1
   unfoldable pub expStep : Series → Series → Series
