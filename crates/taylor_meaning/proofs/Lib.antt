@@ -12,3 +12,4 @@ pub mod Book
 pub mod Theorems
 pub mod PolynomialExpressions
 pub mod Functions
+pub mod FirstCoefficients

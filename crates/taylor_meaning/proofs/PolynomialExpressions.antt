@@ -28,7 +28,7 @@ use Rattle.taylor_meaning.proofs.Polynomials.{powers-same}
 use Rattle.taylor_meaning.proofs.Expanding.{Allowed, expansion-gives}
 use Rattle.taylor_meaning.proofs.Theorems.{node-short, series-meant}
 
-each-both : (H K : ℕ → Type 0) (l : List ℕ) → Each H l → Each K l → Each (λ a. H a × K a) l
+pub each-both : (H K : ℕ → Type 0) (l : List ℕ) → Each H l → Each K l → Each (λ a. H a × K a) l
 each-both H K [] h k = tt
 each-both H K (a ∷ more) h k = ((h .0, k .0), each-both H K more (h .1) (k .1))
 
