@@ -36,9 +36,9 @@ use Rattle.taylor_meaning.proofs.PolynomialExpressions.{each-both, poly
 
 module _ {A : Algebra} (M : Model A) (D : Distributive A) where
   open Algebra A using (carrier, int, plus as _⊕_, times as _⊗_)
+
   infixl 20 _⊕_
   infixl 30 _⊗_
-
   -- coefficients 0 and 1
   record Begins (f : Series A) (y d : carrier) : Type 0 where
     zeroth : f 0 ≡ y

@@ -24,6 +24,8 @@ use Rattle.meaning.proofs.Values.{Each, each-below, each-had, each-from, same-o
 use Rattle.taylor_meaning.specs.Series.{Series, plusSeries, timesSeries, series, polynomials}
 use Rattle.taylor_meaning.specs.Coefficients.{MeansSeries, asSeries}
 use Rattle.taylor_meaning.specs.PolynomialExpressions.{PolynomialNode, PolynomialExpression}
+use Rattle.taylor_meaning.proofs.Working.{Gives, kept-by}
+use Rattle.taylor_meaning.proofs.Operations.{Expands}
 use Rattle.taylor_meaning.proofs.Polynomials.{powers-same}
 use Rattle.taylor_meaning.proofs.Expanding.{Allowed, expansion-gives}
 use Rattle.taylor_meaning.proofs.Theorems.{node-short, series-meant}
@@ -72,15 +74,22 @@ module _ {A : Algebra} (M : Model A) (D : Distributive A) where
     polynomial-allowed (Pow a e) h p = omega arith
     polynomial-allowed (Max a b) h p = absurd p
 
-    -- an accepted expansion of a polynomial expression: coefficient k is that of t^k in its value at x + t, in the ring of series
+    polynomial-expansion-gives :
+        ((i : ℕ) → getD (P .words) i 0 < 2 ^ 64) → (r : ℕ) → r < P .count → PolynomialExpression (nodeAt P) r
+        → Gives P (Expands M env (suc order) (value (polynomials A) (asSeries A env v x) (nodeAt P) r)) (expand r v x order P)
+    polynomial-expansion-gives words r h p =
+        rw (value-in-ring (asSeries A env v x) (nodeAt P) r p)
+        (expansion-gives M D env keeps v known x order (λ i. Reach (nodeAt P) (r ∷ []) i × (i < P .count)) (λ i c. c .1)
+        (λ i c. each-both (Reach (nodeAt P) (r ∷ [])) (λ a. a < P .count) (parts (nodeAt P i)) (each-had (parts (nodeAt P i)) (λ a m. part (c .0) m)) (each-below (parts (nodeAt P i)) (parts-below keeps i) (λ a m. m)))
+        (λ i c. polynomial-allowed (nodeAt P i) (node-short P words i) (p i (c .0))) r (root (here r []), h))
+
+    -- an accepted expansion of a polynomial expression: coefficient k is that of t^k in its value at x + t, in the ring of series; and the pool that it leaves keeps the rules
     pub polynomial-expansion-means :
         ((i : ℕ) → getD (P .words) i 0 < 2 ^ 64) → {e : Expansion} {Q : Pool} (r : ℕ) → r < P .count → PolynomialExpression (nodeAt P) r
         → expand r v x order P ≡ gives e Q
         → MeansSeries A env P (suc order) (value (polynomials A) (asSeries A env v x) (nodeAt P) r) e Q
-    polynomial-expansion-means words r h p eq =
-        rw (value-in-ring (asSeries A env v x) (nodeAt P) r p)
-        (series-meant M env keeps
-        (expansion-gives M D env keeps v known x order (λ i. Reach (nodeAt P) (r ∷ []) i × (i < P .count)) (λ i c. c .1)
-        (λ i c. each-both (Reach (nodeAt P) (r ∷ [])) (λ a. a < P .count) (parts (nodeAt P i)) (each-had (parts (nodeAt P i)) (λ a m. part (c .0) m)) (each-below (parts (nodeAt P i)) (parts-below keeps i) (λ a m. m)))
-        (λ i c. polynomial-allowed (nodeAt P i) (node-short P words i) (p i (c .0))) r (root (here r []), h))
-        eq)
+    polynomial-expansion-means words r h p eq = series-meant M env keeps (polynomial-expansion-gives words r h p) eq
+
+    pub polynomial-expansion-keeps :
+        ((i : ℕ) → getD (P .words) i 0 < 2 ^ 64) → {e : Expansion} {Q : Pool} (r : ℕ) → r < P .count → PolynomialExpression (nodeAt P) r → expand r v x order P ≡ gives e Q → Keeps Q
+    polynomial-expansion-keeps words r h p eq = kept-by (polynomial-expansion-gives words r h p) eq

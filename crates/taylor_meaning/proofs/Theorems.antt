@@ -25,7 +25,7 @@ use Rattle.meaning.specs.Value.{Values, value}
 use Rattle.meaning.proofs.Values.{each-below, value-kept}
 use Rattle.taylor_meaning.specs.Series.{minus, Series, plusSeries, timesSeries, recurrence, overStep, expStep, logStep, series, Fractions}
 use Rattle.taylor_meaning.specs.Coefficients.{Present, Long, InPool, coefficient, MeansSeries, asSeries}
-use Rattle.taylor_meaning.proofs.Working.{Gives, gave, Has}
+use Rattle.taylor_meaning.proofs.Working.{Gives, gave, kept-by}
 use Rattle.taylor_meaning.proofs.Operations.{Expands, constant, list, add-to-gives, negate-gives, sub-from-gives, times-gives}
 use Rattle.taylor_meaning.proofs.Elementary.{exponential-gives, logarithm-gives}
 use Rattle.taylor_meaning.proofs.Quotients.{quotient-by-list-gives, quotient-gives}
@@ -149,12 +149,18 @@ module _ {A : Algebra} (M : Model A) (env : Values A) where
       short-allowed fractions (Pow a e) h = omega arith
       short-allowed fractions (Max a b) h = tt
 
-      -- an accepted expansion of an expression has the coefficients of its value in the algebra of series, where the variable is its value and t
+      expression-gives :
+          Fractions A → ((i : ℕ) → getD (P .words) i 0 < 2 ^ 64) → (root : ℕ) → root < P .count
+          → Gives P (Expands M env (suc order) (value (series A) (asSeries A env v x) (nodeAt P) root)) (expand root v x order P)
+      expression-gives fractions words root h =
+          expansion-gives M D env keeps v known x order (λ i. i < P .count) (λ i l. l) (λ i l. each-below (parts (nodeAt P i)) (parts-below keeps i) (λ a m. m)) (λ i l. short-allowed fractions (nodeAt P i) (node-short P words i)) root h
+
+      -- an accepted expansion of an expression has the coefficients of its value in the algebra of series, where the variable is its value and t; and the pool that it leaves keeps the rules
       pub expansion-means :
           Fractions A → ((i : ℕ) → getD (P .words) i 0 < 2 ^ 64) → {e : Expansion} {Q : Pool} (root : ℕ) → root < P .count
           → expand root v x order P ≡ gives e Q
           → MeansSeries A env P (suc order) (value (series A) (asSeries A env v x) (nodeAt P) root) e Q
-      expansion-means fractions words root h eq =
-          series-meant
-          (expansion-gives M D env keeps v known x order (λ i. i < P .count) (λ i l. l) (λ i l. each-below (parts (nodeAt P i)) (parts-below keeps i) (λ a m. m)) (λ i l. short-allowed fractions (nodeAt P i) (node-short P words i)) root h)
-          eq
+      expansion-means fractions words root h eq = series-meant (expression-gives fractions words root h) eq
+
+      pub expansion-keeps : Fractions A → ((i : ℕ) → getD (P .words) i 0 < 2 ^ 64) → {e : Expansion} {Q : Pool} (root : ℕ) → root < P .count → expand root v x order P ≡ gives e Q → Keeps Q
+      expansion-keeps fractions words root h eq = kept-by (expression-gives fractions words root h) eq

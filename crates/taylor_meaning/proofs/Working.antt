@@ -1,6 +1,6 @@
 -- Work on coefficients, and what it gives: one piece after another, a list entry by entry, a fold, and a list that is filled from its own entries.
 -- Assumes nothing.
-use mathlib.Core.Path.{_≡_, refl, sym, ap, _∙_}
+use mathlib.Core.Path.{_≡_, refl, sym, ap, _∙_, subst}
 use mathlib.Core.List.{List, [], _∷_, _++_}
 use Prim.Native.Nat.{ℕ, zero, suc, _+_, _≤_, _<_, min}
 use native.Mathlib.Omega.{arith}
@@ -38,6 +38,13 @@ module _ {B : Type 0} where
 
   pub gives-here : {P : Pool} {S : Pool → B → Type 0} {x : B} → Keeps P → S P x → Gives P S (gives x P)
   gives-here {P} k s = gave k (grown-by-nothing P) s
+
+-- an accepted answer's pool keeps the rules
+pub kept-by : {B : Type 0} {P Q : Pool} {S : Pool → B → Type 0} {r : Result B} {x : B} → Gives P S r → r ≡ gives x Q → Keeps Q
+kept-by {B} {P} {Q} {S} {x = x} h e = go (subst (Gives P S) e h)
+  where
+    go : Gives P S (gives x Q) → Keeps Q
+    go (gave k g s) = k
 
 pub gives-next :
     {B C : Type 0} {P : Pool} {S : Pool → B → Type 0} {T : Pool → C → Type 0} {r : Result B} {next : B → Work C}
