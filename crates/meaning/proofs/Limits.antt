@@ -3,7 +3,7 @@
 use mathlib.Core.Path.{_≡_, sym, ap, _∙_}
 use lib.IntN.{pos, negsuc}
 use Rattle.meaning.specs.Model.{Algebra, Model, Distributive}
-use Rattle.meaning.proofs.Laws.{sum-assoc, sum-zero, zero-sum, product-comm, one-product, zero-product}
+use Rattle.meaning.proofs.Laws.{sum-assoc, zero-sum, product-comm, one-product, zero-product}
 
 module _ {A : Algebra} (M : Model A) where
   open Algebra A using (carrier, int, plus as _⊕_, times as _⊗_, over as _⊘_, log)

@@ -1,6 +1,6 @@
 -- Running a term gives its value: appending a node does, one piece of work after another does, so by induction on the depth every constructor gives the value of its operation.
 -- Assumes nothing.
-use mathlib.Core.Path.{_≡_, refl, sym, ap, _∙_, subst}
+use mathlib.Core.Path.{_≡_, refl, sym, ap, _∙_}
 use mathlib.Core.Bool.{Bool, true, false}
 use Prim.Native.Nat.{ℕ, zero, suc, _≤_, _<_}
 use native.Mathlib.Omega.{arith}
@@ -8,15 +8,14 @@ use lib.Dec.{leb}
 use lib.IntN.{ℤ, pos, negsuc}
 use lib.Seq.{getD-set-same}
 use borrow.Author.Tests.{lt-ltb}
-use Rattle.refusals.specs.Refusals.{exponentTooLarge, tooDeep, noExpOrLog, outOfRange}
+use Rattle.refusals.specs.Refusals.{noExpOrLog, outOfRange}
 use Rattle.literal.specs.Literal.{isLiteral, isZero, isOne, pick, folded, expOf, logOf}
 use Rattle.literal.specs.declared.Folded.the-variants.{Value, Refused}
 use Rattle.pool.specs.declared.node.Node.{Node}
 use Rattle.pool.specs.declared.node.Node.the-variants as node
-use Rattle.pool.specs.Nodes.{parts, kindOf, wordOf, greatestVariable, greatestExponent}
-use Rattle.pool.specs.Pool.{Pool, Out, done, refused, Run, bind, yield, refuse, append, nodeAt, nodeIn, limit}
+use Rattle.pool.specs.Nodes.{parts, kindOf, wordOf, greatestExponent}
+use Rattle.pool.specs.Pool.{Pool, Out, done, refused, Run, bind, append, nodeAt, nodeIn, limit}
 use Rattle.constructors.specs.Terms.{Term, #, lit, lit-exp, lit-log, add, mul, exp, log, pow, Add, Mul, Div, Max, Exp, Log, Pow}
-use Rattle.constructors.specs.Tables.{addTable, mulTable, divTable, negTable, expTable, logTable, powTable, maxTable}
 use Rattle.constructors.specs.Build.{Calls, literal, exponent, build, noCalls, deeper, calls}
 use Rattle.constructor_laws.specs.Grown.{Grown}
 use Rattle.constructor_laws.specs.Keeps.{Keeps, Kept, KeptBy}

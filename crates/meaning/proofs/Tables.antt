@@ -2,21 +2,21 @@
 -- Assumes nothing.
 use mathlib.Core.Path.{_≡_, refl, sym, ap, _∙_}
 use mathlib.Core.Bool.{true}
-use Prim.Native.Nat.{ℕ, zero, suc, _+_}
+use Prim.Native.Nat.{ℕ, zero, suc}
 use native.Mathlib.Omega.{arith}
 use lib.Dec.{eqb}
-use lib.IntN.{ℤ, pos, negsuc, _+ℤ_, _*ℤ_}
+use lib.IntN.{ℤ, pos, negsuc}
 use borrow.Author.Tests.{eqb-true}
 use Rattle.literal.specs.Literal.{isZero, isOne}
 use Rattle.pool.specs.declared.node.Node.{Node}
 use Rattle.constructors.specs.Terms
-use Rattle.constructors.specs.Terms.{Term, #, lit, lit-exp, lit-log, add, mul, exp, log, pow, Add, Mul, Div, Max, Exp, Log, Pow}
+use Rattle.constructors.specs.Terms.{Term, exp, log}
 use Rattle.constructors.specs.Patterns.{litIn, addIn, mulIn, expIn, powIn}
 use Rattle.constructors.specs.Tables.{addArms, addTable, mulLits, mulExps, mulLeft, mulPows, mulLast, mulTable, divTable, negTable, expArms, expTable, logArms, logTable, powTable, maxTable}
-use Rattle.constructor_laws.proofs.Arms.{Gives, skips, return, _>>=_, _&_, swap, _or_, inside, _then_}
+use Rattle.constructor_laws.proofs.Arms.{Gives, return, _>>=_, _&_, swap, _or_, inside, _then_}
 use Rattle.meaning.specs.Model.{Algebra, Model, power}
 use Rattle.meaning.specs.Value.{Values, valueNode}
-use Rattle.meaning.proofs.Laws.{sums, products, sum-comm, sum-assoc, sum-swap, sum-zero, zero-sum, product-comm, product-assoc, product-swap, product-one, one-product, product-zero, zero-product, int-sum, int-product, exp-sum, power-two, power-next, power-sum, power-none, power-one, power-of-one, power-of-zero}
+use Rattle.meaning.proofs.Laws.{sums, products, sum-comm, sum-zero, zero-sum, product-comm, product-one, one-product, product-zero, zero-product, int-sum, int-product, exp-sum, power-two, power-next, power-sum, power-none, power-one, power-of-one, power-of-zero}
 use Rattle.meaning.proofs.Terms.{zero-is, one-is, termValue, Right, when, weaker, lit-found, add-found, mul-found, exp-found, pow-found}
 
 two-or-more : (e : ℕ) → suc (suc e) ≡ 0 → ⊥

@@ -1,7 +1,6 @@
 -- No rule changes a value: in every model, for all values of the variables, an accepted call of a constructor on a pool that keeps the rules answers a node with the value of the operation on its arguments' values, and all earlier values stand. So at any depth.
 -- Assumes nothing.
 use mathlib.Core.Path.{_≡_, subst}
-use mathlib.Core.Bool.{true}
 use Prim.Native.Nat.{ℕ, _≤_, _<_}
 use lib.IntN.{ℤ, negsuc}
 use Rattle.refusals.specs.Refusals.{outOfRange}

@@ -1,6 +1,5 @@
 -- A model that is there: the whole numbers, with every exponential 1, every logarithm 0, and a quotient and a maximum that are their first argument.
 -- Assumes nothing.
-use Prim.Native.Nat.{ℕ}
 use lib.IntN.{ℤ, pos, _+ℤ_, _*ℤ_}
 use Rattle.meaning.specs.Model.{Algebra}
 

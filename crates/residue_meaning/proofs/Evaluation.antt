@@ -2,7 +2,7 @@
 -- Assumes nothing.
 use mathlib.Core.Path.{_≡_, refl, sym, ap, _∙_}
 use mathlib.Core.Bool.{Bool, true, false}
-use mathlib.Core.List.{List, [], _∷_}
+use mathlib.Core.List.{List}
 use Prim.Native.Nat.{ℕ, zero, suc, _+_, _*_, _%_, _^_, _≤_, _<_}
 use native.Mathlib.Nat.{mod-eq-of-lt, pow-zero, pow-suc}
 use native.Mathlib.Omega.{arith}
@@ -25,7 +25,7 @@ use Rattle.walks.proofs.Bounded.{Bounded, below}
 use Rattle.meaning.specs.Model.{power}
 use Rattle.meaning.specs.Value.{Values, valueNode, value}
 use Rattle.meaning.proofs.Values.{Each, each-below, Falling, falling, value-law}
-use Rattle.residue_meaning.specs.Residues.{Residues, reduced, orZero, residues, fromTable}
+use Rattle.residue_meaning.specs.Residues.{Residues, orZero, residues, fromTable}
 use Rattle.residue_meaning.proofs.Model.{number}
 
 -- ---- answers that are accepted

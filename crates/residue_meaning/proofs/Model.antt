@@ -1,19 +1,19 @@
 -- The residues of every modulus from 2 on are a model, a ring, and have fractions. Division is exact by every residue that has an inverse.
 -- Assumes nothing.
 use mathlib.Core.Path.{_≡_, refl, sym, ap, _∙_}
-use mathlib.Core.Bool.{Bool, true, Bool-set}
+use mathlib.Core.Bool.{true, Bool-set}
 use mathlib.Core.HLevel.{Σ-prop-path}
-use Prim.Native.Nat.{ℕ, zero, suc, _+_, _*_, _%_, _≤_, _<_}
-use native.Mathlib.Nat.{mod-lt, mod-eq-of-lt, mod-mod, mod-add-mod, add-mod-mod, add-mod, add-comm, add-assoc, mul-comm, mul-assoc, mul-one, mul-add, zero-mul, zero-mod}
+use Prim.Native.Nat.{ℕ, _+_, _*_, _%_, _≤_, _<_}
+use native.Mathlib.Nat.{mod-eq-of-lt, mod-mod, mod-add-mod, add-mod-mod, add-mod, add-comm, add-assoc, mul-comm, mul-assoc, mul-one, mul-add, zero-mul, zero-mod}
 use native.Mathlib.Omega.{arith}
 use lib.Dec.{ltb}
-use lib.IntN.{ℤ, pos, _+ℤ_, _*ℤ_}
+use lib.IntN.{pos}
 use borrow.Author.Tests.{ltb-true}
 use Rattle.residue.specs.Residue.{residue, quotientOf}
 use Rattle.residue.specs.declared.Divided.{Divided}
 use Rattle.residue.specs.declared.Divided.the-variants.{Residue, Refused}
 use Rattle.residue.proofs.Congruence.{factor-first, factor-second}
-use Rattle.residue.proofs.Theorems.{residue-below, quotient-is, quotient-exact, no-inverse-no-quotient, quotient-by-inverse}
+use Rattle.residue.proofs.Theorems.{quotient-is, quotient-exact, no-inverse-no-quotient, quotient-by-inverse}
 use Rattle.meaning.specs.Model.{Model, Distributive}
 use Rattle.taylor_meaning.specs.Series.{Fractions}
 use Rattle.taylor_meaning.specs.Book.{Divides}

@@ -3,10 +3,10 @@
 use mathlib.Core.Path.{_≡_, refl, sym, ap, _∙_, subst}
 use mathlib.Core.Bool.{Bool, true, false, cond}
 use Prim.Native.Nat.{ℕ, zero, suc, _+_, _-_, _*_, _/_, _%_, _≤_, _<_}
-use native.Mathlib.Nat.{add-mod, mod-eq-of-lt, mod-lt, add-mul-mod-self-left, add-comm, mod-add-div', mod-mod}
+use native.Mathlib.Nat.{add-mod, mod-eq-of-lt, mod-lt, add-mul-mod-self-left, add-comm, mod-add-div'}
 use native.Mathlib.Omega.{arith}
 use lib.Dec.{ltb}
-use lib.IntN.{ℤ, pos, negsuc, negℤ, _+ℤ_, _*ℤ_, +ℤ-comm}
+use lib.IntN.{ℤ, pos, negsuc, negℤ, _+ℤ_, _*ℤ_}
 use borrow.Author.Tests.{ltb-true, ltb-false}
 use Rattle.residue.specs.Residue.{residue}
 use Rattle.residue.proofs.Congruence.{factor-first, factor-second}

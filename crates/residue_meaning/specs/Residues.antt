@@ -1,16 +1,15 @@
 -- The residues of a modulus as an algebra, with document 01's sums, products and quotients. Where there is no quotient it is 0; every exponential is 1, every logarithm 0 and every maximum the first argument: evaluation by residues refuses all of these.
 -- Assumes nothing.
 use mathlib.Core.Path.{_≡_}
-use mathlib.Core.Bool.{Bool, true}
+use mathlib.Core.Bool.{true}
 use mathlib.Core.List.{List}
-use Prim.Native.Nat.{ℕ, zero, suc, _+_, _*_, _%_, _≤_, _<_}
+use Prim.Native.Nat.{ℕ, _+_, _*_, _%_, _≤_}
 use native.Mathlib.Nat.{mod-lt}
 use native.Mathlib.Omega.{arith}
 use lib.Dec.{ltb}
-use lib.IntN.{ℤ, pos}
 use lib.ListN.{getD}
 use borrow.Author.Tests.{lt-ltb}
-use Rattle.residue.specs.Residue.{residue, sumOf, productOf, quotientOf}
+use Rattle.residue.specs.Residue.{residue, quotientOf}
 use Rattle.residue.specs.declared.Divided.{Divided}
 use Rattle.residue.specs.declared.Divided.the-variants.{Residue, Refused}
 use Rattle.meaning.specs.Model.{Algebra}

@@ -1,11 +1,10 @@
 -- The series of the definitions satisfy the book's equations: products in every algebra, quotients in every algebra, exponentials where division by k is exact, logarithms where division by u_0 is too. And a quotient times its divisor is the dividend.
 -- Assumes nothing.
 use mathlib.Core.Path.{_≡_, refl, sym, ap, _∙_}
-use Prim.Native.Nat.{ℕ, zero, suc, _-_}
+use Prim.Native.Nat.{ℕ, suc, _-_}
 use native.Mathlib.Omega.{arith}
 use lib.IntN.{pos, negsuc}
 use Rattle.meaning.specs.Model.{Algebra, Model, Distributive}
-use Rattle.meaning.proofs.Values.{same-op}
 use Rattle.meaning.proofs.Laws.{sum-comm, sum-assoc, sum-zero, product-comm, product-assoc, one-product}
 use Rattle.meaning.proofs.Limits.{negative}
 use Rattle.taylor_meaning.specs.Series.{minus, sum, Series, timesSeries, recurrence, overStep, expStep, logStep}

@@ -2,20 +2,17 @@
 -- Assumes nothing.
 use mathlib.Core.Path.{_≡_, refl, sym, ap, _∙_, subst}
 use mathlib.Core.Bool.{Bool, true, false, cond}
-use mathlib.Core.List.{List, [], _∷_}
-use Prim.Native.Nat.{ℕ, zero, suc, _^_, _≤_, _<_}
+use Prim.Native.Nat.{ℕ, suc, _^_, _≤_, _<_}
 use native.Mathlib.Omega.{arith}
 use lib.Dec.{eqb}
-use lib.IntN.{ℤ, pos}
 use Rattle.pool.specs.declared.node.Node.{Node}
 use Rattle.pool.specs.declared.node.Node.the-variants.{Empty, Variable, Lit, Add, Mul, Div, Exp, Log, Pow, Max}
 use Rattle.pool.specs.Nodes.{parts, greatestVariable}
 use Rattle.pool.specs.Pool.{Pool, nodeAt}
-use Rattle.constructor_laws.specs.Grown.{Grown}
 use Rattle.constructor_laws.specs.Keeps.{Keeps}
 use Rattle.constructor_laws.proofs.Growth.{earlier-same}
-use Rattle.taylor.specs.Work.{Work, bind}
-use Rattle.taylor.specs.Expansion.{Expansion, Constant, var, addTo, times, quotient, exponential, logarithm, power}
+use Rattle.taylor.specs.Work.{bind}
+use Rattle.taylor.specs.Expansion.{Expansion, var, addTo, times, quotient, exponential, logarithm, power}
 use Rattle.taylor.specs.Expand.{State, Went, Walk, Point, none, point, pointNode, ofVariable, expandNode, expandAt, expand}
 use Rattle.taylor.specs.Expand as walk
 use Rattle.meaning.specs.Model.{Algebra, Model, Distributive}

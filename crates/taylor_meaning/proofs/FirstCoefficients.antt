@@ -2,11 +2,11 @@
 -- Assumes nothing.
 use mathlib.Core.Path.{_≡_, refl, sym, ap, _∙_, fun-ext}
 use mathlib.Core.Bool.{Bool, true, false, cond}
-use mathlib.Core.List.{List, [], _∷_}
-use Prim.Native.Nat.{ℕ, zero, suc, _+_, _-_, _^_, _≤_, _<_}
+use mathlib.Core.List.{[], _∷_}
+use Prim.Native.Nat.{ℕ, zero, suc, _-_, _^_, _≤_, _<_}
 use native.Mathlib.Omega.{arith}
 use lib.Dec.{eqb}
-use lib.IntN.{ℤ, pos, _+ℤ_}
+use lib.IntN.{pos, _+ℤ_}
 use lib.ListN.{getD}
 use borrow.Author.Tests.{eqb-true}
 use Rattle.pool.specs.declared.node.Node.{Node}
@@ -23,12 +23,12 @@ use Rattle.taylor.specs.Expand.{Point, none, expand}
 use Rattle.meaning.specs.Model.{Algebra, Model, Distributive, power}
 use Rattle.meaning.specs.Value.{Values, valueNode, value}
 use Rattle.meaning.proofs.Values.{Each, each-below, each-had, each-from, same-op, Falling, falling, value-law}
-use Rattle.meaning.proofs.Laws.{sum-comm, sum-zero, zero-sum, product-comm, product-assoc, product-swap, one-product, zero-product, int-sum, power-none, power-more}
+use Rattle.meaning.proofs.Laws.{product-comm, product-swap, one-product, zero-product, int-sum}
 use Rattle.walk_meaning.specs.Setting.{setting}
 use Rattle.walk_meaning.specs.Slope.{slopeNode, slope}
 use Rattle.walk_meaning.proofs.Slopes.{slope-law}
 use Rattle.walk_meaning.proofs.Derivation.{derivation-means}
-use Rattle.taylor_meaning.specs.Series.{Series, constantSeries, shifted, plusSeries, timesSeries, polynomials}
+use Rattle.taylor_meaning.specs.Series.{Series, constantSeries, shifted, timesSeries, polynomials}
 use Rattle.taylor_meaning.specs.Coefficients.{base, asSeries, coefficient}
 use Rattle.taylor_meaning.specs.PolynomialExpressions.{PolynomialNode, PolynomialExpression}
 use Rattle.taylor_meaning.proofs.SeriesRing.{times-first, times-back, distributes-right}

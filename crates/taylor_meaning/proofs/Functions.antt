@@ -2,12 +2,12 @@
 -- Assumes nothing.
 use mathlib.Core.Path.{_≡_, refl, sym, ap, _∙_, fun-ext}
 use mathlib.Core.Bool.{Bool, true, false, cond}
-use mathlib.Core.List.{List, [], _∷_}
+use mathlib.Core.List.{[], _∷_}
 use mathlib.Core.Logic.{_⊎_, inl, inr}
 use Prim.Native.Nat.{ℕ, zero, suc, _+_, _-_, _≤_, _<_}
 use native.Mathlib.Omega.{arith}
 use lib.Dec.{eqb}
-use lib.IntN.{ℤ, pos}
+use lib.IntN.{pos}
 use Rattle.pool.specs.declared.node.Node.{Node}
 use Rattle.pool.specs.declared.node.Node.the-variants.{Empty, Variable, Lit, Add, Mul, Div, Exp, Log, Pow, Max}
 use Rattle.pool.specs.Nodes.{parts}
@@ -17,9 +17,9 @@ use Rattle.taylor.specs.Expand.{Point}
 use Rattle.meaning.specs.Model.{Algebra, Model, Distributive, power}
 use Rattle.meaning.specs.Value.{Values, valueNode, valueBelow, value}
 use Rattle.meaning.proofs.Values.{Each, each-had, same-op}
-use Rattle.meaning.proofs.Laws.{sums, sum-comm, sum-assoc, sum-swap, sum-zero, zero-sum, product-comm, product-assoc, product-swap, product-one, one-product, product-zero, zero-product, power-none, power-more, power-one}
+use Rattle.meaning.proofs.Laws.{sum-assoc, sum-zero, product-comm, product-assoc, product-swap, product-one, product-zero, zero-product, power-none, power-more}
 use Rattle.walk_meaning.specs.Setting.{setting}
-use Rattle.taylor_meaning.specs.Series.{sum, Series, constantSeries, shifted, plusSeries, timesSeries, polynomials}
+use Rattle.taylor_meaning.specs.Series.{Series, constantSeries, shifted, plusSeries, timesSeries, polynomials}
 use Rattle.taylor_meaning.specs.Coefficients.{base, asSeries}
 use Rattle.taylor_meaning.specs.PolynomialExpressions.{PolynomialNode, PolynomialExpression, polynomialAt, IsPolynomial}
 use Rattle.taylor_meaning.proofs.Sums.{sum-more, sum-none, sum-same}

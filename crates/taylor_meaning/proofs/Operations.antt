@@ -4,19 +4,18 @@ use mathlib.Core.Path.{_≡_, refl, sym, ap, _∙_}
 use mathlib.Core.List.{List, [], _∷_}
 use Prim.Native.Nat.{ℕ, zero, suc, _+_, _-_, _≤_, _<_, min}
 use native.Mathlib.Omega.{arith}
-use lib.IntN.{ℤ, pos, negsuc}
+use lib.IntN.{pos, negsuc}
 use lib.ListN.{length, replicate, length-replicate}
 use Rattle.pool.specs.Pool.{Pool}
 use Rattle.constructor_laws.specs.Grown.{Grown}
 use Rattle.constructor_laws.specs.Keeps.{Keeps}
-use Rattle.constructor_laws.proofs.Growth.{grown-by-nothing, grown-by-both}
 use Rattle.taylor.specs.Work.{Result, Work, bind, yield, add, sub}
-use Rattle.taylor.specs.Expansion.{Expansion, Constant, Polynomial, first, varCoeffs, var, addTo, negate, subFrom, productAt, times}
+use Rattle.taylor.specs.Expansion.{Expansion, Constant, Polynomial, first, var, addTo, negate, subFrom, productAt, times}
 use Rattle.meaning.specs.Model.{Algebra, Model}
 use Rattle.meaning.specs.Value.{Values}
 use Rattle.meaning.proofs.Values.{same-op}
 use Rattle.meaning.proofs.Laws.{sum-comm, sum-zero, zero-sum, product-comm, product-zero}
-use Rattle.taylor_meaning.specs.Series.{minus, sum, Series, constantSeries, shifted, plusSeries, timesSeries}
+use Rattle.taylor_meaning.specs.Series.{minus, sum, Series, shifted, plusSeries, timesSeries}
 use Rattle.taylor_meaning.proofs.Sums.{sum-more, sum-none}
 use Rattle.taylor_meaning.proofs.SeriesRing.{times-constant, constant-times}
 use Rattle.taylor_meaning.proofs.Working.{Gives, gives-weaker, gives-here, gives-next, Has, Is, has-later, has-same, is-same, lit-gives, add-gives, mul-gives, neg-gives, sub-gives, Shows, shows-later, shows-none, shows-cons, ShowsLong, each-gives, each-two-gives, fold-gives, fill-gives}

@@ -1,7 +1,6 @@
 -- Expansions of polynomial expressions: in any ring that is a model, with nothing asked of quotients, the coefficients are those of the expression's value in the ring of series where the variable is x + t.
 -- Assumes nothing.
-use mathlib.Core.Path.{_≡_, refl, sym, ap, _∙_}
-use mathlib.Core.Bool.{true}
+use mathlib.Core.Path.{_≡_, refl, ap, _∙_}
 use mathlib.Core.List.{List, [], _∷_}
 use Prim.Native.Nat.{ℕ, zero, suc, _^_, _≤_, _<_}
 use native.Mathlib.Omega.{arith}
@@ -12,15 +11,15 @@ use Rattle.pool.specs.Nodes.{parts, greatestVariable}
 use Rattle.pool.specs.Pool.{Pool, nodeAt}
 use Rattle.constructor_laws.specs.Keeps.{Keeps}
 use Rattle.constructor_laws.proofs.Coding.{Short}
-use Rattle.constructor_laws.proofs.Rules.{AllBelow, parts-below}
-use Rattle.shape.specs.Shape.{has, Reach, root, part}
+use Rattle.constructor_laws.proofs.Rules.{parts-below}
+use Rattle.shape.specs.Shape.{Reach, root, part}
 use Rattle.shape.proofs.Lists.{here}
 use Rattle.taylor.specs.Work.{gives}
 use Rattle.taylor.specs.Expansion.{Expansion}
 use Rattle.taylor.specs.Expand.{Point, expand}
 use Rattle.meaning.specs.Model.{Algebra, Model, Distributive, power}
 use Rattle.meaning.specs.Value.{Values, valueNode, valueBelow, value}
-use Rattle.meaning.proofs.Values.{Each, each-below, each-had, each-from, same-op}
+use Rattle.meaning.proofs.Values.{Each, each-below, each-had, same-op}
 use Rattle.taylor_meaning.specs.Series.{Series, plusSeries, timesSeries, series, polynomials}
 use Rattle.taylor_meaning.specs.Coefficients.{MeansSeries, asSeries}
 use Rattle.taylor_meaning.specs.PolynomialExpressions.{PolynomialNode, PolynomialExpression}

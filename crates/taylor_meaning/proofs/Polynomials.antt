@@ -1,13 +1,12 @@
 -- Series with their sums and products are a model and a ring, so powers of series have the laws of powers.
 -- Assumes nothing.
 use mathlib.Core.Path.{_≡_, refl, sym, ap, _∙_, fun-ext}
-use Prim.Native.Nat.{ℕ, zero, suc, _+_, _-_, _*_}
+use Prim.Native.Nat.{ℕ, zero, suc, _+_}
 use native.Mathlib.Omega.{arith}
 use lib.IntN.{ℤ, pos, _+ℤ_, _*ℤ_}
 use Rattle.meaning.specs.Model.{Algebra, Model, Distributive, power}
 use Rattle.meaning.proofs.Values.{same-op}
-use Rattle.meaning.proofs.Laws.{power-sum, power-none, power-more, power-one, product-assoc, product-one, product-comm}
-use Rattle.meaning.proofs.Laws as laws
+use Rattle.meaning.proofs.Laws.{power-none, power-more, product-assoc}
 use Rattle.taylor_meaning.specs.Series.{Series, constantSeries, plusSeries, timesSeries, series, polynomials}
 use Rattle.taylor_meaning.proofs.SeriesRing.{constant-times, times-constant, times-comm, times-assoc, times-plus-left}
 

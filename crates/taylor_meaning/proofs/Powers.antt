@@ -2,21 +2,20 @@
 -- Assumes nothing.
 use mathlib.Core.Path.{_≡_, refl, sym, ap, _∙_}
 use mathlib.Core.Bool.{Bool, true, false}
-use Prim.Native.Nat.{ℕ, zero, suc, _+_, _-_, _*_, _/_, _%_, _^_, _≤_, _<_}
+use Prim.Native.Nat.{ℕ, zero, suc, _+_, _*_, _/_, _%_, _^_, _<_}
 use native.Mathlib.Nat.{pow-suc}
 use native.Mathlib.Omega.{arith}
 use lib.Dec.{eqb}
 use lib.IntN.{pos}
 use borrow.Author.Tests.{eqb-true, eqb-false}
 use Rattle.pool.specs.Pool.{Pool}
-use Rattle.constructor_laws.specs.Grown.{Grown}
 use Rattle.constructor_laws.specs.Keeps.{Keeps}
-use Rattle.taylor.specs.Work.{Result, yield}
-use Rattle.taylor.specs.Expansion.{Expansion, Constant, times, when, powFrom, power}
+use Rattle.taylor.specs.Work.{yield}
+use Rattle.taylor.specs.Expansion.{Expansion, times, when, powFrom, power}
 use Rattle.meaning.specs.Model.{Algebra, Model, Distributive}
 use Rattle.meaning.specs.Model as model
 use Rattle.meaning.specs.Value.{Values}
-use Rattle.meaning.proofs.Laws.{power-sum, power-none, power-one, product-assoc, product-one, product-comm, one-product}
+use Rattle.meaning.proofs.Laws.{power-sum, power-none, power-one, product-assoc, product-one, one-product}
 use Rattle.taylor_meaning.specs.Series.{Series, constantSeries, timesSeries, series, polynomials}
 use Rattle.taylor_meaning.proofs.Working.{Gives, gives-weaker, gives-here, gives-next, lit-gives}
 use Rattle.taylor_meaning.proofs.Operations.{Expands, constant, expands-later, expands-same, times-gives}

@@ -7,14 +7,12 @@ use native.Mathlib.Omega.{arith}
 use lib.IntN.{pos, negsuc}
 use lib.ListN.{length}
 use Rattle.pool.specs.Pool.{Pool}
-use Rattle.constructor_laws.specs.Grown.{Grown}
 use Rattle.constructor_laws.specs.Keeps.{Keeps}
 use Rattle.taylor.specs.Work.{at}
-use Rattle.taylor.specs.Expansion.{Expansion, Constant, Polynomial, quotientAt, quotient}
+use Rattle.taylor.specs.Expansion.{Expansion, Polynomial, quotientAt, quotient}
 use Rattle.meaning.specs.Model.{Algebra, Model, Distributive}
 use Rattle.meaning.specs.Value.{Values}
-use Rattle.meaning.proofs.Values.{same-op}
-use Rattle.meaning.proofs.Laws.{sum-assoc, product-comm, product-zero, zero-product}
+use Rattle.meaning.proofs.Laws.{sum-assoc, product-comm, product-zero}
 use Rattle.taylor_meaning.specs.Series.{minus, sum, Series, recurrence, overStep, Fractions}
 use Rattle.taylor_meaning.proofs.Sums.{sum-more, sum-none, recurrence-solves, over-looks-below}
 use Rattle.taylor_meaning.proofs.SeriesRing.{sum-zeros}

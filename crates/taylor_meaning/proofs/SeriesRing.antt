@@ -1,13 +1,13 @@
 -- Series over a ring are a ring: the product's sum taken from either end, and from that its laws by induction on the coefficient.
 -- Assumes nothing.
-use mathlib.Core.Path.{_≡_, refl, sym, ap, _∙_, fun-ext}
+use mathlib.Core.Path.{_≡_, sym, ap, _∙_, fun-ext}
 use Prim.Native.Nat.{ℕ, zero, suc, _-_, _<_}
 use native.Mathlib.Omega.{arith}
-use lib.IntN.{ℤ, pos, negsuc}
+use lib.IntN.{pos}
 use Rattle.meaning.specs.Model.{Algebra, Model, Distributive}
 use Rattle.meaning.proofs.Values.{same-op}
-use Rattle.meaning.proofs.Laws.{sums, sum-comm, sum-assoc, sum-swap, sum-zero, zero-sum, product-comm, product-assoc, product-one, one-product, product-zero, zero-product}
-use Rattle.taylor_meaning.specs.Series.{sum, Series, constantSeries, plusSeries, timesSeries}
+use Rattle.meaning.proofs.Laws.{sums, sum-comm, sum-assoc, sum-zero, zero-sum, product-comm, product-assoc, product-zero, zero-product}
+use Rattle.taylor_meaning.specs.Series.{sum, Series, timesSeries}
 use Rattle.taylor_meaning.proofs.Sums.{sum-more, sum-none, sum-same}
 
 module _ {A : Algebra} (M : Model A) where

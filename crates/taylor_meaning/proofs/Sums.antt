@@ -1,12 +1,11 @@
 -- Sums and recurrences: equal terms have equal sums, and a recurrence that looks only below k solves its equation.
 -- Assumes nothing.
-use mathlib.Core.Path.{_≡_, refl, sym, ap, _∙_}
+use mathlib.Core.Path.{_≡_, refl, ap}
 use Prim.Native.Nat.{ℕ, zero, suc, _-_, _<_}
 use native.Mathlib.Omega.{arith}
-use lib.IntN.{pos, negsuc}
-use Rattle.meaning.specs.Model.{Algebra, Model, Distributive}
+use lib.IntN.{pos}
+use Rattle.meaning.specs.Model.{Algebra}
 use Rattle.meaning.proofs.Values.{same-op}
-use Rattle.meaning.proofs.Laws.{sums, products, sum-comm, sum-assoc, sum-swap, sum-zero, zero-sum, product-comm, product-zero, zero-product}
 use Rattle.taylor_meaning.specs.Series.{sum, minus, Series, below, recurrence, overFrom, overStep, expStep, logStep}
 
 module _ (A : Algebra) where

@@ -1,12 +1,12 @@
 -- In every ring that is a model, for all values of the variables: what an accepted operation on expansions answers has the coefficients of the series' operation, and what an accepted expansion of an expression answers has the coefficients of the expression's value in the algebra of series.
 -- Assumes nothing.
-use mathlib.Core.Path.{_≡_, refl, sym, ap, _∙_, subst}
+use mathlib.Core.Path.{_≡_, refl, sym, subst}
 use mathlib.Core.Bool.{Bool, true, false}
-use mathlib.Core.List.{List, [], _∷_}
-use Prim.Native.Nat.{ℕ, zero, suc, _-_, _/_, _^_, _≤_, _<_}
+use mathlib.Core.List.{List}
+use Prim.Native.Nat.{ℕ, zero, suc, _^_, _≤_, _<_}
 use native.Mathlib.Omega.{arith}
 use lib.Dec.{leb, ltb, eqb}
-use lib.IntN.{ℤ, pos, negsuc}
+use lib.IntN.{negsuc}
 use lib.ListN.{length, getD}
 use Rattle.literal.specs.Literal.{isLiteral, signed}
 use Rattle.pool.specs.declared.node.Node.{Node}

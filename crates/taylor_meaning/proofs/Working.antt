@@ -1,23 +1,23 @@
 -- Work on coefficients, and what it gives: one piece after another, a list entry by entry, a fold, and a list that is filled from its own entries.
 -- Assumes nothing.
-use mathlib.Core.Path.{_≡_, refl, sym, ap, _∙_, subst}
+use mathlib.Core.Path.{_≡_, refl, ap, _∙_, subst}
 use mathlib.Core.List.{List, [], _∷_, _++_}
 use Prim.Native.Nat.{ℕ, zero, suc, _+_, _≤_, _<_, min}
 use native.Mathlib.Omega.{arith}
-use lib.IntN.{ℤ, pos, negsuc}
+use lib.IntN.{ℤ, negsuc}
 use lib.ListN.{length, length-append}
 use Rattle.refusals.specs.Refusals.{outOfRange}
 use Rattle.literal.specs.Literal.{isLiteral, folded}
-use Rattle.pool.specs.Pool.{Pool, Out, done, refused, nodeAt}
-use Rattle.constructors.specs.Build.{calls, depth, literal}
+use Rattle.pool.specs.Pool.{Pool, Out, nodeAt}
+use Rattle.constructors.specs.Build.{depth}
 use Rattle.constructor_laws.specs.Grown.{Grown}
 use Rattle.constructor_laws.specs.Keeps.{Keeps}
 use Rattle.constructor_laws.proofs.Growth.{grown-by-nothing, grown-by-both}
-use Rattle.taylor.specs.Work.{Result, gives, refused-work, Work, bind, answered, lit, from, add, mul, div, neg, sub, exp, log, max, at, each, eachTwo, fold, fill}
+use Rattle.taylor.specs.Work.{Result, gives, refused-work, Work, bind, answered, lit, add, mul, div, neg, sub, exp, log, max, at, each, eachTwo, fold, fill}
 use Rattle.meaning.specs.Model.{Algebra, Model}
 use Rattle.meaning.specs.Value.{Values, value}
 use Rattle.meaning.proofs.Values.{same-op, value-kept}
-use Rattle.meaning.proofs.Running.{After, came, ended, after-weaker, literal-after, TwoMean, OneMeans, calls-mean}
+use Rattle.meaning.proofs.Running.{After, came, ended, after-weaker, literal-after, calls-mean}
 use Rattle.taylor_meaning.specs.Series.{Series, minus}
 
 -- ---- pieces of work

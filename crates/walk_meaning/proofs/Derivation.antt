@@ -2,7 +2,7 @@
 -- Assumes nothing.
 use mathlib.Core.Path.{_≡_, refl, sym, ap, _∙_}
 use mathlib.Core.Bool.{Bool, true, false, cond}
-use Prim.Native.Nat.{ℕ, _-_, _≤_, _<_}
+use Prim.Native.Nat.{ℕ, _-_, _<_}
 use native.Mathlib.Omega.{arith}
 use lib.Dec.{eqb}
 use lib.IntN.{ℤ, pos, negsuc}
@@ -11,7 +11,7 @@ use Rattle.literal.specs.Literal.{isLiteral, folded}
 use Rattle.pool.specs.declared.node.Node.{Node}
 use Rattle.pool.specs.declared.node.Node.the-variants.{Empty, Variable, Lit, Add, Mul, Div, Exp, Log, Pow, Max}
 use Rattle.pool.specs.Nodes.{parts}
-use Rattle.pool.specs.Pool.{Pool, Out, done, Run, nodeAt}
+use Rattle.pool.specs.Pool.{Pool, done, Run, nodeAt}
 use Rattle.constructors.specs.Build.{calls, depth, literal}
 use Rattle.constructor_laws.specs.Grown.{Grown}
 use Rattle.constructor_laws.specs.Keeps.{Keeps}
@@ -22,7 +22,7 @@ use Rattle.walks.specs.Derive.{lit, add, mul, div, neg, pow, pick, quotientRule
 use Rattle.meaning.specs.Model.{Algebra, Model, power}
 use Rattle.meaning.specs.Value.{Values, valueNode, value, Means}
 use Rattle.meaning.proofs.Values.{falling, same-op, value-law, value-kept}
-use Rattle.meaning.proofs.Running.{TwoMean, OneMeans, calls-mean, literal-after, after-weaker}
+use Rattle.meaning.proofs.Running.{TwoMean, calls-mean, literal-after, after-weaker}
 use Rattle.meaning.proofs.Theorems.{meant}
 use Rattle.walk_meaning.specs.Slope.{quotientSlope, slopeNode, slope}
 use Rattle.walk_meaning.proofs.Slopes.{slope-law}

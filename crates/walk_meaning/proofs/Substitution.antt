@@ -2,20 +2,19 @@
 -- Assumes nothing.
 use mathlib.Core.Path.{_≡_, refl, sym, ap, _∙_}
 use mathlib.Core.Bool.{Bool, true, false, _&&_, cond, and-eq-true-iff}
-use Prim.Native.Nat.{ℕ, _≤_, _<_}
+use Prim.Native.Nat.{ℕ, _<_}
 use native.Mathlib.Omega.{arith}
 use lib.Dec.{eqb}
 use borrow.Author.Tests.{eqb-true}
 use Rattle.pool.specs.declared.node.Node.{Node}
 use Rattle.pool.specs.declared.node.Node.the-variants.{Empty, Variable, Lit, Add, Mul, Div, Exp, Log, Pow, Max}
 use Rattle.pool.specs.Nodes.{parts}
-use Rattle.pool.specs.Pool.{Pool, Out, done, Run, nodeAt}
-use Rattle.constructors.specs.Build.{calls, depth}
-use Rattle.constructor_laws.specs.Grown.{Grown}
+use Rattle.pool.specs.Pool.{Pool, done, Run, nodeAt}
+use Rattle.constructors.specs.Build.{depth}
 use Rattle.constructor_laws.specs.Keeps.{Keeps}
 use Rattle.constructor_laws.proofs.Growth.{earlier-same}
 use Rattle.constructor_laws.proofs.Rules.{AllBelow, parts-below}
-use Rattle.walks.specs.Walk.{State, Went, Walk, bind, yield, lift}
+use Rattle.walks.specs.Walk.{State, Walk, bind, yield, lift}
 use Rattle.walks.specs.Substitute.{unless, pick, substituteNode, substituteAt, substituteVar}
 use Rattle.meaning.specs.Model.{Algebra, Model, power}
 use Rattle.meaning.specs.Value.{Values, valueNode, value, Means}
@@ -23,7 +22,7 @@ use Rattle.meaning.proofs.Values.{falling, same-op, value-law, value-kept}
 use Rattle.meaning.proofs.Running.{TwoMean, OneMeans, calls-mean, after-weaker}
 use Rattle.meaning.proofs.Theorems.{meant}
 use Rattle.walk_meaning.specs.Setting.{setting}
-use Rattle.walk_meaning.proofs.Walking.{Good, Walked, came-to, ended-walk, walked-next, walked-here, lift-walked, Walks, walk-means}
+use Rattle.walk_meaning.proofs.Walking.{Good, Walked, ended-walk, walked-next, walked-here, lift-walked, Walks, walk-means}
 
 module _ {A : Algebra} (M : Model A) (env : Values A) {P₀ : Pool} (keeps : Keeps P₀) (var given : ℕ) (below : given < P₀ .count) where
   open Algebra A using (carrier)

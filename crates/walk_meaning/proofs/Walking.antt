@@ -1,20 +1,20 @@
 -- A walk that builds gives at each node a node of the value that it should have, if what it does at a node does, and so does every result that it keeps.
 -- Assumes nothing.
-use mathlib.Core.Path.{_≡_, refl, sym, ap, _∙_, subst}
+use mathlib.Core.Path.{_≡_, refl, sym, _∙_, subst}
 use mathlib.Core.Bool.{Bool, true, false}
 use mathlib.Core.List.{List, [], _∷_}
-use Prim.Native.Nat.{ℕ, zero, suc, _≤_, _<_}
+use Prim.Native.Nat.{ℕ, zero, suc, _<_}
 use native.Mathlib.Omega.{arith}
 use lib.Dec.{eqb}
 use lib.ListN.{getD, set, replicate}
 use borrow.Author.Tests.{eqb-true}
-use Rattle.pool.specs.Pool.{Pool, Out, done, refused, Run, limit, nodeAt}
+use Rattle.pool.specs.Pool.{Pool, Out, Run, limit, nodeAt}
 use Rattle.constructor_laws.specs.Grown.{Grown}
-use Rattle.constructor_laws.specs.Keeps.{Keeps, Kept}
+use Rattle.constructor_laws.specs.Keeps.{Keeps}
 use Rattle.constructor_laws.proofs.Growth.{grown-by-nothing, grown-by-both}
 use Rattle.walks.specs.Walk.{State, state, Went, went, refused-walk, Walk, bind, lifted, lift, keep, once, choose, walkBelow, built, walkFrom}
 use Rattle.meaning.specs.Model.{Algebra, Model}
-use Rattle.meaning.specs.Value.{Values, value, Means}
+use Rattle.meaning.specs.Value.{Values, value}
 use Rattle.meaning.proofs.Values.{value-kept}
 use Rattle.meaning.proofs.Running.{After, came, ended}
 
