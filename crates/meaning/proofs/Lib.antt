@@ -1,4 +1,5 @@
 pub mod Laws
+pub mod Recursion
 pub mod Values
 pub mod Terms
 pub mod Tables

@@ -4,7 +4,6 @@ use mathlib.Core.Path.{_≡_, refl, ap, _∙_}
 use mathlib.Core.Bool.{Bool, true, false}
 use mathlib.Core.List.{List, [], _∷_}
 use Prim.Native.Nat.{ℕ, zero, suc, _<_}
-use native.Mathlib.Omega.{arith}
 use lib.Dec.{ltb}
 use borrow.Author.Tests.{ltb-true, ltb-false}
 use Rattle.pool.specs.declared.node.Node.{Node}
@@ -19,6 +18,7 @@ use Rattle.shape.specs.Shape.{has, Reach, root, part}
 use Rattle.shape.proofs.Lists.{here, further}
 use Rattle.meaning.specs.Model.{Algebra, power}
 use Rattle.meaning.specs.Value.{Values, valueNode, valueBelow, value}
+use Rattle.meaning.proofs.Recursion.{recursion-solves}
 
 -- a fact of each number in a list
 abbrev pub Each : (ℕ → Type 0) → List ℕ → Type 0
@@ -67,24 +67,12 @@ module _ (A : Algebra) (env : Values A) where
   node-same f g (Pow a e) h = ap (λ x. power A x e) (h .0)
   node-same f g (Max a b) h = same-op (A .max) (h .0) (h .1 .0)
 
-  -- every bound above the node gives its value
-  bounds-same : (at : ℕ → Node) → Falling at → (k m i : ℕ) → i < k → i < m → valueBelow A env at k i ≡ valueBelow A env at m i
-  unfolding valueBelow
-  bounds-same at f zero m i h l = absurd (none i h)
-    where
-      none : (i : ℕ) → i < 0 → ⊥
-      none i h = omega arith
-  bounds-same at f (suc k) zero i h l = absurd (none i l)
-    where
-      none : (i : ℕ) → i < 0 → ⊥
-      none i h = omega arith
-  bounds-same at f (suc k) (suc m) i h l =
-      node-same (valueBelow A env at k) (valueBelow A env at m) (at i) (each-below (parts (at i)) (f i) (λ a s. bounds-same at f k m a (omega arith) (omega arith)))
-
   -- a node's value, from its parts' values
   pub value-law : (at : ℕ → Node) → Falling at → (i : ℕ) → value A env at i ≡ valueNode A env (value A env at) (at i)
   unfolding value valueBelow
-  value-law at f i = node-same (valueBelow A env at i) (value A env at) (at i) (each-below (parts (at i)) (f i) (λ a s. bounds-same at f i (suc a) a s (omega arith)))
+  value-law at f =
+      recursion-solves (λ v i. valueNode A env v (at i)) (valueBelow A env at) (λ k i. refl)
+      (record { same = λ v w i h. node-same v w (at i) (each-below (parts (at i)) (f i) h) })
 
   -- two tables with the same nodes at all numbers of which C holds, C going on to the parts
   closed-same :

@@ -5,6 +5,7 @@ use Prim.Native.Nat.{ℕ, zero, suc, _-_, _<_}
 use native.Mathlib.Omega.{arith}
 use lib.IntN.{pos}
 use Rattle.meaning.specs.Model.{Algebra}
+use Rattle.meaning.proofs.Recursion.{LooksBelow, recursion-solves}
 use Rattle.meaning.proofs.Values.{same-op}
 use Rattle.taylor_meaning.specs.Series.{sum, minus, Series, below, recurrence, overFrom, overStep, expStep, logStep}
 
@@ -26,43 +27,37 @@ module _ (A : Algebra) where
   sum-same f g zero h = refl
   sum-same f g (suc n) h = same-op _⊕_ (sum-same f g n (λ j l. h j (omega arith))) (h n (omega arith))
 
-  -- coefficient k is had from those below k
-  abbrev pub LooksBelow : (Series A → Series A) → Type 0
-  LooksBelow step = (f g : Series A) (k : ℕ) → ((j : ℕ) → j < k → f j ≡ g j) → step f k ≡ step g k
-
-  bounds-same : (step : Series A → Series A) → LooksBelow step → (n m k : ℕ) → k < n → k < m → below A step n k ≡ below A step m k
-  unfolding below
-  bounds-same step looks zero m k h l = absurd (none k h)
-    where
-      none : (k : ℕ) → k < 0 → ⊥
-      none k h = omega arith
-  bounds-same step looks (suc n) zero k h l = absurd (none k l)
-    where
-      none : (k : ℕ) → k < 0 → ⊥
-      none k h = omega arith
-  bounds-same step looks (suc n) (suc m) k h l = looks (below A step n) (below A step m) k (λ j s. bounds-same step looks n m j (omega arith) (omega arith))
-
+  -- a recurrence that looks only below k solves its equation
   pub recurrence-solves : (step : Series A → Series A) → LooksBelow step → (k : ℕ) → recurrence A step k ≡ step (recurrence A step) k
   unfolding recurrence below
-  recurrence-solves step looks k = looks (below A step k) (recurrence A step) k (λ j s. bounds-same step looks k (suc j) j s (omega arith))
+  recurrence-solves step looks = recursion-solves step (below A step) (λ n k. refl) looks
 
   pub over-looks-below : (u w : Series A) → LooksBelow (overStep A u w)
   unfolding overStep
-  over-looks-below u w f g k h =
-      ap (overFrom A (w 0) (u k)) (sum-same (λ j. f j ⊗ w (k - j)) (λ j. g j ⊗ w (k - j)) k (λ j l. ap (λ x. x ⊗ w (k - j)) (h j l)))
+  over-looks-below u w =
+      record {
+        same = λ f g k h.
+            ap (overFrom A (w 0) (u k)) (sum-same (λ j. f j ⊗ w (k - j)) (λ j. g j ⊗ w (k - j)) k (λ j l. ap (λ x. x ⊗ w (k - j)) (h j l)));
+      }
 
   pub exp-looks-below : (u : Series A) → LooksBelow (expStep A u)
   unfolding expStep
-  exp-looks-below u f g zero h = refl
-  exp-looks-below u f g (suc k) h =
-      ap (λ x. x ⊘ int (pos (suc k)))
-      (sum-same (λ i. f (k - i) ⊗ (int (pos (suc i)) ⊗ u (suc i))) (λ i. g (k - i) ⊗ (int (pos (suc i)) ⊗ u (suc i))) (suc k)
-      (λ i l. ap (λ x. x ⊗ (int (pos (suc i)) ⊗ u (suc i))) (h (k - i) (omega arith))))
+  exp-looks-below u = record { same = go }
+    where
+      go : (f g : Series A) (k : ℕ) → ((j : ℕ) → j < k → f j ≡ g j) → expStep A u f k ≡ expStep A u g k
+      go f g zero h = refl
+      go f g (suc k) h =
+          ap (λ x. x ⊘ int (pos (suc k)))
+          (sum-same (λ i. f (k - i) ⊗ (int (pos (suc i)) ⊗ u (suc i))) (λ i. g (k - i) ⊗ (int (pos (suc i)) ⊗ u (suc i))) (suc k)
+          (λ i l. ap (λ x. x ⊗ (int (pos (suc i)) ⊗ u (suc i))) (h (k - i) (omega arith))))
 
   pub log-looks-below : (u : Series A) → LooksBelow (logStep A u)
   unfolding logStep
-  log-looks-below u f g zero h = refl
-  log-looks-below u f g (suc k) h =
-      ap (λ x. minus A (int (pos (suc k)) ⊗ u (suc k)) x ⊘ u 0 ⊘ int (pos (suc k)))
-      (sum-same (λ i. u (k - i) ⊗ (int (pos (suc i)) ⊗ f (suc i))) (λ i. u (k - i) ⊗ (int (pos (suc i)) ⊗ g (suc i))) k
-      (λ i l. ap (λ x. u (k - i) ⊗ (int (pos (suc i)) ⊗ x)) (h (suc i) (omega arith))))
+  log-looks-below u = record { same = go }
+    where
+      go : (f g : Series A) (k : ℕ) → ((j : ℕ) → j < k → f j ≡ g j) → logStep A u f k ≡ logStep A u g k
+      go f g zero h = refl
+      go f g (suc k) h =
+          ap (λ x. minus A (int (pos (suc k)) ⊗ u (suc k)) x ⊘ u 0 ⊘ int (pos (suc k)))
+          (sum-same (λ i. u (k - i) ⊗ (int (pos (suc i)) ⊗ f (suc i))) (λ i. u (k - i) ⊗ (int (pos (suc i)) ⊗ g (suc i))) k
+          (λ i l. ap (λ x. u (k - i) ⊗ (int (pos (suc i)) ⊗ x)) (h (suc i) (omega arith))))

@@ -2,10 +2,9 @@
 -- Assumes nothing.
 use mathlib.Core.Path.{_≡_, refl, sym, subst}
 use mathlib.Core.Bool.{Bool, true, false}
-use mathlib.Core.List.{List, [], _∷_}
 use Prim.Native.Nat.{ℕ, zero, suc}
 use lib.Dec.{eqb}
-use lib.ListN.{getD, set, replicate}
+use lib.ListN.{getD, replicate}
 use borrow.Author.Tests.{eqb-true}
 use Rattle.pool.specs.Pool.{Pool, limit}
 use Rattle.constructor_laws.specs.Grown.{Grown}
@@ -16,17 +15,10 @@ use Rattle.taylor.specs.Expansion.{Expansion}
 use Rattle.taylor.specs.Expand.{Kept, nothing, kept, State, state, Went, went, refused-walk, Walk, Point, bind, lifted, lift, keep, once, choose, expandAt, expandBelow, expanded, expand}
 use Rattle.meaning.specs.Model.{Algebra, Model}
 use Rattle.meaning.specs.Value.{Values}
+use Rattle.walk_meaning.proofs.Walking.{set-entry}
 use Rattle.taylor_meaning.specs.Series.{Series}
 use Rattle.taylor_meaning.proofs.Working.{Gives, gave, ended-work}
 use Rattle.taylor_meaning.proofs.Operations.{Expands, expands-later}
-
--- a fact of each entry of a list still holds when one entry is set
-set-entry : (H : ℕ → Kept → Type 0) (l : List Kept) (i : ℕ) (v : Kept) → H i v → ((j : ℕ) → H j (getD l j nothing)) → (j : ℕ) → H j (getD (set l i v) j nothing)
-set-entry H [] i v h all j = all j
-set-entry H (x ∷ l) zero v h all zero = h
-set-entry H (x ∷ l) zero v h all (suc j) = all (suc j)
-set-entry H (x ∷ l) (suc i) v h all zero = all zero
-set-entry H (x ∷ l) (suc i) v h all (suc j) = set-entry (λ k. H (suc k)) l i v h (λ k. all (suc k)) j
 
 module _ {A : Algebra} (M : Model A) (env : Values A) (P₀ : Pool) (n : ℕ) (goal : ℕ → Series A) where
   -- a result that is kept for node j: none, or an expansion of the series that j should have
@@ -80,7 +72,7 @@ module _ {A : Algebra} (M : Model A) (env : Values A) (P₀ : Pool) (n : ℕ) (g
   keep-walked : {S : State} {e : Expansion} (i : ℕ) → Good S → Expands M env n (goal i) (S .pool) e → Walked S (goal i) (keep i e S)
   keep-walked {S} {e} i good h =
       came-to
-      (record { keeps = good .keeps; grown = good .grown; results = set-entry (Kept-for (S .pool)) (S .results) i (kept e) h (good .results) })
+      (record { keeps = good .keeps; grown = good .grown; results = set-entry nothing (Kept-for (S .pool)) (S .results) i (kept e) h (good .results) })
       (grown-by-nothing (S .pool))
       h
 

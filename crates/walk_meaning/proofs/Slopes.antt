@@ -1,14 +1,14 @@
 -- The slope of a node is had from the values and the slopes of its parts.
 -- Assumes nothing.
 use mathlib.Core.Path.{_≡_, refl, ap}
-use Prim.Native.Nat.{ℕ, zero, suc, _-_, _<_}
-use native.Mathlib.Omega.{arith}
+use Prim.Native.Nat.{ℕ, _-_}
 use lib.IntN.{pos}
 use Rattle.pool.specs.declared.node.Node.{Node}
 use Rattle.pool.specs.declared.node.Node.the-variants.{Empty, Variable, Lit, Add, Mul, Div, Exp, Log, Pow, Max}
 use Rattle.pool.specs.Nodes.{parts}
 use Rattle.meaning.specs.Model.{Algebra, power}
 use Rattle.meaning.specs.Value.{Values, value}
+use Rattle.meaning.proofs.Recursion.{recursion-solves}
 use Rattle.meaning.proofs.Values.{Each, each-below, same-op, Falling}
 use Rattle.walk_meaning.specs.Slope.{quotientSlope, slopeNode, slopeBelow, slope}
 
@@ -28,20 +28,8 @@ module _ (A : Algebra) (env : Values A) (var : ℕ) where
   slope-same v d e (Pow a n) h = ap (λ x. A .times (A .times (int (pos n)) x) (power A (v a) (n - 1))) (h .0)
   slope-same v d e (Max a b) h = refl
 
-  bounds-same : (at : ℕ → Node) → Falling at → (k m i : ℕ) → i < k → i < m → slopeBelow A env var at k i ≡ slopeBelow A env var at m i
-  unfolding slopeBelow
-  bounds-same at f zero m i h l = absurd (none i h)
-    where
-      none : (i : ℕ) → i < 0 → ⊥
-      none i h = omega arith
-  bounds-same at f (suc k) zero i h l = absurd (none i l)
-    where
-      none : (i : ℕ) → i < 0 → ⊥
-      none i h = omega arith
-  bounds-same at f (suc k) (suc m) i h l =
-      slope-same (value A env at) (slopeBelow A env var at k) (slopeBelow A env var at m) (at i) (each-below (parts (at i)) (f i) (λ a s. bounds-same at f k m a (omega arith) (omega arith)))
-
   pub slope-law : (at : ℕ → Node) → Falling at → (i : ℕ) → slope A env var at i ≡ slopeNode A env var (value A env at) (slope A env var at) (at i)
   unfolding slope slopeBelow
-  slope-law at f i =
-      slope-same (value A env at) (slopeBelow A env var at i) (slope A env var at) (at i) (each-below (parts (at i)) (f i) (λ a s. bounds-same at f i (suc a) a s (omega arith)))
+  slope-law at f =
+      recursion-solves (λ d i. slopeNode A env var (value A env at) d (at i)) (slopeBelow A env var at) (λ k i. refl)
+      (record { same = λ d e i h. slope-same (value A env at) d e (at i) (each-below (parts (at i)) (f i) h) })

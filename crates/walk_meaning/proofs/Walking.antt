@@ -19,12 +19,12 @@ use Rattle.meaning.proofs.Values.{value-kept}
 use Rattle.meaning.proofs.Running.{After, came, ended}
 
 -- a fact of each entry of a list still holds when one entry is set
-set-entry : (H : ℕ → ℕ → Type 0) (l : List ℕ) (i v : ℕ) → H i v → ((j : ℕ) → H j (getD l j 0)) → (j : ℕ) → H j (getD (set l i v) j 0)
-set-entry H [] i v h all j = all j
-set-entry H (x ∷ l) zero v h all zero = h
-set-entry H (x ∷ l) zero v h all (suc j) = all (suc j)
-set-entry H (x ∷ l) (suc i) v h all zero = all zero
-set-entry H (x ∷ l) (suc i) v h all (suc j) = set-entry (λ k. H (suc k)) l i v h (λ k. all (suc k)) j
+pub set-entry : {B : Type 0} (other : B) (H : ℕ → B → Type 0) (l : List B) (i : ℕ) (v : B) → H i v → ((j : ℕ) → H j (getD l j other)) → (j : ℕ) → H j (getD (set l i v) j other)
+set-entry other H [] i v h all j = all j
+set-entry other H (x ∷ l) zero v h all zero = h
+set-entry other H (x ∷ l) zero v h all (suc j) = all (suc j)
+set-entry other H (x ∷ l) (suc i) v h all zero = all zero
+set-entry other H (x ∷ l) (suc i) v h all (suc j) = set-entry other (λ k. H (suc k)) l i v h (λ k. all (suc k)) j
 
 module _ {A : Algebra} (M : Model A) (env : Values A) where
   open Algebra A using (carrier)
@@ -87,7 +87,7 @@ module _ {A : Algebra} (M : Model A) (env : Values A) where
     keep-walked : {S : State} (i r : ℕ) → Good S → r < S .pool .count → val (S .pool) r ≡ goal i → Walked S (goal i) (keep i r S)
     keep-walked {S} i r good l e =
         came-to
-        (record { keeps = good .keeps; grown = good .grown; results = set-entry (Kept-for (S .pool)) (S .kept) i (suc r) (l, e) (good .results) })
+        (record { keeps = good .keeps; grown = good .grown; results = set-entry 0 (Kept-for (S .pool)) (S .kept) i (suc r) (l, e) (good .results) })
         (grown-by-nothing (S .pool))
         l
         e
