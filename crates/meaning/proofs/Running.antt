@@ -45,6 +45,14 @@ module _ {A : Algebra} (M : Model A) (env : Values A) where
   abbrev val : Pool → ℕ → carrier
   val P i = value A env (nodeAt P) i
 
+  -- node i has the value x
+  pub record Has (P : Pool) (i : ℕ) (x : carrier) : Type 0 where
+    pub below : i < P .count
+    pub is : val P i ≡ x
+
+  pub has-later : {P Q : Pool} {i : ℕ} {x : carrier} → Keeps P → Grown P Q → Has P i x → Has Q i x
+  has-later {P} {Q} {i} k g h = let l = h .below in record { below = omega (arith, g .no-fewer); is = value-kept A env k g i (h .below) ∙ h .is }
+
   -- ---- pieces of work
 
   -- work on P that was refused, or came to a node by the rules, of whose value S holds

@@ -13,10 +13,11 @@ use Rattle.meaning.specs.Model.{Algebra, Model}
 use Rattle.meaning.specs.Value.{Values}
 use Rattle.meaning.proofs.Values.{same-op}
 use Rattle.meaning.proofs.Laws.{product-comm, product-assoc, product-zero, zero-product}
+use Rattle.meaning.proofs.Running.{Has, has-later}
 use Rattle.taylor_meaning.specs.Series.{minus, sum, Series, recurrence, expStep, logStep}
 use Rattle.taylor_meaning.proofs.Sums.{sum-more, sum-none, recurrence-solves, exp-looks-below, log-looks-below}
 use Rattle.taylor_meaning.proofs.SeriesRing.{sum-zeros}
-use Rattle.taylor_meaning.proofs.Working.{Gives, gives-next, Has, Is, has-later, has-same, is-same, lit-gives, add-gives, mul-gives, div-gives, exp-gives, log-gives, sub-gives, Shows, shows-later, shows-none, shows-cons, fold-gives, fill-gives}
+use Rattle.taylor_meaning.proofs.Working.{Gives, gives-next, Is, has-same, is-same, lit-gives, add-gives, mul-gives, div-gives, exp-gives, log-gives, sub-gives, Shows, shows-later, shows-none, shows-cons, fold-gives, fill-gives}
 use Rattle.taylor_meaning.proofs.Operations.{Expands, constant, list, constant-gives, list-gives, minus-zero}
 
 module _ {A : Algebra} (M : Model A) (env : Values A) where

@@ -18,10 +18,10 @@ use Rattle.taylor.specs.Expand as walk
 use Rattle.meaning.specs.Model.{Algebra, Model, Distributive}
 use Rattle.meaning.specs.Value.{Values, valueNode, value}
 use Rattle.meaning.proofs.Values.{Each, falling, value-law, value-kept}
-use Rattle.meaning.proofs.Running.{append-after}
+use Rattle.meaning.proofs.Running.{Has, append-after}
 use Rattle.taylor_meaning.specs.Series.{Series, constantSeries, shifted, series, Fractions}
 use Rattle.taylor_meaning.specs.Coefficients.{base, asSeries}
-use Rattle.taylor_meaning.proofs.Working.{Gives, gives-next, Has, Is, lit-gives, answered-gives}
+use Rattle.taylor_meaning.proofs.Working.{Gives, gives-next, Is, lit-gives, answered-gives}
 use Rattle.taylor_meaning.proofs.Operations.{Expands, constant, expands-later, var-gives, add-to-gives, times-gives}
 use Rattle.taylor_meaning.proofs.Elementary.{exponential-gives, logarithm-gives}
 use Rattle.taylor_meaning.proofs.Quotients.{quotient-gives}

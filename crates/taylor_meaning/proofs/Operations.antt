@@ -15,10 +15,11 @@ use Rattle.meaning.specs.Model.{Algebra, Model}
 use Rattle.meaning.specs.Value.{Values}
 use Rattle.meaning.proofs.Values.{same-op}
 use Rattle.meaning.proofs.Laws.{sum-comm, sum-zero, zero-sum, product-comm, product-zero}
+use Rattle.meaning.proofs.Running.{Has, has-later}
 use Rattle.taylor_meaning.specs.Series.{minus, sum, Series, shifted, plusSeries, timesSeries}
 use Rattle.taylor_meaning.proofs.Sums.{sum-more, sum-none}
 use Rattle.taylor_meaning.proofs.SeriesRing.{times-constant, constant-times}
-use Rattle.taylor_meaning.proofs.Working.{Gives, gives-weaker, gives-here, gives-next, Has, Is, has-later, has-same, is-same, lit-gives, add-gives, mul-gives, neg-gives, sub-gives, Shows, shows-later, shows-none, shows-cons, ShowsLong, each-gives, each-two-gives, fold-gives, fill-gives}
+use Rattle.taylor_meaning.proofs.Working.{Gives, gives-weaker, gives-here, gives-next, Is, has-same, is-same, lit-gives, add-gives, mul-gives, neg-gives, sub-gives, Shows, shows-later, shows-none, shows-cons, ShowsLong, each-gives, each-two-gives, fold-gives, fill-gives}
 
 module _ {A : Algebra} (M : Model A) (env : Values A) where
   open Algebra A using (carrier, int, plus as _⊕_, times as _⊗_, over as _⊘_, exp, log)

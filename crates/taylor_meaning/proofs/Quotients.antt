@@ -13,10 +13,11 @@ use Rattle.taylor.specs.Expansion.{Expansion, Polynomial, quotientAt, quotient}
 use Rattle.meaning.specs.Model.{Algebra, Model, Distributive}
 use Rattle.meaning.specs.Value.{Values}
 use Rattle.meaning.proofs.Laws.{sum-assoc, product-comm, product-zero}
+use Rattle.meaning.proofs.Running.{Has, has-later}
 use Rattle.taylor_meaning.specs.Series.{minus, sum, Series, recurrence, overStep, Fractions}
 use Rattle.taylor_meaning.proofs.Sums.{sum-more, sum-none, recurrence-solves, over-looks-below}
 use Rattle.taylor_meaning.proofs.SeriesRing.{sum-zeros}
-use Rattle.taylor_meaning.proofs.Working.{Gives, gives-weaker, gives-next, Has, Is, has-later, has-same, is-same, lit-gives, mul-gives, div-gives, sub-gives, Shows, shows-later, shows-none, shows-cons, each-gives, fold-gives, fill-gives}
+use Rattle.taylor_meaning.proofs.Working.{Gives, gives-weaker, gives-next, Is, has-same, is-same, lit-gives, mul-gives, div-gives, sub-gives, Shows, shows-later, shows-none, shows-cons, each-gives, fold-gives, fill-gives}
 use Rattle.taylor_meaning.proofs.Operations.{Expands, constant, list, expands-same, constant-gives, list-gives, minus-zero}
 
 module _ {A : Algebra} (M : Model A) (D : Distributive A) (env : Values A) (u w : Series A) where

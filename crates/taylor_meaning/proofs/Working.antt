@@ -16,8 +16,8 @@ use Rattle.constructor_laws.proofs.Growth.{grown-by-nothing, grown-by-both}
 use Rattle.taylor.specs.Work.{Result, gives, refused-work, Work, bind, answered, lit, add, mul, div, neg, sub, exp, log, max, at, each, eachTwo, fold, fill}
 use Rattle.meaning.specs.Model.{Algebra, Model}
 use Rattle.meaning.specs.Value.{Values, value}
-use Rattle.meaning.proofs.Values.{same-op, value-kept}
-use Rattle.meaning.proofs.Running.{After, came, ended, after-weaker, literal-after, calls-mean}
+use Rattle.meaning.proofs.Values.{same-op}
+use Rattle.meaning.proofs.Running.{Has, has-later, After, came, ended, after-weaker, literal-after, calls-mean}
 use Rattle.taylor_meaning.specs.Series.{Series, minus}
 
 -- ---- pieces of work
@@ -62,18 +62,10 @@ module _ {A : Algebra} (M : Model A) (env : Values A) where
   abbrev pub val : Pool → ℕ → carrier
   val P i = value A env (nodeAt P) i
 
-  -- node i has the value x
-  pub record Has (P : Pool) (i : ℕ) (x : carrier) : Type 0 where
-    pub below : i < P .count
-    pub is : val P i ≡ x
-
   abbrev pub Is : carrier → Pool → ℕ → Type 0
-  Is x Q i = Has Q i x
+  Is x Q i = Has M env Q i x
 
-  pub has-later : {P Q : Pool} {i : ℕ} {x : carrier} → Keeps P → Grown P Q → Has P i x → Has Q i x
-  has-later {P} {Q} {i} k g h = let l = h .below in record { below = omega (arith, g .no-fewer); is = value-kept A env k g i (h .below) ∙ h .is }
-
-  pub has-same : {P : Pool} {i : ℕ} {x y : carrier} → x ≡ y → Has P i x → Has P i y
+  pub has-same : {P : Pool} {i : ℕ} {x y : carrier} → x ≡ y → Has M env P i x → Has M env P i y
   has-same e h = record { below = h .below; is = h .is ∙ e }
 
   -- with another name for the value
@@ -89,7 +81,7 @@ module _ {A : Algebra} (M : Model A) (env : Values A) where
     unfolding folded
     lit-gives z = answered-gives (after-weaker M env (λ y e. e .1) (literal-after M env k (isLiteral z) z outOfRange (λ t. t)))
 
-    module _ {a b : ℕ} {x y : carrier} (ha : Has P a x) (hb : Has P b y) where
+    module _ {a b : ℕ} {x y : carrier} (ha : Has M env P a x) (hb : Has M env P b y) where
       pub add-gives : Gives P (Is (x ⊕ y)) (add a b P)
       add-gives = answered-gives (after-weaker M env (λ v e. e ∙ same-op _⊕_ (ha .is) (hb .is)) (calls-mean M env depth .add-at P k a b (ha .below) (hb .below)))
 
@@ -102,7 +94,7 @@ module _ {A : Algebra} (M : Model A) (env : Values A) where
       pub max-gives : Gives P (Is (A .max x y)) (max a b P)
       max-gives = answered-gives (after-weaker M env (λ v e. e ∙ same-op (A .max) (ha .is) (hb .is)) (calls-mean M env depth .max-at P k a b (ha .below) (hb .below)))
 
-    module _ {a : ℕ} {x : carrier} (ha : Has P a x) where
+    module _ {a : ℕ} {x : carrier} (ha : Has M env P a x) where
       pub neg-gives : Gives P (Is (int (negsuc 0) ⊗ x)) (neg a P)
       neg-gives = answered-gives (after-weaker M env (λ v e. e ∙ ap (A .times (int (negsuc 0))) (ha .is)) (calls-mean M env depth .neg-at P k a (ha .below)))
 
@@ -113,17 +105,17 @@ module _ {A : Algebra} (M : Model A) (env : Values A) where
       log-gives = answered-gives (after-weaker M env (λ v e. e ∙ ap (A .log) (ha .is)) (calls-mean M env depth .log-at P k a (ha .below)))
 
   -- self + (-rhs)
-  pub sub-gives : {P : Pool} {a b : ℕ} {x y : carrier} → Keeps P → Has P a x → Has P b y → Gives P (Is (minus A x y)) (sub a b P)
-  sub-gives k ha hb = gives-next (neg-gives k hb) (λ n Q kQ g hn. add-gives kQ (has-later k g ha) hn)
+  pub sub-gives : {P : Pool} {a b : ℕ} {x y : carrier} → Keeps P → Has M env P a x → Has M env P b y → Gives P (Is (minus A x y)) (sub a b P)
+  sub-gives k ha hb = gives-next (neg-gives k hb) (λ n Q kQ g hn. add-gives kQ (has-later M env k g ha) hn)
 
   -- ---- lists
 
   -- the entries of a list have the values of a series
   pub record Shows (f : Series A) (P : Pool) (cs : List ℕ) : Type 0 where
-    pub entry : (k : ℕ) → k < length cs → Has P (at cs k) (f k)
+    pub entry : (k : ℕ) → k < length cs → Has M env P (at cs k) (f k)
 
   pub shows-later : {P Q : Pool} {f : Series A} {cs : List ℕ} → Keeps P → Grown P Q → Shows f P cs → Shows f Q cs
-  shows-later k g h = record { entry = λ j l. has-later k g (h .entry j l) }
+  shows-later k g h = record { entry = λ j l. has-later M env k g (h .entry j l) }
 
   pub shows-none : {P : Pool} {f : Series A} → Shows f P []
   shows-none {P} {f} = record { entry = λ j l. absurd (never j l) }
@@ -131,10 +123,10 @@ module _ {A : Algebra} (M : Model A) (env : Values A) where
       never : (j : ℕ) → j < 0 → ⊥
       never j l = omega arith
 
-  pub shows-cons : {P : Pool} {f : Series A} {c : ℕ} {cs : List ℕ} → Has P c (f 0) → Shows (λ k. f (suc k)) P cs → Shows f P (c ∷ cs)
+  pub shows-cons : {P : Pool} {f : Series A} {c : ℕ} {cs : List ℕ} → Has M env P c (f 0) → Shows (λ k. f (suc k)) P cs → Shows f P (c ∷ cs)
   shows-cons {P} {f} {c} {cs} h t = record { entry = go }
     where
-      go : (k : ℕ) → k < length (c ∷ cs) → Has P (at (c ∷ cs) k) (f k)
+      go : (k : ℕ) → k < length (c ∷ cs) → Has M env P (at (c ∷ cs) k) (f k)
       go zero l = h
       go (suc k) l = t .entry k (omega arith)
 
@@ -150,7 +142,7 @@ module _ {A : Algebra} (M : Model A) (env : Values A) where
       {op : ℕ → Work ℕ} (g : carrier → carrier) (f : Series A) (cs : List ℕ) (P : Pool)
       → Keeps P
       → Shows f P cs
-      → ((Q : Pool) (a : ℕ) (x : carrier) → Keeps Q → Grown P Q → Has Q a x → Gives Q (Is (g x)) (op a Q))
+      → ((Q : Pool) (a : ℕ) (x : carrier) → Keeps Q → Grown P Q → Has M env Q a x → Gives Q (Is (g x)) (op a Q))
       → Gives P (ShowsLong (λ k. g (f k)) (length cs)) (each op cs P)
   unfolding each
   each-gives g f [] P k h op = gives-here k (shows-none, refl)
@@ -158,7 +150,7 @@ module _ {A : Algebra} (M : Model A) (env : Values A) where
       gives-next (op P c (f 0) k (grown-by-nothing P) (h .entry 0 (omega arith))) (λ r Q kQ gQ hr.
       gives-next
       (each-gives g (λ j. f (suc j)) cs Q kQ (shows-later k gQ (shows-rest h)) (λ R a x kR gR ha. op R a x kR (grown-by-both gQ gR) ha)) (λ rs R kR gR hrs.
-      gives-here kR (shows-cons (has-later kQ gR hr) (hrs .0), ap suc (hrs .1))))
+      gives-here kR (shows-cons (has-later M env kQ gR hr) (hrs .0), ap suc (hrs .1))))
 
   -- for the entries of two lists side by side
   pub each-two-gives :
@@ -166,7 +158,7 @@ module _ {A : Algebra} (M : Model A) (env : Values A) where
       → Keeps P
       → Shows u P us
       → Shows w P ws
-      → ((Q : Pool) (a b : ℕ) (x y : carrier) → Keeps Q → Grown P Q → Has Q a x → Has Q b y → Gives Q (Is (g x y)) (op a b Q))
+      → ((Q : Pool) (a b : ℕ) (x y : carrier) → Keeps Q → Grown P Q → Has M env Q a x → Has M env Q b y → Gives Q (Is (g x y)) (op a b Q))
       → Gives P (ShowsLong (λ k. g (u k) (w k)) (min (length us) (length ws))) (eachTwo op us ws P)
   unfolding eachTwo
   each-two-gives g u w [] ws P k hu hw op = gives-here k (shows-none, omega arith)
@@ -178,7 +170,7 @@ module _ {A : Algebra} (M : Model A) (env : Values A) where
       (shows-later k gQ (shows-rest hu))
       (shows-later k gQ (shows-rest hw))
       (λ R c d x y kR gR hc hd. op R c d x y kR (grown-by-both gQ gR) hc hd)) (λ rs R kR gR hrs.
-      gives-here kR (shows-cons (has-later kQ gR hr) (hrs .0), next-min (length us) (length ws) (hrs .1))))
+      gives-here kR (shows-cons (has-later M env kQ gR hr) (hrs .0), next-min (length us) (length ws) (hrs .1))))
     where
       next-min : (m n : ℕ) {k : ℕ} → k ≡ min m n → suc k ≡ min (suc m) (suc n)
       next-min m n e = omega arith
@@ -187,8 +179,8 @@ module _ {A : Algebra} (M : Model A) (env : Values A) where
   pub fold-gives :
       {f : ℕ → ℕ → Work ℕ} (s : ℕ → carrier) (first todo acc : ℕ) (P : Pool)
       → Keeps P
-      → Has P acc (s first)
-      → ((Q : Pool) (a j : ℕ) → Keeps Q → Grown P Q → first ≤ j → j < first + todo → Has Q a (s j) → Gives Q (Is (s (suc j))) (f a j Q))
+      → Has M env P acc (s first)
+      → ((Q : Pool) (a j : ℕ) → Keeps Q → Grown P Q → first ≤ j → j < first + todo → Has M env Q a (s j) → Gives Q (Is (s (suc j))) (f a j Q))
       → Gives P (Is (s (first + todo))) (fold f first todo acc P)
   unfolding fold
   fold-gives s first zero acc P k h step = is-same (ap s (plus-none first)) (gives-here k h)
@@ -205,7 +197,7 @@ module _ {A : Algebra} (M : Model A) (env : Values A) where
 
   -- ---- a list that is filled from its own entries
 
-  shows-append : {P : Pool} (f : Series A) (cs : List ℕ) {c : ℕ} → Shows f P cs → Has P c (f (length cs)) → Shows f P (cs ++ (c ∷ []))
+  shows-append : {P : Pool} (f : Series A) (cs : List ℕ) {c : ℕ} → Shows f P cs → Has M env P c (f (length cs)) → Shows f P (cs ++ (c ∷ []))
   shows-append f [] h last = shows-cons last shows-none
   shows-append f (x ∷ cs) h last = shows-cons (h .entry 0 (omega arith)) (shows-append (λ k. f (suc k)) cs (shows-rest h) last)
 

@@ -22,7 +22,7 @@ use Rattle.walks.specs.Derive.{lit, add, mul, div, neg, pow, pick, quotientRule
 use Rattle.meaning.specs.Model.{Algebra, Model, power}
 use Rattle.meaning.specs.Value.{Values, valueNode, value, Means}
 use Rattle.meaning.proofs.Values.{falling, same-op, value-law, value-kept}
-use Rattle.meaning.proofs.Running.{TwoMean, calls-mean, literal-after, after-weaker}
+use Rattle.meaning.proofs.Running.{Has, has-later, TwoMean, calls-mean, literal-after, after-weaker}
 use Rattle.meaning.proofs.Theorems.{meant}
 use Rattle.walk_meaning.specs.Slope.{quotientSlope, slopeNode, slope}
 use Rattle.walk_meaning.proofs.Slopes.{slope-law}
@@ -45,20 +45,12 @@ module _ {A : Algebra} (M : Model A) (env : Values A) {P₀ : Pool} (keeps : Kee
   abbrev Gives : State → carrier → Went → Type 0
   Gives = Walked M env P₀ goal
 
-  -- node i has the value x
-  record Has (S : State) (i : ℕ) (x : carrier) : Type 0 where
-    below : i < S .pool .count
-    is : val (S .pool) i ≡ x
-
-  has-later : {S T : State} {i : ℕ} {x : carrier} → Fit S → Grown (S .pool) (T .pool) → Has S i x → Has T i x
-  has-later {S} {T} {i} good g h = let l = h .below in record { below = omega (arith, g .no-fewer); is = value-kept A env (good .keeps) g i (h .below) ∙ h .is }
-
   -- a node of the first pool
-  has-first : {S : State} → Fit S → (i : ℕ) → i < P₀ .count → Has S i (val P₀ i)
+  has-first : {S : State} → Fit S → (i : ℕ) → i < P₀ .count → Has M env (S .pool) i (val P₀ i)
   has-first good i h = record { below = omega (arith, good .grown .no-fewer); is = value-kept A env keeps (good .grown) i h }
 
   next :
-      {S : State} {x y : carrier} {w : Went} {more : ℕ → Walk} → Gives S x w → ((r : ℕ) (T : State) → Fit T → Grown (S .pool) (T .pool) → Has T r x → Gives T y (more r T)) → Gives S y (bind w more)
+      {S : State} {x y : carrier} {w : Went} {more : ℕ → Walk} → Gives S x w → ((r : ℕ) (T : State) → Fit T → Grown (S .pool) (T .pool) → Has M env (T .pool) r x → Gives T y (more r T)) → Gives S y (bind w more)
   next w go = walked-next M env P₀ goal w (λ r T good g l e. go r T good g (record { below = l; is = e }))
 
   -- ---- the operators
@@ -68,7 +60,7 @@ module _ {A : Algebra} (M : Model A) (env : Values A) {P₀ : Pool} (keeps : Kee
     unfolding folded
     lit-gives z = lift-walked M env P₀ goal (literal (folded z)) good (after-weaker M env (λ y e. e .1) (literal-after M env (good .keeps) (isLiteral z) z outOfRange (λ t. t)))
 
-    module _ {a b : ℕ} {x y : carrier} (ha : Has S a x) (hb : Has S b y) where
+    module _ {a b : ℕ} {x y : carrier} (ha : Has M env (S .pool) a x) (hb : Has M env (S .pool) b y) where
       two-gives : {make : ℕ → ℕ → Run} (op : carrier → carrier → carrier) → TwoMean M env make op → Gives S (op x y) (lift (make a b) S)
       two-gives {make} op means =
           lift-walked M env P₀ goal (make a b) good (after-weaker M env (λ v e. e ∙ same-op op (ha .is) (hb .is)) (means (S .pool) (good .keeps) a b (ha .below) (hb .below)))
@@ -82,7 +74,7 @@ module _ {A : Algebra} (M : Model A) (env : Values A) {P₀ : Pool} (keeps : Kee
       div-gives : Gives S (x ⊘ y) (div a b S)
       div-gives = two-gives (A .over) (calls-mean M env depth .div-at)
 
-    module _ {a : ℕ} {x : carrier} (ha : Has S a x) where
+    module _ {a : ℕ} {x : carrier} (ha : Has M env (S .pool) a x) where
       neg-gives : Gives S (int (negsuc 0) ⊗ x) (neg a S)
       neg-gives = lift-walked M env P₀ goal (calls depth .neg-at a) good (after-weaker M env (λ v e. e ∙ ap (A .times (int (negsuc 0))) (ha .is)) (calls-mean M env depth .neg-at (S .pool) (good .keeps) a (ha .below)))
 
@@ -90,30 +82,30 @@ module _ {A : Algebra} (M : Model A) (env : Values A) {P₀ : Pool} (keeps : Kee
       pow-gives n = lift-walked M env P₀ goal (calls depth .pow-at a n) good (after-weaker M env (λ v e. e ∙ ap (λ x. power A x n) (ha .is)) (calls-mean M env depth .pow-at n (S .pool) (good .keeps) a (ha .below)))
 
   -- a × db + b × da
-  product-gives : {S : State} {a b da db : ℕ} {x y x′ y′ : carrier} → Fit S → Has S a x → Has S b y → Has S da x′ → Has S db y′ → Gives S (x ⊗ y′ ⊕ y ⊗ x′) (bind (mul a db S) (λ p T. bind (mul b da T) (λ q. add p q)))
+  product-gives : {S : State} {a b da db : ℕ} {x y x′ y′ : carrier} → Fit S → Has M env (S .pool) a x → Has M env (S .pool) b y → Has M env (S .pool) da x′ → Has M env (S .pool) db y′ → Gives S (x ⊗ y′ ⊕ y ⊗ x′) (bind (mul a db S) (λ p T. bind (mul b da T) (λ q. add p q)))
   product-gives good ha hb hda hdb =
       next (mul-gives good ha hdb) (λ p T good-T gT hp.
-      next (mul-gives good-T (has-later good gT hb) (has-later good gT hda)) (λ q U good-U gU hq.
-      add-gives good-U (has-later good-T gU hp) hq))
+      next (mul-gives good-T (has-later M env (good .keeps) gT hb) (has-later M env (good .keeps) gT hda)) (λ q U good-U gU hq.
+      add-gives good-U (has-later M env (good-T .keeps) gU hp) hq))
 
   -- (a × db - b × da) / b^2
-  quotient-gives : {S : State} {a b da db : ℕ} {x y x′ y′ : carrier} → Fit S → Has S a x → Has S b y → Has S da x′ → Has S db y′ → Gives S (quotientSlope A env var x y x′ y′) (quotientRule a b da db S)
+  quotient-gives : {S : State} {a b da db : ℕ} {x y x′ y′ : carrier} → Fit S → Has M env (S .pool) a x → Has M env (S .pool) b y → Has M env (S .pool) da x′ → Has M env (S .pool) db y′ → Gives S (quotientSlope A env var x y x′ y′) (quotientRule a b da db S)
   quotient-gives good ha hb hda hdb =
       next (mul-gives good ha hdb) (λ p T good-T gT hp.
-      next (mul-gives good-T (has-later good gT hb) (has-later good gT hda)) (λ q U good-U gU hq.
-      next (pow-gives good-U (has-later good-T gU (has-later good gT hb)) 2) (λ b2 R good-R gR hb2.
-      next (neg-gives good-R (has-later good-U gR hq)) (λ n W good-W gW hn.
-      next (add-gives good-W (has-later good-R gW (has-later good-U gR (has-later good-T gU hp))) hn) (λ s X good-X gX hs.
-      div-gives good-X hs (has-later good-W gX (has-later good-R gW hb2)))))))
+      next (mul-gives good-T (has-later M env (good .keeps) gT hb) (has-later M env (good .keeps) gT hda)) (λ q U good-U gU hq.
+      next (pow-gives good-U (has-later M env (good-T .keeps) gU (has-later M env (good .keeps) gT hb)) 2) (λ b2 R good-R gR hb2.
+      next (neg-gives good-R (has-later M env (good-U .keeps) gR hq)) (λ n W good-W gW hn.
+      next (add-gives good-W (has-later M env (good-R .keeps) gW (has-later M env (good-U .keeps) gR (has-later M env (good-T .keeps) gU hp))) hn) (λ s X good-X gX hs.
+      div-gives good-X hs (has-later M env (good-W .keeps) gX (has-later M env (good-R .keeps) gW hb2)))))))
 
   -- ---- the nodes
 
   module _ {down : ℕ → Walk} (walks : Walks M env P₀ goal down) (term : ℕ) (h : term < P₀ .count) where
     -- the slopes of both parts, left first
-    both : {S : State} {x : carrier} {more : ℕ → ℕ → Walk} (a b : ℕ) → Fit S → a < P₀ .count → b < P₀ .count → ((da db : ℕ) (T : State) → Fit T → Has T da (goal a) → Has T db (goal b) → Gives T x (more da db T)) → Gives S x (bind (down a S) (λ da T. bind (down b T) (λ db. more da db)))
+    both : {S : State} {x : carrier} {more : ℕ → ℕ → Walk} (a b : ℕ) → Fit S → a < P₀ .count → b < P₀ .count → ((da db : ℕ) (T : State) → Fit T → Has M env (T .pool) da (goal a) → Has M env (T .pool) db (goal b) → Gives T x (more da db T)) → Gives S x (bind (down a S) (λ da T. bind (down b T) (λ db. more da db)))
     both {S} a b good la lb go =
         next (walks a la S good) (λ da T good-T gT hda.
-        next (walks b lb T good-T) (λ db U good-U gU hdb. go da db U good-U (has-later good-T gU hda) hdb))
+        next (walks b lb T good-T) (λ db U good-U gU hdb. go da db U good-U (has-later M env (good-T .keeps) gU hda) hdb))
 
     picked : (t : Bool) → int (pick t (pos 1) (pos 0)) ≡ int (cond t (pos 1) (pos 0))
     picked true = refl
@@ -145,8 +137,8 @@ module _ {A : Algebra} (M : Model A) (env : Values A) {P₀ : Pool} (keeps : Kee
         next (walks a la S good) (λ da T good-T gT hda.
         next (pow-gives good-T (has-first good-T a la) (n - 1)) (λ p U good-U gU hp.
         next (lit-gives good-U (pos n)) (λ c R good-R gR hc.
-        next (mul-gives good-R hc (has-later good-U gR (has-later good-T gU hda))) (λ t W good-W gW ht.
-        mul-gives good-W ht (has-later good-R gW (has-later good-U gR hp))))))
+        next (mul-gives good-R hc (has-later M env (good-U .keeps) gR (has-later M env (good-T .keeps) gU hda))) (λ t W good-W gW ht.
+        mul-gives good-W ht (has-later M env (good-R .keeps) gW (has-later M env (good-U .keeps) gR hp))))))
     node-gives (Max a b) e l S good = ended-walk
 
     walked-node : (x : Node) → nodeAt P₀ term ≡ x → AllBelow (P₀ .count) (parts x) → (S : State) → Fit S → Gives S (goal term) (deriveNode var down term x S)
