@@ -6,6 +6,7 @@ pub mod Elementary
 pub mod Quotients
 pub mod Polynomials
 pub mod Powers
+pub mod Compositions
 pub mod Walking
 pub mod Expanding
 pub mod Book

@@ -1,6 +1,7 @@
 -- In every ring that is a model, for all values of the variables: what an accepted operation on expansions answers has the coefficients of the series' operation, and what an accepted expansion of an expression answers has the coefficients of the expression's value in the algebra of series.
 -- Assumes nothing.
-use mathlib.Core.Path.{_≡_, refl, sym, subst}
+use mathlib.Core.Path as path
+use mathlib.Core.Path.{_≡_, refl, sym}
 use mathlib.Core.Bool.{Bool, true, false}
 use mathlib.Core.List.{List}
 use Prim.Native.Nat.{ℕ, zero, suc, _^_, _≤_, _<_}
@@ -17,19 +18,20 @@ use Rattle.constructor_laws.specs.Keeps.{Keeps}
 use Rattle.constructor_laws.proofs.Coding.{Short}
 use Rattle.constructor_laws.proofs.Rules.{parts-below}
 use Rattle.taylor.specs.Work.{Result, gives}
-use Rattle.taylor.specs.Expansion.{Expansion, Constant, Polynomial, addTo, negate, subFrom, times, quotient, exponential, logarithm, power}
+use Rattle.taylor.specs.Expansion.{Expansion, Constant, Polynomial, coeff, derivative, maximum, subst, addTo, negate, subFrom, times, quotient, exponential, logarithm, power}
 use Rattle.taylor.specs.Expand.{Point, expand}
 use Rattle.meaning.specs.Model.{Algebra, Model, Distributive}
 use Rattle.meaning.specs.Model as model
-use Rattle.meaning.specs.Value.{Values, value}
+use Rattle.meaning.specs.Value.{Values, value, Means}
 use Rattle.meaning.proofs.Values.{each-below, value-kept}
-use Rattle.taylor_meaning.specs.Series.{minus, Series, plusSeries, timesSeries, recurrence, overStep, expStep, logStep, series, Fractions}
+use Rattle.taylor_meaning.specs.Series.{minus, Series, constantSeries, composed, factorialIn, plusSeries, timesSeries, recurrence, overStep, expStep, logStep, series, Fractions}
 use Rattle.taylor_meaning.specs.Coefficients.{Present, Long, InPool, coefficient, MeansSeries, asSeries}
-use Rattle.taylor_meaning.proofs.Working.{Gives, gave, kept-by}
+use Rattle.taylor_meaning.proofs.Working.{Gives, gave, kept-by, Is}
 use Rattle.taylor_meaning.proofs.Operations.{Expands, constant, list, add-to-gives, negate-gives, sub-from-gives, times-gives}
 use Rattle.taylor_meaning.proofs.Elementary.{exponential-gives, logarithm-gives}
 use Rattle.taylor_meaning.proofs.Quotients.{quotient-by-list-gives, quotient-gives}
 use Rattle.taylor_meaning.proofs.Powers.{power-gives}
+use Rattle.taylor_meaning.proofs.Compositions.{subst-list-gives, coeff-gives, derivative-gives, maximum-gives}
 use Rattle.taylor_meaning.proofs.Expanding.{Allowed, expansion-gives}
 
 -- in words of 64 bits exponents have 32
@@ -77,10 +79,16 @@ module _ {A : Algebra} (M : Model A) (env : Values A) where
   module _ {P : Pool} (keeps : Keeps P) where
     -- what is known after accepted work that gives a series
     pub series-meant : {n : ℕ} {f : Series A} {r : Result Expansion} {e : Expansion} {Q : Pool} → Gives P (Expands M env n f) r → r ≡ gives e Q → MeansSeries A env P n f e Q
-    series-meant {n} {f} {r} {e} {Q} h eq = go (subst (Gives P (Expands M env n f)) eq h)
+    series-meant {n} {f} {r} {e} {Q} h eq = go (path.subst (Gives P (Expands M env n f)) eq h)
       where
         go : Gives P (Expands M env n f) (gives e Q) → MeansSeries A env P n f e Q
         go (gave k g s) = record { long = shown s .0; coefficients = shown s .1; earlier = value-kept A env keeps g }
+
+    number-meant : {x : A .carrier} {r : Result ℕ} {i : ℕ} {Q : Pool} → Gives P (Is M env x) r → r ≡ gives i Q → Means A env P x i Q
+    number-meant {x} {r} {i} {Q} h eq = go (path.subst (Gives P (Is M env x)) eq h)
+      where
+        go : Gives P (Is M env x) (gives i Q) → Means A env P x i Q
+        go (gave k g s) = record { answer = s .is; earlier = value-kept A env keeps g }
 
     module _ (n : ℕ) (s : Expansion) (hs : InPool P s) (ls : Long n s) where
       abbrev u : Series A
@@ -92,6 +100,13 @@ module _ {A : Algebra} (M : Model A) (env : Values A) where
       -- v_k = -u_k
       pub negate-means : {e : Expansion} {Q : Pool} → negate s P ≡ gives e Q → MeansSeries A env P n (λ k. A .times (A .int (negsuc 0)) (u k)) e Q
       negate-means eq = series-meant (negate-gives M env keeps itself) eq
+
+      -- coefficient k, and k! times coefficient k
+      pub coeff-means : {i : ℕ} {Q : Pool} → (k : ℕ) → k < n → coeff s k P ≡ gives i Q → Means A env P (u k) i Q
+      coeff-means k l eq = number-meant (coeff-gives M env k l keeps itself) eq
+
+      pub derivative-means : {i : ℕ} {Q : Pool} → (k : ℕ) → k < n → derivative s k P ≡ gives i Q → Means A env P (A .times (factorialIn A k) (u k)) i Q
+      derivative-means k l eq = number-meant (derivative-gives M env k l keeps itself) eq
 
       -- the series of the book's recurrence for exp u
       pub exponential-means : {e : Expansion} {Q : Pool} → exponential s P ≡ gives e Q → MeansSeries A env P n (recurrence A (expStep A u)) e Q
@@ -127,6 +142,15 @@ module _ {A : Algebra} (M : Model A) (env : Values A) where
         -- the series of the book's recurrence for u / w
         pub quotient-means : {e : Expansion} {Q : Pool} → Distributive A → Fractions A → quotient s t P ≡ gives e Q → MeansSeries A env P n (recurrence A (overStep A u w)) e Q
         quotient-means D fractions eq = series-meant (quotient-gives M D env u w fractions keeps itself itself′) eq
+
+        -- a maximum is one of constants
+        pub maximum-means : {e : Expansion} {Q : Pool} → maximum s t P ≡ gives e Q → MeansSeries A env P n (constantSeries A (A .max (u 0) (w 0))) e Q
+        maximum-means eq = series-meant (maximum-gives M env keeps itself itself′) eq
+
+      -- a list with s put in for t: c_0 + c_1 × s + c_2 × s^2 + ..
+      pub subst-list-means :
+          {e : Expansion} {Q : Pool} → (cs : List ℕ) → InPool P (Polynomial cs) → subst (Polynomial cs) s P ≡ gives e Q → MeansSeries A env P n (composed A (value A env (nodeAt P)) u cs) e Q
+      subst-list-means cs h eq = series-meant (subst-list-gives M env cs keeps (h .1) itself) eq
 
       -- by a list no law of fractions is needed
       pub quotient-by-list-means :

@@ -1,6 +1,7 @@
 -- Power series over an algebra, as Griewank and Walther's recurrences give them (Evaluating Derivatives, second edition, tables 13.1 and 13.2). A series is its coefficients: coefficient k of t^k.
 -- Assumes nothing.
 use mathlib.Core.Path.{_≡_}
+use mathlib.Core.List.{List, [], _∷_}
 use Prim.Native.Nat.{ℕ, zero, suc, _-_}
 use lib.IntN.{pos, negsuc}
 use Rattle.meaning.specs.Model.{Algebra}
@@ -71,6 +72,16 @@ module _ (A : Algebra) where
   logStep u v zero = log (u 0)
   logStep u v (suc k) =
       minus (int (pos (suc k)) ⊗ u (suc k)) (sum (λ i. u (k - i) ⊗ (int (pos (suc i)) ⊗ v (suc i))) k) ⊘ u 0 ⊘ int (pos (suc k))
+
+  -- c_0 + c_1 × w + c_2 × w^2 + .. for the values c_0, c_1, .. that f gives, by Horner's method
+  abbrev pub composed : (ℕ → carrier) → Series → List ℕ → Series
+  composed f w [] = constantSeries (int (pos 0))
+  composed f w (c ∷ cs) = plusSeries (timesSeries (composed f w cs) w) (constantSeries (f c))
+
+  -- k!
+  abbrev pub factorialIn : ℕ → carrier
+  factorialIn zero = int (pos 1)
+  factorialIn (suc k) = factorialIn k ⊗ int (pos (suc k))
 
   -- the series with these operations
   abbrev pub series : Algebra
