@@ -1,4 +1,4 @@
--- By residues of every modulus from 2 on: a substituted expression has the value of the first one with the variable set to the second one's value, and of a polynomial expression `derive` and coefficient 1 of the expansion have equal values. So wherever the evaluations are accepted.
+-- By residues of every modulus from 2 on: a substituted expression has the value of the first one with the variable set to the second one's value, and of a plain expression `derive` and coefficient 1 of the expansion have equal values. So wherever the evaluations are accepted.
 -- Assumes nothing.
 use mathlib.Core.Path.{_≡_, refl, sym, ap, _∙_, fun-ext}
 use mathlib.Core.Bool.{Bool, true, false, cond}
@@ -27,8 +27,8 @@ use Rattle.meaning.specs.Value.{Values, value}
 use Rattle.walk_meaning.specs.Setting.{setting}
 use Rattle.walk_meaning.proofs.Substitution.{substitution-means}
 use Rattle.taylor_meaning.specs.Coefficients.{coefficient}
-use Rattle.taylor_meaning.specs.PolynomialExpressions.{PolynomialExpression}
-use Rattle.taylor_meaning.proofs.PolynomialExpressions.{polynomial-expansion-keeps}
+use Rattle.taylor_meaning.specs.PolynomialExpressions.{PlainExpression}
+use Rattle.taylor_meaning.proofs.PolynomialExpressions.{plain-expansion-keeps}
 use Rattle.taylor_meaning.proofs.FirstCoefficients.{derive-is-coefficient}
 use Rattle.residue_meaning.specs.Residues.{Residues, reduced, residues, fromTable}
 use Rattle.residue_meaning.proofs.Model.{same, number, residues-model, residues-ring}
@@ -76,9 +76,9 @@ module _ (m : ℕ) (some : 2 ≤ m) (values : List ℕ) (small : (v : ℕ) → g
       ∙ ap (λ e. value (residues m some) e (nodeAt P) root .0) (sym (table-set var put k))
       ∙ is-s
 
-  -- of a polynomial expression, for every order from 1 on
+  -- of a plain expression, one with no quotient and no maximum, for every order from 1 on
   pub derivation-by-residues :
-      ((i : ℕ) → getD (P .words) i 0 < 2 ^ 64) → (root var order : ℕ) → root < P .count → var ≤ greatestVariable → 1 ≤ order → PolynomialExpression (nodeAt P) root
+      ((i : ℕ) → getD (P .words) i 0 < 2 ^ 64) → (root var order : ℕ) → root < P .count → var ≤ greatestVariable → 1 ≤ order → PlainExpression (nodeAt P) root
       → {i : ℕ} {Q : Pool} → derive root var P ≡ done i Q
       → {cs : List ℕ} {R : Pool} → expand root var none order P ≡ gives (Polynomial cs) R
       → (r s : ℕ)
@@ -88,7 +88,7 @@ module _ (m : ℕ) (some : 2 ≤ m) (values : List ℕ) (small : (v : ℕ) → g
   unfolding coefficient
   derivation-by-residues words root var order h known more p {i} {Q} derived {cs} {R} expanded r s er es =
       let keeps-Q = accepted-kept (derive-kept var root keeps h) derived .keeps in
-      let keeps-R = polynomial-expansion-keeps (residues-model m some) (residues-ring m some) env keeps var known none order words root h p expanded in
+      let keeps-R = plain-expansion-keeps (residues-model m some) (residues-ring m some) env keeps var known none order words root h p expanded in
       sym (residue-is-value m some values small keeps-Q i r er)
       ∙ ap (λ (a : Residues m). a .0) (derive-is-coefficient (residues-model m some) (residues-ring m some) env keeps words var known order root more h p derived expanded)
       ∙ residue-is-value m some values small keeps-R (at cs 1) s es

@@ -9,12 +9,12 @@ use lib.ListN.{length}
 use Rattle.pool.specs.Pool.{Pool, nodeAt}
 use Rattle.constructor_laws.specs.Grown.{Grown}
 use Rattle.constructor_laws.specs.Keeps.{Keeps}
-use Rattle.constructor_laws.proofs.Growth.{grown-by-nothing, grown-by-both}
+use Rattle.constructor_laws.proofs.Growth.{grown-by-both}
 use Rattle.taylor.specs.Work.{bind, from, mul, at}
 use Rattle.taylor.specs.Expansion.{Expansion, Constant, Polynomial, horner, subst, coeff, derivative, maximum}
 use Rattle.meaning.specs.Model.{Algebra, Model}
 use Rattle.meaning.specs.Value.{Values, value}
-use Rattle.meaning.proofs.Values.{Each, same-op, value-kept}
+use Rattle.meaning.proofs.Values.{Each, value-kept}
 use Rattle.meaning.proofs.Laws.{one-product, product-zero}
 use Rattle.meaning.proofs.Running.{Has, has-later}
 use Rattle.taylor_meaning.specs.Series.{Series, constantSeries, plusSeries, timesSeries, composed, factorialIn}

@@ -1,4 +1,4 @@
--- Derivation and expansion agree: of a polynomial expression, coefficient 0 at x + t is its value and coefficient 1 its slope, the variable being x. So `derive` and coefficient 1 of the expansion have equal values, in every ring that is a model.
+-- Derivation and expansion agree: of a plain expression, coefficient 0 at x + t is its value and coefficient 1 its slope, the variable being x. So `derive` and coefficient 1 of the expansion have equal values, in every ring that is a model. With a quotient they differ in its sign.
 -- Assumes nothing.
 use mathlib.Core.Path.{_≡_, refl, sym, ap, _∙_, fun-ext}
 use mathlib.Core.Bool.{Bool, true, false, cond}
@@ -6,7 +6,7 @@ use mathlib.Core.List.{[], _∷_}
 use Prim.Native.Nat.{ℕ, zero, suc, _-_, _^_, _≤_, _<_}
 use native.Mathlib.Omega.{arith}
 use lib.Dec.{eqb}
-use lib.IntN.{pos, _+ℤ_}
+use lib.IntN.{pos, negsuc, _+ℤ_}
 use lib.ListN.{getD}
 use borrow.Author.Tests.{eqb-true}
 use Rattle.pool.specs.declared.node.Node.{Node}
@@ -23,16 +23,17 @@ use Rattle.taylor.specs.Expand.{Point, none, expand}
 use Rattle.meaning.specs.Model.{Algebra, Model, Distributive, power}
 use Rattle.meaning.specs.Value.{Values, valueNode, value}
 use Rattle.meaning.proofs.Values.{Each, each-below, each-had, each-from, same-op, Falling, falling, value-law}
-use Rattle.meaning.proofs.Laws.{product-comm, product-swap, one-product, zero-product, int-sum}
+use Rattle.meaning.proofs.Laws.{sum-zero, zero-sum, product-zero, product-comm, product-swap, one-product, zero-product, int-sum}
 use Rattle.walk_meaning.specs.Setting.{setting}
 use Rattle.walk_meaning.specs.Slope.{slopeNode, slope}
 use Rattle.walk_meaning.proofs.Slopes.{slope-law}
 use Rattle.walk_meaning.proofs.Derivation.{derivation-means}
-use Rattle.taylor_meaning.specs.Series.{Series, constantSeries, shifted, timesSeries, polynomials}
+use Rattle.taylor_meaning.specs.Series.{Series, constantSeries, shifted, timesSeries, series, sum, minus, recurrence, expStep, logStep}
 use Rattle.taylor_meaning.specs.Coefficients.{base, asSeries, coefficient}
-use Rattle.taylor_meaning.specs.PolynomialExpressions.{PolynomialNode, PolynomialExpression}
+use Rattle.taylor_meaning.specs.PolynomialExpressions.{PlainNode, PlainExpression}
+use Rattle.taylor_meaning.proofs.Sums.{sum-more, sum-none, recurrence-solves, exp-looks-below, log-looks-below}
 use Rattle.taylor_meaning.proofs.SeriesRing.{times-first, times-back, distributes-right}
-use Rattle.taylor_meaning.proofs.PolynomialExpressions.{each-both, polynomial-expansion-means}
+use Rattle.taylor_meaning.proofs.PolynomialExpressions.{each-both, plain-expansion-means}
 
 module _ {A : Algebra} (M : Model A) (D : Distributive A) where
   open Algebra A using (carrier, int, plus as _⊕_, times as _⊗_)
@@ -51,7 +52,7 @@ module _ {A : Algebra} (M : Model A) (D : Distributive A) where
         first = times-back M f g 0 ∙ same-op _⊕_ (times-first M f (λ k. g (suc k)) ∙ same-op _⊗_ (hf .zeroth) (hg .first)) (product-comm M (f 1) (g 0) ∙ same-op _⊗_ (hg .zeroth) (hf .first));
       }
 
-  power-begins : {f : Series A} {y d : carrier} (n : ℕ) → Begins f y d → Begins (power (polynomials A) f n) (power A y n) (int (pos n) ⊗ d ⊗ power A y (n - 1))
+  power-begins : {f : Series A} {y d : carrier} (n : ℕ) → Begins f y d → Begins (power (series A) f n) (power A y n) (int (pos n) ⊗ d ⊗ power A y (n - 1))
   unfolding power
   power-begins {y = y} {d} zero h = record { zeroth = refl; first = sym (ap (λ x. x ⊗ power A y (0 - 1)) (zero-product M d) ∙ zero-product M (power A y (0 - 1))) }
   power-begins {f} {y} {d} (suc n) h =
@@ -83,6 +84,46 @@ module _ {A : Algebra} (M : Model A) (D : Distributive A) where
           ∙ ap (λ x. x ⊗ power A y n) (sym (distributes-right M D (int (pos 1)) (int (pos n)) d) ∙ ap (λ x. x ⊗ d) (sym (ap int (one-more n) ∙ int-sum M (pos 1) (pos n))))
           ∙ ap (λ m. int (pos (suc n)) ⊗ d ⊗ power A y m) (sym (one-less n))
 
+  -- exp: v_1 = (exp u_0 × (1 × u_1)) / 1
+  exp-begins : {f : Series A} {y d : carrier} → Begins f y d → Begins (recurrence A (expStep A f)) (A .exp y) (d ⊗ A .exp y)
+  unfolding expStep
+  exp-begins {f} {y} {d} h =
+      record {
+        zeroth = solved 0 ∙ ap (A .exp) (h .zeroth);
+        first = solved 1
+            ∙ M .over-one (sum A (λ i. v (0 - i) ⊗ (int (pos (suc i)) ⊗ f (suc i))) 1)
+            ∙ sum-more A (λ i. v (0 - i) ⊗ (int (pos (suc i)) ⊗ f (suc i))) 0
+            ∙ ap (λ x. x ⊕ v 0 ⊗ (int (pos 1) ⊗ f 1)) (sum-none A (λ i. v (0 - i) ⊗ (int (pos (suc i)) ⊗ f (suc i))))
+            ∙ zero-sum M (v 0 ⊗ (int (pos 1) ⊗ f 1))
+            ∙ same-op _⊗_ (solved 0 ∙ ap (A .exp) (h .zeroth)) (one-product M (f 1) ∙ h .first)
+            ∙ product-comm M (A .exp y) d;
+      }
+    where
+      v : Series A
+      v = recurrence A (expStep A f)
+
+      solved : (k : ℕ) → v k ≡ expStep A f v k
+      solved = recurrence-solves A (expStep A f) (exp-looks-below A f)
+
+  -- log: v_1 = ((1 × u_1 - 0) / u_0) / 1
+  log-begins : {f : Series A} {y d : carrier} → Begins f y d → Begins (recurrence A (logStep A f)) (A .log y) (A .over d y)
+  unfolding logStep
+  log-begins {f} {y} {d} h =
+      record {
+        zeroth = solved 0 ∙ ap (A .log) (h .zeroth);
+        first = solved 1
+            ∙ M .over-one (A .over (minus A (int (pos 1) ⊗ f 1) (sum A (λ i. f (0 - i) ⊗ (int (pos (suc i)) ⊗ v (suc i))) 0)) (f 0))
+            ∙ same-op (A .over)
+            (same-op (minus A) (one-product M (f 1) ∙ h .first) (sum-none A (λ i. f (0 - i) ⊗ (int (pos (suc i)) ⊗ v (suc i)))) ∙ ap (λ x. d ⊕ x) (product-zero M (int (negsuc 0))) ∙ sum-zero M d)
+            (h .zeroth);
+      }
+    where
+      v : Series A
+      v = recurrence A (logStep A f)
+
+      solved : (k : ℕ) → v k ≡ logStep A f v k
+      solved = recurrence-solves A (logStep A f) (log-looks-below A f)
+
   module _ (env : Values A) (v : ℕ) (x : Point) where
     -- the variable is x
     abbrev there : Values A
@@ -93,7 +134,7 @@ module _ {A : Algebra} (M : Model A) (D : Distributive A) where
     variable-begins u false = record { zeroth = refl; first = refl }
 
     node-begins :
-        (f : ℕ → Series A) (y d : ℕ → carrier) (n : Node) → PolynomialNode n → Each (λ a. Begins (f a) (y a) (d a)) (parts n) → Begins (valueNode (polynomials A) (asSeries A env v x) f n) (valueNode A there y n) (slopeNode A there v y d n)
+        (f : ℕ → Series A) (y d : ℕ → carrier) (n : Node) → PlainNode n → Each (λ a. Begins (f a) (y a) (d a)) (parts n) → Begins (valueNode (series A) (asSeries A env v x) f n) (valueNode A there y n) (slopeNode A there v y d n)
     unfolding valueNode slopeNode
     node-begins f y d Empty p h = absurd p
     node-begins f y d (Variable u) p h = variable-begins u (eqb u v)
@@ -101,14 +142,14 @@ module _ {A : Algebra} (M : Model A) (D : Distributive A) where
     node-begins f y d (Add a b) p h = record { zeroth = same-op _⊕_ (h .0 .zeroth) (h .1 .0 .zeroth); first = same-op _⊕_ (h .0 .first) (h .1 .0 .first) }
     node-begins f y d (Mul a b) p h = times-begins (h .0) (h .1 .0)
     node-begins f y d (Div a b) p h = absurd p
-    node-begins f y d (Exp a) p h = absurd p
-    node-begins f y d (Log a) p h = absurd p
+    node-begins f y d (Exp a) p h = exp-begins (h .0)
+    node-begins f y d (Log a) p h = log-begins (h .0)
     node-begins f y d (Pow a e) p h = power-begins e (h .0)
     node-begins f y d (Max a b) p h = absurd p
 
-    module _ (at : ℕ → Node) (falls : Falling at) (r : ℕ) (p : PolynomialExpression at r) where
+    module _ (at : ℕ → Node) (falls : Falling at) (r : ℕ) (p : PlainExpression at r) where
       abbrev expanded : ℕ → Series A
-      expanded i = value (polynomials A) (asSeries A env v x) at i
+      expanded i = value (series A) (asSeries A env v x) at i
 
       begins-below : (k i : ℕ) → i < k → Reach at (r ∷ []) i → Begins (expanded i) (value A there at i) (slope A there v at i)
       begins-below zero i h c = absurd (never i h)
@@ -116,7 +157,7 @@ module _ {A : Algebra} (M : Model A) (D : Distributive A) where
           never : (i : ℕ) → i < 0 → ⊥
           never i h = omega arith
       begins-below (suc k) i h c =
-          rw (value-law (polynomials A) (asSeries A env v x) at falls i, value-law A there at falls i, slope-law A there v at falls i)
+          rw (value-law (series A) (asSeries A env v x) at falls i, value-law A there at falls i, slope-law A there v at falls i)
           (node-begins expanded (value A there at) (slope A there v at) (at i) (p i c)
           (each-from (parts (at i))
           (each-both (Reach at (r ∷ [])) (λ a. a < i) (parts (at i)) (each-had (parts (at i)) (λ a m. part c m)) (each-below (parts (at i)) (falls i) (λ a m. m)))
@@ -136,15 +177,15 @@ module _ {A : Algebra} (M : Model A) (D : Distributive A) where
       go u false t = refl
 
   module _ (env : Values A) {P : Pool} (keeps : Keeps P) (words : (i : ℕ) → getD (P .words) i 0 < 2 ^ 64) (v : ℕ) (known : v ≤ greatestVariable) where
-    -- of a polynomial expression, `derive` and coefficient 1 of the expansion with no point have equal values, for every order from 1 on
+    -- of a plain expression, `derive` and coefficient 1 of the expansion with no point have equal values, for every order from 1 on
     pub derive-is-coefficient :
-        (order r : ℕ) → 1 ≤ order → r < P .count → PolynomialExpression (nodeAt P) r
+        (order r : ℕ) → 1 ≤ order → r < P .count → PlainExpression (nodeAt P) r
         → {i : ℕ} {Q : Pool} → derive r v P ≡ done i Q
         → {e : Expansion} {R : Pool} → expand r v none order P ≡ gives e R
         → value A env (nodeAt Q) i ≡ coefficient A env R e 1
     derive-is-coefficient order r some h p derived expanded =
         let slopes = derivation-means M env keeps v r h derived in
-        let coefficients = polynomial-expansion-means M D env keeps v known none order words r h p expanded in
+        let coefficients = plain-expansion-means M D env keeps v known none order words r h p expanded in
         slopes .answer
         ∙ ap (λ env. slope A env v (nodeAt P) r) (sym (set-to-itself env v))
         ∙ sym (coefficients .coefficients 1 (coefficients .long 1 (omega arith)) ∙ first-coefficients env v none (nodeAt P) (falling keeps) r p .1)

@@ -1,4 +1,4 @@
--- Polynomial expressions: sums, products and powers of literals and variables.
+-- Two kinds of expressions: plain ones have no quotient and no maximum; polynomial ones are sums, products and powers of literals and variables.
 -- Assumes nothing.
 use mathlib.Core.Path.{_≡_}
 use mathlib.Core.List.{[], _∷_}
@@ -8,6 +8,23 @@ use Rattle.pool.specs.declared.node.Node.the-variants.{Empty, Variable, Lit, Ad
 use Rattle.shape.specs.Shape.{Reach}
 use Rattle.meaning.specs.Model.{Algebra, power}
 use Rattle.taylor_meaning.specs.Series.{Series, sum}
+
+-- no quotient and no maximum
+abbrev pub PlainNode : Node → Type 0
+PlainNode Empty = ⊥
+PlainNode (Variable v) = Unit {0}
+PlainNode (Lit z) = Unit {0}
+PlainNode (Add a b) = Unit {0}
+PlainNode (Mul a b) = Unit {0}
+PlainNode (Div a b) = ⊥
+PlainNode (Exp a) = Unit {0}
+PlainNode (Log a) = Unit {0}
+PlainNode (Pow a e) = Unit {0}
+PlainNode (Max a b) = ⊥
+
+-- every node that is reached from the root is such
+abbrev pub PlainExpression : (ℕ → Node) → ℕ → Type 0
+PlainExpression at root = (i : ℕ) → Reach at (root ∷ []) i → PlainNode (at i)
 
 -- no quotient, exponential, logarithm or maximum
 abbrev pub PolynomialNode : Node → Type 0
