@@ -7,3 +7,4 @@ pub mod Running
 pub mod Theorems
 pub mod Integers
 pub mod Limits
+pub mod Duals

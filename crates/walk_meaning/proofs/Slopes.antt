@@ -1,13 +1,14 @@
--- The slope of a node is had from the values and the slopes of its parts.
+-- The slope of a node is had from the values and the slopes of its parts; and what the sign of the Rust's quotient rule does.
 -- Assumes nothing.
-use mathlib.Core.Path.{_≡_, refl, ap}
+use mathlib.Core.Path.{_≡_, refl, ap, _∙_}
 use Prim.Native.Nat.{ℕ, _-_}
-use lib.IntN.{pos}
+use lib.IntN.{pos, negsuc}
 use Rattle.pool.specs.declared.node.Node.{Node}
 use Rattle.pool.specs.declared.node.Node.the-variants.{Empty, Variable, Lit, Add, Mul, Div, Exp, Log, Pow, Max}
 use Rattle.pool.specs.Nodes.{parts}
-use Rattle.meaning.specs.Model.{Algebra, power}
+use Rattle.meaning.specs.Model.{Algebra, Model, power}
 use Rattle.meaning.specs.Value.{Values, value}
+use Rattle.meaning.proofs.Laws.{zero-sum, product-zero, one-product, power-of-one}
 use Rattle.meaning.proofs.Recursion.{recursion-solves}
 use Rattle.meaning.proofs.Values.{Each, each-below, same-op, Falling}
 use Rattle.walk_meaning.specs.Slope.{quotientSlope, slopeNode, slopeBelow, slope}
@@ -33,3 +34,11 @@ module _ (A : Algebra) (env : Values A) (var : ℕ) where
   slope-law at f =
       recursion-solves (λ d i. slopeNode A env var (value A env at) d (at i)) (slopeBelow A env var at) (λ k i. refl)
       (record { same = λ d e i h. slope-same (value A env at) d e (at i) (each-below (parts (at i)) (f i) h) })
+
+-- what the Rust's sign does: of x / 1 its rule gives -x', where the calculus has x'
+pub quotient-by-one : {A : Algebra} (M : Model A) (env : Values A) (var : ℕ) (x dx : A .carrier) → quotientSlope A env var x (A .int (pos 1)) dx (A .int (pos 0)) ≡ A .times (A .int (negsuc 0)) dx
+quotient-by-one {A} M env var x dx =
+    ap (λ y. A .over (A .plus (A .times x (A .int (pos 0))) (A .times (A .int (negsuc 0)) (A .times (A .int (pos 1)) dx))) y) (power-of-one M 2)
+    ∙ M .over-one _
+    ∙ same-op (A .plus) (product-zero M x) (ap (A .times (A .int (negsuc 0))) (one-product M dx))
+    ∙ zero-sum M (A .times (A .int (negsuc 0)) dx)
