@@ -1,5 +1,6 @@
 -- Where expressions have values: a carrier with the operations, and the laws that the rules of the constructors use. Each law names the rules that need it.
--- Doubles are no model: their sum is not associative. No model is asked for more than the rules use: not that x × (y/x) = y, which at x = 0 leaves no two numbers apart, and not that log (x × y) = log x + log y for all x and y, which at x = 0 leaves no logarithm but 0. `log`'s rule takes the literal 1 out of a product, or is refused.
+-- The real numbers are a model, with 0 / 0 = 0 and any number for x / 0 and for the logarithm of what is not positive (said here, not shown: proofs/ has the whole numbers, the residues and the dual numbers). Doubles are none: their sum is not associative.
+-- No model is asked for more than the rules use. Not for x × (y / x) = y: at x = 0 that leaves no number but 0. Not for log (x × y) = log x + log y: at x = 0 that leaves no logarithm but 0 in a ring. Limits in proofs/ shows both. The rule of `log` takes no literal but 1 out of a product, any other being refused.
 -- Assumes nothing.
 use mathlib.Core.Path.{_≡_}
 use Prim.Native.Nat.{ℕ, zero, suc}
