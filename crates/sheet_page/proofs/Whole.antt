@@ -5,7 +5,7 @@ use mathlib.Core.Bool.{Bool, true, false}
 use mathlib.Core.Logic.{_≢_}
 use mathlib.Core.List.{List, [], _∷_, _++_, append-nil, append-assoc}
 use Prim.Native.Nat.{ℕ, zero, suc, _+_, _-_, min, _≤_, _<_}
-use native.Mathlib.Nat.{min-eq-left}
+use native.Mathlib.Nat.{min-eq-left, add-zero}
 use native.Mathlib.Omega.{arith}
 use lib.IntN.{ℤ, pos, negsuc}
 use lib.ListN.{length, length-append}
@@ -19,7 +19,7 @@ use Rattle.print.proofs.Writing.{counted, in-place}
 use Rattle.taylor.specs.Expand.{Point, none, point}
 use Rattle.expand.specs.Points.{pointOf}
 use Rattle.sheet_text.specs.Sheet.{lineEnd, space, colon, usageText, refusedText, pointText, linesFrom}
-use Rattle.sheet_page.specs.Pages.{refusedLine, firstLine, headBy, headOf, partOf, textAt, pieceOf, lineOf, linesUpTo, wholeOf, Put}
+use Rattle.sheet_page.specs.Pages.{refusedLine, firstLine, headBy, headOf, pick, partOf, textAt, pieceOf, lineOf, linesUpTo, wholeOf, Put}
 use Rattle.sheet_page.specs.declared.first.Page.{Page}
 use Rattle.sheet_page.specs.declared.first.Verdict.{Verdict}
 use Rattle.sheet_page.specs.declared.first.Verdict.the-variants.{Usage, Refused, Lines}
@@ -32,9 +32,12 @@ wrote-put text w short room =
 pub nothing-put : (l : List ℕ) {text : List ℕ} → [] ≡ text → Put text l 0 l
 nothing-put l e = rw (← e) (record { long = refl; bytes = refl })
 
+pub put-as : {x y before after : List ℕ} {n : ℕ} → x ≡ y → Put x before n after → Put y before n after
+put-as e p = rw e at p
+
 -- ---- lengths
-joined-length : (xs ys : List ℕ) {m n : ℕ} → length xs ≤ m → length ys ≤ n → length (xs ++ ys) ≤ m + n
-joined-length xs ys h k = omega (arith, length-append xs ys)
+joined-length : (xs ys : List ℕ) (m n : ℕ) → length xs ≤ m → length ys ≤ n → length (xs ++ ys) ≤ m + n
+joined-length xs ys m n h k = omega (arith, length-append xs ys)
 
 signed-short : (z : ℤ) → length (signedDecimal z) ≤ mostDigits + 1
 unfolding signedDecimal
@@ -45,25 +48,32 @@ point-short : (x : Point) → length (pointText x) ≤ mostDigits + 1
 point-short none = omega arith
 point-short (point z) = signed-short z
 
+pub end-short : length lineEnd ≤ longestText
+end-short = omega arith
+
 pub label-short : (i : ℕ) → length (decimal i ++ colon) ≤ longestText
-label-short i =
-    let sum : length (decimal i ++ colon) ≤ mostDigits + 2 = joined-length (decimal i) colon (decimal-is-short i) (omega arith) in
-    omega arith
+label-short i = omega (arith, joined-length (decimal i) colon mostDigits 2 (decimal-is-short i) two)
+  where
+    two : 2 ≤ 2
+    two = omega arith
+
+one : 1 ≤ 1
+one = omega arith
 
 refused-short : (k : ℕ) → length (refusedLine k) ≤ longestText
 refused-short k =
-    let tail : length (decimal k ++ lineEnd) ≤ mostDigits + 1 = joined-length (decimal k) lineEnd (decimal-is-short k) (omega arith) in
-    let sum : length (refusedLine k) ≤ 8 + (mostDigits + 1) = joined-length refusedText (decimal k ++ lineEnd) (omega arith) tail in
-    omega arith
+    let eight : 8 ≤ 8 = omega arith in
+    let front = joined-length refusedText (decimal k) 8 mostDigits eight (decimal-is-short k) in
+    omega (arith, joined-length (refusedText ++ decimal k) lineEnd (8 + mostDigits) 1 front one)
 
 first-short : (v order : ℕ) (x : Point) → length (firstLine v order x) ≤ longestText
 first-short v order x =
-    let a : length (pointText x ++ lineEnd) ≤ (mostDigits + 1) + 1 = joined-length (pointText x) lineEnd (point-short x) (omega arith) in
-    let b : length (space ++ pointText x ++ lineEnd) ≤ 1 + ((mostDigits + 1) + 1) = joined-length space (pointText x ++ lineEnd) (omega arith) a in
-    let c : length (decimal order ++ space ++ pointText x ++ lineEnd) ≤ mostDigits + (1 + ((mostDigits + 1) + 1)) = joined-length (decimal order) (space ++ pointText x ++ lineEnd) (decimal-is-short order) b in
-    let d : length (space ++ decimal order ++ space ++ pointText x ++ lineEnd) ≤ 1 + (mostDigits + (1 + ((mostDigits + 1) + 1))) = joined-length space (decimal order ++ space ++ pointText x ++ lineEnd) (omega arith) c in
-    let e : length (firstLine v order x) ≤ mostDigits + (1 + (mostDigits + (1 + ((mostDigits + 1) + 1)))) = joined-length (decimal v) (space ++ decimal order ++ space ++ pointText x ++ lineEnd) (decimal-is-short v) d in
-    omega arith
+    let n = mostDigits in
+    let a = joined-length (decimal v) space n 1 (decimal-is-short v) one in
+    let b = joined-length (decimal v ++ space) (decimal order) (n + 1) n a (decimal-is-short order) in
+    let c = joined-length (decimal v ++ space ++ decimal order) space (n + 1 + n) 1 b one in
+    let d = joined-length (decimal v ++ space ++ decimal order ++ space) (pointText x) (n + 1 + n + 1) (n + 1) c (point-short x) in
+    omega (arith, joined-length (decimal v ++ space ++ decimal order ++ space ++ pointText x) lineEnd (n + 1 + n + 1 + (n + 1)) 1 d one)
 
 pub head-short : (page : Page) → length (headOf page) ≤ longestText
 head-short page = go (page .verdict)
@@ -89,9 +99,9 @@ module _ (page : Page) (ks ws : List ℕ) where
     next : suc (line - 1) ≡ line
     next = omega (arith, some)
 
-    pub no-line : {part : ℕ} → page .lines < line → [] ≡ pieceOf page ks ws line part
+    pub no-line : (part : ℕ) → page .lines < line → [] ≡ pieceOf page ks ws line part
     unfolding pieceOf
-    no-line {part} h = rw (← next, le-ltb (line - 1) (page .lines) (omega (arith, h, some))) refl
+    no-line part h = rw (← next, le-ltb (line - 1) (page .lines) (omega (arith, h, some))) refl
 
     module _ (there : line ≤ page .lines) where
       below : line - 1 < page .lines
@@ -99,7 +109,7 @@ module _ (page : Page) (ks ws : List ℕ) where
 
       of-line : (part : ℕ) → partOf (textAt page ks ws (line - 1)) (line - 1) part ≡ pieceOf page ks ws line part
       unfolding pieceOf
-      of-line part = ap (λ (t : Bool). Rattle.sheet_page.specs.Pages.pick t (partOf (textAt page ks ws (line - 1)) (line - 1) part) []) (sym (lt-ltb (line - 1) (page .lines) below)) ∙ ap (λ (n : ℕ). pieceOf page ks ws n part) next
+      of-line part = ap (λ (t : Bool). pick t (partOf (textAt page ks ws (line - 1)) (line - 1) part) []) (sym (lt-ltb (line - 1) (page .lines) below)) ∙ ap (λ (n : ℕ). pieceOf page ks ws n part) next
 
       pub index-piece : {part : ℕ} → part ≡ 0 → decimal (line - 1) ++ colon ≡ pieceOf page ks ws line part
       index-piece e = rw e (of-line 0)
@@ -111,12 +121,47 @@ module _ (page : Page) (ks ws : List ℕ) where
       end-piece e = rw e (of-line 2)
 
       pub no-part : {part : ℕ} → part ≢ 0 → part ≢ 1 → part ≢ 2 → [] ≡ pieceOf page ks ws line part
-      no-part {part} a b c =
-          let more : suc (suc (suc (part - 3))) ≡ part = omega (arith, a, b, c) in
-          ap (λ (n : ℕ). partOf (textAt page ks ws (line - 1)) (line - 1) n) more ∙ of-line part
+      no-part {part} a b c = go part a b c ∙ of-line part
+        where
+          go : (part : ℕ) → part ≢ 0 → part ≢ 1 → part ≢ 2 → [] ≡ partOf (textAt page ks ws (line - 1)) (line - 1) part
+          go zero a b c = absurd (a refl)
+          go (suc zero) a b c = absurd (b refl)
+          go (suc (suc zero)) a b c = absurd (c refl)
+          go (suc (suc (suc part))) a b c = refl
 
 -- ---- all pieces in order
 -- the texts of the coefficients from i on
 unfoldable pub textsFrom : Page → List ℕ → List ℕ → ℕ → ℕ → List (List ℕ)
 textsFrom page ks ws i zero = []
 textsFrom page ks ws i (suc todo) = textAt page ks ws i ∷ textsFrom page ks ws (suc i) todo
+
+module _ (page : Page) (ks ws : List ℕ) where
+  -- the line of a coefficient
+  line-is : (i : ℕ) → i < page .lines → lineOf page ks ws (suc i) ≡ decimal i ++ colon ++ textAt page ks ws i ++ lineEnd
+  unfolding pieceOf
+  line-is i h = rw (lt-ltb i (page .lines) h) refl
+
+  first-is : lineOf page ks ws 0 ≡ headOf page
+  unfolding pieceOf
+  first-is = append-nil (headOf page ++ []) ∙ append-nil (headOf page)
+
+  -- the lines of todo coefficients behind those before them
+  lines-are : (todo i : ℕ) → i + todo ≤ page .lines → linesUpTo page ks ws (suc (i + todo)) ≡ linesUpTo page ks ws (suc i) ++ linesFrom i (textsFrom page ks ws i todo)
+  unfolding linesUpTo linesFrom textsFrom
+  lines-are zero i h = ap (λ (n : ℕ). linesUpTo page ks ws (suc n)) (add-zero i) ∙ sym (append-nil (linesUpTo page ks ws (suc i)))
+  lines-are (suc todo) i h =
+      let here : i < page .lines = omega arith in
+      let next : suc i + todo ≡ i + suc todo = omega arith in
+      let rest : suc i + todo ≤ page .lines = omega arith in
+      let line = decimal i ++ colon ++ textAt page ks ws i ++ lineEnd in
+      ap (λ (n : ℕ). linesUpTo page ks ws (suc n)) (sym next) ∙ lines-are todo (suc i) rest
+      ∙ ap (λ (l : List ℕ). (linesUpTo page ks ws (suc i) ++ l) ++ linesFrom (suc i) (textsFrom page ks ws (suc i) todo)) (line-is i here)
+      ∙ append-assoc (linesUpTo page ks ws (suc i)) line (linesFrom (suc i) (textsFrom page ks ws (suc i) todo))
+
+  -- the whole: the first line, and the lines of all coefficients
+  pub whole-is : wholeOf page ks ws ≡ headOf page ++ linesFrom 0 (textsFrom page ks ws 0 (page .lines))
+  unfolding linesUpTo
+  whole-is =
+      let all : 0 + page .lines ≡ page .lines = omega arith in
+      let most : 0 + page .lines ≤ page .lines = omega arith in
+      ap (λ (n : ℕ). linesUpTo page ks ws (suc n)) (sym all) ∙ lines-are (page .lines) 0 most ∙ ap (λ (l : List ℕ). l ++ linesFrom 0 (textsFrom page ks ws 0 (page .lines))) first-is

@@ -1,92 +1,91 @@
+-- `sheet_page::pieces::piece` meets its contract: each way is one of the definition.
+-- Assumes nothing.
+use native.Mathlib.Omega.{arith}
+use mathlib.Core.List.{_++_}
+use Prim.Native.Nat.{_-_}
 use borrow.Author.Needs.{needs}
+use Rattle.text.specs.Text.{decimal}
+use Rattle.sheet_text.specs.Sheet.{lineEnd, colon}
+use Rattle.sheet_page.specs.Pages.{headOf}
+use Rattle.sheet_page.proofs.Whole.{wrote-put, put-as, nothing-put, label-short, end-short, head-short, first-piece, one-first-piece, no-line, index-piece, text-piece, end-piece, no-part}
 use Rattle.sheet_page.proofs.pieces.piece.Statement.{statement}
 use Rattle.sheet_page.proofs.pieces.piece.Tie as tie
-use Rattle.sheet_page.proofs.pieces.piece.Reads as reads
-use Rattle.sheet_page.proofs.pieces.piece.Lts as lts
-use Rattle.print.proofs.write.Reads as write-reads
-use Rattle.sheet_page.proofs.first.head.Reads as head-reads
-use Rattle.sheet_page.proofs.first.label.Reads as label-reads
-use Rattle.sheet_page.proofs.pieces.text_of.Reads as text-of-reads
 
--- src/pieces.rt:42:13
 head-requires : tie.Need-head-requires
 head-requires c κs = search needs
 
--- src/pieces.rt:42:13
 same-length : tie.Need-same-length
 same-length c = search needs
 
--- src/pieces.rt:42:13
 returns : tie.Need-returns
-returns c = ?
+returns c =
+    let a = c .before .before .before .before .before .before .before .args in
+    put-as (first-piece (a .t1) (a .kinds .now) (a .words .now) (c .before .before .before .before .before .if1 .taken) (c .before .before .before .before .if2 .taken)) (wrote-put (headOf (a .t1)) (c .before .before .head .ensures) (head-short (a .t1)) (c .before .before .before .before .before .before .before .pre .1))
 
--- src/pieces.rt:44:9
 returns-2 : tie.Need-returns-2
-returns-2 c = ?
+returns-2 c =
+    let a = c .before .before .before .args in
+    nothing-put (a .out .now) (one-first-piece (a .t1) (a .kinds .now) (a .words .now) (c .before .if1 .taken) (c .if2 .left))
 
--- src/pieces.rt:47:9
 returns-3 : tie.Need-returns-3
-returns-3 c = ?
+returns-3 c =
+    let a = c .before .before .before .args in
+    nothing-put (a .out .now) (no-line (a .t1) (a .kinds .now) (a .words .now) (c .before .if1 .left) (a .part) (c .if3 .taken))
 
--- src/pieces.rt:49:17
 sub-index : tie.Need-sub-index
 sub-index c = search needs
 
--- src/pieces.rt:51:9
 label-requires : tie.Need-label-requires
 label-requires c κs = search needs
 
--- src/pieces.rt:51:9
 same-length-2 : tie.Need-same-length-2
 same-length-2 c = search needs
 
--- src/pieces.rt:51:9
 returns-4 : tie.Need-returns-4
-returns-4 c = ?
+returns-4 c =
+    let a = c .before .before .before .before .before .before .before .before .args in
+    put-as (index-piece (a .t1) (a .kinds .now) (a .words .now) (c .before .before .before .before .before .before .if1 .left) (c .before .before .before .before .before .if3 .left) (c .before .before .before .before .if4 .taken)) (wrote-put (decimal (a .line - 1) ++ colon) (c .before .before .label .ensures) (label-short (a .line - 1)) (c .before .before .before .before .before .before .before .before .pre .1))
 
--- src/pieces.rt:54:18
 cast-at : tie.Need-cast-at
 cast-at c = search needs
 
--- src/pieces.rt:55:20
 mul-node : tie.Need-mul-node
 mul-node c = search needs
 
--- src/pieces.rt:55:20
 element-copy-out-node : tie.Need-element-copy-out-node
 element-copy-out-node c = search needs
 
--- src/pieces.rt:56:9
 text-of-requires : tie.Need-text-of-requires
-text-of-requires c κs = ?
+text-of-requires c κs =
+    let a = c .before .before .before .before .before .before .before .args in
+    (c .before .before .before .before .before .before .before .pre .0 .short (a .line - 1) (omega (arith, c .before .before .before .before .if3 .left, c .before .before .before .before .before .if1 .left)), c .before .before .before .before .before .before .before .pre .1)
 
--- src/pieces.rt:56:9
 same-length-3 : tie.Need-same-length-3
 same-length-3 c = search needs
 
--- src/pieces.rt:56:9
 returns-5 : tie.Need-returns-5
-returns-5 c = ?
+returns-5 c =
+    let a = c .before .before .before .before .before .before .before .before .before .before .args in
+    put-as (text-piece (a .t1) (a .kinds .now) (a .words .now) (c .before .before .before .before .before .before .before .before .if1 .left) (c .before .before .before .before .before .before .before .if3 .left) (c .before .before .before .before .before .if5 .taken)) (c .before .before .text-of .ensures)
 
--- src/pieces.rt:59:37
 slice-aggregate-write : tie.Need-slice-aggregate-write
 slice-aggregate-write c = search needs
 
--- src/pieces.rt:59:9
 write-requires : tie.Need-write-requires
 write-requires c κs = search needs
 
--- src/pieces.rt:59:9
 same-length-4 : tie.Need-same-length-4
 same-length-4 c = search needs
 
--- src/pieces.rt:59:9
 returns-6 : tie.Need-returns-6
-returns-6 c = ?
+returns-6 c =
+    let a = c .before .before .before .before .before .before .before .before .before .before .before .args in
+    put-as (end-piece (a .t1) (a .kinds .now) (a .words .now) (c .before .before .before .before .before .before .before .before .before .if1 .left) (c .before .before .before .before .before .before .before .before .if3 .left) (c .before .before .before .before .before .if6 .taken)) (wrote-put lineEnd (c .before .before .write .ensures) end-short (c .before .before .before .before .before .before .before .before .before .before .before .pre .1))
 
--- src/pieces.rt:28:1
 returns-7 : tie.Need-returns-7
-returns-7 c = ?
+returns-7 c =
+    let a = c .before .before .before .before .before .before .args in
+    nothing-put (a .out .now) (no-part (a .t1) (a .kinds .now) (a .words .now) (c .before .before .before .before .if1 .left) (c .before .before .before .if3 .left) (c .before .before .if4 .left) (c .before .if5 .left) (c .if6 .left))
 
 pub piece-spec : {M : Type 1} → statement M
 piece-spec =
