@@ -1,0 +1,4 @@
+// The whole sheet of a file and a line, known before a byte of it is printed.
+mod answer;
+
+pub use answer::asked;
