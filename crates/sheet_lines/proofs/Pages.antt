@@ -4,32 +4,40 @@ use mathlib.Core.Path.{_≡_, refl, sym, ap, _∙_}
 use mathlib.Core.Bool.{Bool, true, false, _&&_, false≢true}
 use mathlib.Core.Logic.{_⊎_, inl, inr}
 use mathlib.Core.List.{List, [], _∷_, _++_, append-nil}
-use Prim.Native.Nat.{ℕ, zero, suc, _+_, _≤_, _<_}
+use Prim.Native.Nat.{ℕ, zero, suc, _+_, min, _≤_, _<_}
 use native.Mathlib.Omega.{arith}
+use native.Mathlib.Decide.{ℕ-discrete}
 use lib.Dec.{leb, ltb}
 use lib.ListN.{length, take, drop, getD, replicate}
 use lib.Seq.{drop-cons, getD-take, length-take-le}
 use borrow.Author.Tests.{le-leb, lt-leb, leb-true}
-use Rattle.refusals.specs.Refusals.{noRoom}
+use Rattle.refusals.specs.Refusals.{unknownVariable, notLiteral, wrongOrder, noRoom}
 use Rattle.pool.specs.declared.node.Node.{Node}
 use Rattle.pool.specs.Pool.{Pool, Out, done, refused, limit, nodeIn, nodeAt}
-use Rattle.pool.specs.Made.{poolOf}
+use Rattle.pool.specs.Made.{made, poolOf}
+use Rattle.pool.specs.Nodes.{greatestVariable}
+use Rattle.pool.specs.declared.table.Made.{Made}
+use Rattle.pool.specs.declared.table.Made.the-variants as made-as
+use Rattle.pool.specs.declared.table.Room.{Room}
+use Rattle.shape.specs.File.{readFile}
 use Rattle.lent.proofs.Finishing.{and-left, and-right}
 use Rattle.walks.specs.Print.{textOf, longestText}
 use Rattle.taylor.specs.Work.{Result, gives, refused-work, at}
 use Rattle.taylor.specs.Expansion.{Expansion, Constant, Polynomial}
 use Rattle.taylor.specs.Expand.{Point, expand}
-use Rattle.taylor_base.specs.Answers.{terms, listOf, shape, expansionOf, Tidy}
+use Rattle.taylor_base.specs.Answers.{terms, listOf, shape, expansionOf, statusOf, Answers, Tidy}
+use Rattle.taylor_base.specs.declared.answer.Expanded.{Expanded}
+use Rattle.taylor_base.specs.declared.answer.Status.the-variants as status
 use Rattle.taylor_base.specs.declared.answer.Expansion as coded
 use Rattle.expand.specs.Points.{pointOf}
 use Rattle.expand.specs.declared.point.Point as place
-use Rattle.sheet_text.specs.Sheet.{Coefficients, texts, refusal, printed, printAll, coefficientsOf, expandRoot, sheetText, linesFrom}
+use Rattle.sheet_text.specs.Sheet.{Coefficients, texts, refusal, printed, printAll, coefficientsOf, coefficients, empty, expandRoot, isPoint, greatestOrder, sheetText, linesFrom}
 use Rattle.sheet_page.specs.declared.first.Page.{Page}
 use Rattle.sheet_page.specs.declared.first.Verdict.{Verdict}
 use Rattle.sheet_page.specs.declared.first.Verdict.the-variants.{Usage, Refused, Lines}
 use Rattle.sheet_page.specs.Pages.{headOf, textAt, wholeOf, Printable}
 use Rattle.sheet_page.proofs.Whole.{textsFrom, whole-is}
-use Rattle.sheet_lines.specs.Prepared.{allShort, onlyPage, expandFound, Prepared}
+use Rattle.sheet_lines.specs.Prepared.{Blank, allShort, onlyPage, expandFound, expandFile, fileCoefficients, Prepared}
 
 none-below : {A : Type 0} {n : ℕ} → n < 0 → A
 none-below {A} {n} h = absurd (never n h)
@@ -147,3 +155,75 @@ module _ (v order : ℕ) (x : place.Point) (e : coded.Expansion) (ks ws : List �
               short = λ i l. rw (getD-take (e .len) (e .coeffs) i 0 l) at (each-short (nodeIn ks ws) (listOf e) short i (rw (← length-take-le (e .len) (e .coeffs) most) at l));
             };
       }
+
+-- ---- what the file gives
+module _ (file : List ℕ) (v : ℕ) (x : Point) (order : ℕ) where
+  found-is : (o : Out) → expandRoot v order x o ≡ coefficientsOf (expandFound v x order o)
+  found-is (done root P) = refl
+  found-is (refused k) = refl
+
+  module _ {result : Expanded} {ks ws : List ℕ} (a : Answers result ks ws (expandFile file v x order)) where
+    pub coefficients-found : {room : Room} → result .status ≡ status.Done room → fileCoefficients file v order x ≡ printAll (poolOf ks ws room) (listOf (result .expansion))
+    coefficients-found {room} e =
+        let e2 : statusOf (result .status) ks ws (expansionOf (result .expansion)) ≡ gives (expansionOf (result .expansion)) (poolOf ks ws room) = rw e refl in
+        found-is (readFile file empty) ∙ ap coefficientsOf (sym (a .is) ∙ e2) ∙ coefficients-are (result .expansion) (poolOf ks ws room) (a .tidy)
+
+    pub refusal-found : {k : ℕ} → result .status ≡ status.Refused k → fileCoefficients file v order x ≡ refusal k
+    refusal-found {k} e =
+        let e2 : statusOf (result .status) ks ws (expansionOf (result .expansion)) ≡ refused-work k = rw e refl in
+        found-is (readFile file empty) ∙ ap coefficientsOf (sym (a .is) ∙ e2)
+
+  -- the file is read into an empty pool
+  module _ {r : Made} {ks ws k w : List ℕ} (blank : Blank ks ws) (m : made r k w ≡ readFile file (poolOf ks ws (record { count = 0; end = limit }))) where
+    from-empty : made r k w ≡ readFile file empty
+    unfolding empty
+    from-empty = rw (blank .kinds-blank, blank .words-blank) at m
+
+    pub file-refused : {number : ℕ} → r ≡ made-as.Refused number → refused-work number ≡ expandFile file v x order
+    file-refused e = ap (λ (q : Made). expandFound v x order (made q k w)) (sym e) ∙ ap (expandFound v x order) from-empty
+
+    pub file-read : {root : ℕ} {rest : Room} → r ≡ made-as.Node root rest → expand root v x order (poolOf k w rest) ≡ expandFile file v x order
+    file-read e = ap (λ (q : Made). expandFound v x order (made q k w)) (sym e) ∙ ap (expandFound v x order) from-empty
+
+-- ---- the line's numbers
+module _ (file : List ℕ) (v order : ℕ) (x : Point) where
+  pub no-variable : greatestVariable < v → coefficients file v order x ≡ refusal unknownVariable
+  unfolding coefficients
+  no-variable h = rw (lt-leb v greatestVariable h) refl
+
+  module _ (variable : v ≤ greatestVariable) where
+    pub no-point : isPoint x ≡ false → coefficients file v order x ≡ refusal notLiteral
+    unfolding coefficients
+    no-point h = rw (le-leb v greatestVariable variable, h) refl
+
+    module _ (point : isPoint x ≡ true) where
+      pub no-order : terms ≤ order → coefficients file v order x ≡ refusal wrongOrder
+      unfolding coefficients
+      no-order h = rw (le-leb v greatestVariable variable, point, lt-leb order greatestOrder (omega (arith, h))) refl
+
+      pub in-range : order < terms → coefficients file v order x ≡ fileCoefficients file v order x
+      unfolding coefficients
+      in-range h = rw (le-leb v greatestVariable variable, point, le-leb order greatestOrder (omega (arith, h))) refl
+
+-- a refusal as a sheet
+pub refusal-prepared : (number : ℕ) (v order : ℕ) (x : Point) (ks ws : List ℕ) {page : Page} {c : Coefficients} → page ≡ onlyPage (Refused number) → c ≡ refusal number → Prepared page ks ws (sheetText v order x c)
+refusal-prepared number v order x ks ws e h = rw h (only-prepared (Refused number) ks ws e refl)
+
+pub prepared-as : {page : Page} {ks ws a b : List ℕ} → a ≡ b → Prepared page ks ws a → Prepared page ks ws b
+prepared-as e p = rw e at p
+
+-- ---- a text by its counted length
+module _ (text : List ℕ) {n : ℕ} (counted : n ≡ min (length text) (longestText + 1)) where
+  pub is-long : longestText < n → longestText < length text
+  is-long h = omega (arith, counted)
+
+  pub is-short : n ≤ longestText → length text ≤ longestText
+  is-short h = omega (arith, counted)
+
+-- one text more that is short
+pub one-more-short : (at : ℕ → Node) (cs : List ℕ) (i : ℕ) → ((j : ℕ) → j < i → length (textOf at (getD cs j 0)) ≤ longestText) → length (textOf at (getD cs i 0)) ≤ longestText → (j : ℕ) → j < i + 1 → length (textOf at (getD cs j 0)) ≤ longestText
+one-more-short at cs i before here j h = go (ℕ-discrete j i)
+  where
+    go : Dec (j ≡ i) → length (textOf at (getD cs j 0)) ≤ longestText
+    go (yes e) = rw e here
+    go (no other) = before j (omega arith)

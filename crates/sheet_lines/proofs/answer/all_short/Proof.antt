@@ -1,58 +1,61 @@
+-- `sheet_lines::answer::all_short` meets its contract: one text that is too long is enough.
+-- Assumes nothing.
+use borrow.Author.Needs.{needs}
+use native.Mathlib.Omega.{arith}
+use mathlib.Core.Path.{_≡_}
+use Prim.Native.Nat.{ℕ, _-_, _≤_, _<_}
+use lib.ListN.{length, getD}
+use Rattle.pool.specs.Pool.{nodeIn}
+use Rattle.walks.specs.Print.{textOf, longestText}
+use Rattle.taylor_base.specs.Answers.{terms}
+use Rattle.sheet_lines.proofs.Pages.{all-are-short, one-is-long, one-more-short, is-long, is-short}
 use Rattle.sheet_lines.proofs.answer.all_short.Statement.{statement}
 use Rattle.sheet_lines.proofs.answer.all_short.Tie as tie
-use Rattle.sheet_lines.proofs.answer.all_short.Reads as reads
-use Rattle.sheet_lines.proofs.answer.all_short.Lts as lts
-use Rattle.print.proofs.text_length.Reads as text-length-reads
 
 abbrev Inv-loop : tie.InvT-loop
-Inv-loop kinds words e n end i₀ i = ?
+Inv-loop kinds words e n end i₀ i = (j : ℕ) → j < i → length (textOf (nodeIn kinds words) (getD (e .coeffs) j 0)) ≤ longestText
 
 abbrev μ-loop : tie.MeasureT-loop
-μ-loop kinds words e n end i₀ i = ?
+μ-loop kinds words e n end i₀ i = n - i
 
--- src/answer.rt:42:15
+long : (c : tie.Start Inv-loop μ-loop) → length (c .args .t3 .coeffs) ≡ terms
+long c = search needs
+
 cast-end : tie.Need-cast-end Inv-loop μ-loop
-cast-end c = ?
+cast-end c = omega (arith, c .pre)
 
--- src/answer.rt:44:5
 loop-holds : tie.Need-loop-holds Inv-loop μ-loop
-loop-holds c = ?
+loop-holds c j h = absurd (never j h)
+  where
+    never : (j : ℕ) → j < 0 → ⊥
+    never j h = omega arith
 
--- src/answer.rt:45:20
 mul-node : tie.Need-mul-node Inv-loop μ-loop
-mul-node c = ?
+mul-node c = omega (arith, c .loop-test .taken, c .before .before .pre)
 
--- src/answer.rt:45:20
 element-copy-out-node : tie.Need-element-copy-out-node Inv-loop μ-loop
-element-copy-out-node c = ?
+element-copy-out-node c = omega (arith, c .loop-test .taken, c .before .before .pre)
 
--- src/answer.rt:46:13
 text-length-requires : tie.Need-text-length-requires Inv-loop μ-loop
-text-length-requires c κs = ?
+text-length-requires c κs = search needs
 
--- src/answer.rt:47:13
 cast-if1 : tie.Need-cast-if1 Inv-loop μ-loop
-cast-if1 c = ?
+cast-if1 c = search needs
 
--- src/answer.rt:48:13
 returns : tie.Need-returns Inv-loop μ-loop
-returns c = ?
+returns c = one-is-long (nodeIn (c .before .before .before .before .before .args .kinds .now) (c .before .before .before .before .before .args .words .now)) (c .before .before .before .before .before .args .t3 .len) (c .before .before .before .before .before .args .t3 .coeffs) (c .before .before .before .before .loop .i) (omega (arith, long (c .before .before .before .before .before), c .before .before .before .before .before .pre)) (c .before .before .before .loop-test .taken) (is-long (textOf (nodeIn (c .before .before .before .before .before .args .kinds .now) (c .before .before .before .before .before .args .words .now)) (getD (c .before .before .before .before .before .args .t3 .coeffs) (c .before .before .before .before .loop .i) 0)) (c .before .text-length .ensures) (c .if1 .taken))
 
--- src/answer.rt:50:9
 add-i : tie.Need-add-i Inv-loop μ-loop
-add-i c = ?
+add-i c = omega (arith, c .before .before .before .loop-test .taken, c .before .before .before .before .before .pre)
 
--- src/answer.rt:44:5
 loop-less : tie.Need-loop-less Inv-loop μ-loop
-loop-less c = ?
+loop-less c = omega (arith, c .before .before .before .loop-test .taken)
 
--- src/answer.rt:44:5
 loop-again : tie.Need-loop-again Inv-loop μ-loop
-loop-again c = ?
+loop-again c = one-more-short (nodeIn (c .before .before .before .before .before .args .kinds .now) (c .before .before .before .before .before .args .words .now)) (c .before .before .before .before .before .args .t3 .coeffs) (c .before .before .before .before .loop .i) (c .before .before .before .before .loop .inv) (is-short (textOf (nodeIn (c .before .before .before .before .before .args .kinds .now) (c .before .before .before .before .before .args .words .now)) (getD (c .before .before .before .before .before .args .t3 .coeffs) (c .before .before .before .before .loop .i) 0)) (c .before .text-length .ensures) (c .if1 .left))
 
--- src/answer.rt:37:1
 returns-2 : tie.Need-returns-2 Inv-loop μ-loop
-returns-2 c = ?
+returns-2 c = all-are-short (nodeIn (c .before .before .args .kinds .now) (c .before .before .args .words .now)) (c .before .before .args .t3 .len) (c .before .before .args .t3 .coeffs) (omega (arith, long (c .before .before), c .before .before .pre)) (λ j h. c .before .loop .inv j (omega (arith, c .loop-test .left, h)))
 
 pub all-short-spec : {M : Type 1} → statement M
 all-short-spec =
