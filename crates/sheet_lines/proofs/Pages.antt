@@ -174,7 +174,7 @@ module _ (file : List ℕ) (v : ℕ) (x : Point) (order : ℕ) where
         found-is (readFile file empty) ∙ ap coefficientsOf (sym (a .is) ∙ e2)
 
   -- the file is read into an empty pool
-  module _ {r : Made} {ks ws k w : List ℕ} (blank : Blank ks ws) (m : made r k w ≡ readFile file (poolOf ks ws (record { count = 0; end = limit }))) where
+  module _ (r : Made) {ks ws : List ℕ} (k w : List ℕ) (blank : Blank ks ws) (m : made r k w ≡ readFile file (poolOf ks ws (record { count = 0; end = limit }))) where
     from-empty : made r k w ≡ readFile file empty
     unfolding empty
     from-empty = rw (blank .kinds-blank, blank .words-blank) at m
