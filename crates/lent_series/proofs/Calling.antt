@@ -6,7 +6,7 @@ use mathlib.Core.List.{List}
 use Prim.Native.Nat.{ℕ}
 use native.Mathlib.Omega.{arith}
 use Rattle.refusals.specs.Refusals.{brokenPool}
-use Rattle.pool.specs.Pool.{Pool, pool, limit}
+use Rattle.pool.specs.Pool.{Pool, pool, Out, done, refused, limit}
 use Rattle.pool.specs.Made.{made, poolOf}
 use Rattle.constructor_laws.specs.Grown as plain
 use Rattle.lent.specs.Lent.{TakenIn}
@@ -15,13 +15,14 @@ use Rattle.lent.specs.Call as lent
 use Rattle.lent.specs.declared.Answer.{Answer}
 use Rattle.lent.specs.declared.Answer.the-variants.{Node, Refused}
 use Rattle.lent.proofs.Calling.{is-pool}
-use Rattle.taylor.specs.Work.{Result, gives, refused-work, Work}
+use Rattle.taylor.specs.Work.{Result, gives, refused-work, Work, answered}
 use Rattle.taylor.specs.Expansion.{Expansion}
 use Rattle.taylor_base.specs.Answers.{statusOf}
 use Rattle.taylor_base.specs.declared.answer.Status.{Status}
 use Rattle.taylor_base.specs.declared.answer.Status.the-variants as status
 use Rattle.taylor_laws.specs.Grown.{Grows}
-use Rattle.lent_series.specs.Call.{accepted, refusal, Left, left, leaves, demand, onPool, statusMade}
+use Rattle.taylor_laws.proofs.Growing.{Growing}
+use Rattle.lent_series.specs.Call.{accepted, refusal, Left, left, leaves, demand, onPool, out, statusMade}
 
 -- a demand that is met
 pub met : {A : Type 0} {t : Bool} (k : ℕ) {x : Result A} → t ≡ true → x ≡ demand t k x
@@ -74,3 +75,16 @@ module _ {r : Bool} {ks ws : List ℕ} {n : ℕ} {k w : List ℕ} (t : TakenIn r
 
   pub worked : {x : Result Expansion} {L : Left} (work : Work Expansion) → r ≡ true → L ≡ leaves ks ws n x → x ≡ work (lentPool ks ws n) → L ≡ onPool work ks ws n
   worked work e l h = l ∙ rw (is-pool t e, h)
+
+-- the work only appends
+pub appends : {A : Type 0} {work : Work A} {P : Pool} {x : Result A} → Growing work → x ≡ work P → Grows P x
+appends {P = P} g e = rw e (g .grows P)
+
+-- work that gives a node, as the calls that give one have it
+pub grows-node : (P : Pool) (o : Out) → Grows P (answered o) → plain.Grows P o
+grows-node P (done i Q) g = g
+grows-node P (refused k) g = tt
+
+pub out-answered : (o : Out) → o ≡ out (answered o)
+out-answered (done i P) = refl
+out-answered (refused k) = refl

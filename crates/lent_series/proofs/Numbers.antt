@@ -1,6 +1,6 @@
 -- The numbers of a series: how many are given, and whether all are below the count.
 -- Assumes nothing.
-use mathlib.Core.Bool.{Bool, true, false, _&&_}
+use mathlib.Core.Bool.{Bool, true, false, _&&_, false≢true}
 use mathlib.Core.Path.{_≡_, refl, sym, ap, _∙_}
 use mathlib.Core.Logic.{_≢_}
 use mathlib.Core.List.{List, [], _∷_, _++_}
@@ -10,8 +10,8 @@ use native.Mathlib.Omega.{arith}
 use native.Mathlib.Decide.{ℕ-discrete}
 use lib.Dec.{eqb, leb, ltb}
 use lib.ListN.{length, getD, take, drop, replicate, take-append-drop}
-use lib.Seq.{take-length}
-use borrow.Author.Tests.{lt-ltb, le-ltb, ltb-true, le-leb, leb-true, lt-leb, eq-eqb, ne-eqb, eqb-true}
+use lib.Seq.{take-length, length-take-le}
+use borrow.Author.Tests.{lt-ltb, le-ltb, ltb-true, le-leb, leb-true, lt-leb, eq-eqb, ne-eqb, eqb-true, eqb-false}
 use Rattle.pool.specs.Nodes.{allBelow}
 use Rattle.pool.specs.Pool.{limit}
 use Rattle.lent.proofs.Finishing.{and-left, and-right}
@@ -114,11 +114,20 @@ usable s n long small below length-ok =
 -- ---- the expansion that is given
 module _ (s : Series) {r : coded.Expansion} where
   pub constant-narrowed : s .order ≡ endless → r ≡ constantOf (at (s .coeffs) 0) → Narrowed s r
-  constant-narrowed e d = rw d (record { is = rw (eq-eqb (s .order) endless e) refl; tidy = constant-tidy (at (s .coeffs) 0) })
+  constant-narrowed e d =
+      let constant : isConstant s ≡ true = eq-eqb (s .order) endless e in
+      rw d
+      (record {
+        is = rw constant refl;
+        tidy = constant-tidy (at (s .coeffs) 0);
+        kind = sym constant;
+        long = λ list. absurd (false≢true (sym list ∙ constant));
+      })
 
   pub list-narrowed : s .order ≢ endless → Tidied (listed s) r → Narrowed s r
   list-narrowed e d =
-      record { is = list-tidied refl d .same ∙ rw (ne-eqb (s .order) endless e) refl; tidy = d .tidy }
+      let list : isConstant s ≡ false = ne-eqb (s .order) endless e in
+      record { is = list-tidied refl d .same ∙ rw list refl; tidy = d .tidy; kind = d .list ∙ sym list; long = λ _. d .long }
 
 -- ---- an expansion as an answer
 first-of : (cs : List ℕ) → 1 ≤ length cs → cs ≡ at cs 0 ∷ drop 1 cs
@@ -166,3 +175,13 @@ module _ (s : Series) (u : Usable s) where
 
     pub list-fits : (i : ℕ) → i < s .order → getD (s .coeffs) i 0 < limit
     list-fits i h = u .numbers i (omega (arith, h, few-entries s list (list-length .1)))
+
+-- the length of what is given, as a number of coefficients
+pub given-order : (s : Series) → length (s .coeffs) ≡ terms → lengthOk s ≡ true → s .order ≡ order (given s)
+given-order s long ok = go (isConstant s) refl
+  where
+    go : (t : Bool) → isConstant s ≡ t → s .order ≡ order (shape t (at (s .coeffs) 0) (take (s .order) (s .coeffs)))
+    go true e = eqb-true (s .order) endless e
+    go false e =
+        let most : s .order ≤ terms = length-between s (eqb-false (s .order) endless e) ok .1 in
+        sym (length-take-le (s .order) (s .coeffs) (omega (arith, most, long)))

@@ -52,10 +52,9 @@ onPool work ks ws n = leaves ks ws n (demand (isPool ks ws n) brokenPool (work (
 abbrev pub givenSeries : {A : Type 0} → Series → Work A → Work A
 givenSeries s work P = demand (allBelow (P .count) (nodesOf s)) unknownNode (demand (lengthOk s) wrongOrder (work P))
 
--- 2 of both, then 5 of both
-abbrev pub givenTwo : {A : Type 0} → Series → Series → Work A → Work A
-givenTwo s t work P =
-    demand (allBelow (P .count) (nodesOf s) && allBelow (P .count) (nodesOf t)) unknownNode (demand (lengthOk s && lengthOk t) wrongOrder (work P))
+-- 2 of both, then 5, of which is said what it is
+abbrev pub givenTwo : {A : Type 0} → Series → Series → Bool → Work A → Work A
+givenTwo s t lengths work P = demand (allBelow (P .count) (nodesOf s) && allBelow (P .count) (nodesOf t)) unknownNode (demand lengths wrongOrder (work P))
 
 -- work that gives a node, as the calls that give one have it
 abbrev pub out : Result ℕ → Out

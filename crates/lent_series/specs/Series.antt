@@ -64,3 +64,5 @@ listed s = record { constant = false; len = s .order; coeffs = s .coeffs }
 pub record Narrowed (s : Series) (e : coded.Expansion) : Type 0 where
   pub is : expansionOf e ≡ given s
   pub tidy : Tidy e
+  pub kind : e .constant ≡ isConstant s
+  pub long : isConstant s ≡ false → e .len ≡ s .order
