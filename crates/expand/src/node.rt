@@ -10,7 +10,7 @@ ghost use Rattle.expand.specs.Nodes.{visits, nodeWork, Visited};
 ghost use Rattle.expand.specs.Tables.{expansionAt, Ready, Walks, stateOf};
 use crate::kept::keep_answer;
 use crate::kept::load;
-use crate::point::Point;
+use crate::point::Asked;
 use crate::point::variable_in;
 use pool::LIMIT;
 use pool::Made;
@@ -52,15 +52,13 @@ fn leaf_in(
     room: Room,
     v: u32,
     term: u32,
-    var: u32,
-    point: Point,
-    order: u32,
+    asked: Asked,
 ) -> Expanded
-    requires { ⌜ order < terms ⌝ }
-    ensures { λ r. ⌜ Answers r (now (kinds .exit)) (now (words .exit)) (leafWork (eqb v var) term var (pointOf point) order (poolOf (now (kinds .entry)) (now (words .entry)) room)) ⌝ }
+    requires { ⌜ asked .order < terms ⌝ }
+    ensures { λ r. ⌜ Answers r (now (kinds .exit)) (now (words .exit)) (leafWork (eqb v (asked .var)) term (asked .var) (pointOf (asked .point)) (asked .order) (poolOf (now (kinds .entry)) (now (words .entry)) room)) ⌝ }
 {
-    if v == var {
-        return variable_in(kinds, words, room, var, point, order);
+    if v == asked.var {
+        return variable_in(kinds, words, room, asked);
     }
     answer_of(Made::Node { node: term, room })
 }
@@ -74,16 +72,14 @@ fn node_in(
     room: Room,
     term: u32,
     node: Node,
-    var: u32,
-    point: Point,
-    order: u32,
+    asked: Asked,
 ) -> Expanded
-    requires { ⌜ (order < terms) × Visited (now marks) (visits node) ⌝ }
-    ensures { λ r. ⌜ Answers r (now (kinds .exit)) (now (words .exit)) (nodeWork var (pointOf point) order (expansionAt (now (marks .entry)) (now (rows .entry))) term node (poolOf (now (kinds .entry)) (now (words .entry)) room)) ⌝ }
+    requires { ⌜ (asked .order < terms) × Visited (now marks) (visits node) ⌝ }
+    ensures { λ r. ⌜ Answers r (now (kinds .exit)) (now (words .exit)) (nodeWork (asked .var) (pointOf (asked .point)) (asked .order) (expansionAt (now (marks .entry)) (now (rows .entry))) term node (poolOf (now (kinds .entry)) (now (words .entry)) room)) ⌝ }
 {
     match node {
         Node::Empty => answer_of(Made::Refused(refusals::BROKEN_POOL)),
-        Node::Variable(v) => leaf_in(kinds, words, room, v, term, var, point, order),
+        Node::Variable(v) => leaf_in(kinds, words, room, v, term, asked),
         Node::Lit(_) => answer_of(Made::Node { node: term, room }),
         Node::Add(a, b) => {
             let lhs = load(marks, rows, a);
@@ -116,25 +112,12 @@ pub fn join_in(
     room: Room,
     term: u32,
     node: Node,
-    var: u32,
-    point: Point,
-    order: u32,
+    asked: Asked,
 ) -> Status
-    requires { ⌜ Ready term order (now marks) (now rows) ⌝ }
+    requires { ⌜ Ready term (asked .order) (now marks) (now rows) ⌝ }
     requires { ⌜ Visited (now marks) (visits node) ⌝ }
-    ensures { λ r. ⌜ Walks r (now (kinds .exit)) (now (words .exit)) (now (marks .exit)) (now (rows .exit)) term (bind (lift (nodeWork var (pointOf point) order (expansionAt (now (marks .entry)) (now (rows .entry))) term node) (stateOf (now (kinds .entry)) (now (words .entry)) (now (marks .entry)) (now (rows .entry)) room)) (keep term)) ⌝ }
+    ensures { λ r. ⌜ Walks r (now (kinds .exit)) (now (words .exit)) (now (marks .exit)) (now (rows .exit)) term (bind (lift (nodeWork (asked .var) (pointOf (asked .point)) (asked .order) (expansionAt (now (marks .entry)) (now (rows .entry))) term node) (stateOf (now (kinds .entry)) (now (words .entry)) (now (marks .entry)) (now (rows .entry)) room)) (keep term)) ⌝ }
 {
-    let answer = node_in(
-        kinds,
-        words,
-        marks,
-        rows,
-        room,
-        term,
-        node,
-        var,
-        point,
-        order,
-    );
+    let answer = node_in(kinds, words, marks, rows, room, term, node, asked);
     keep_answer(marks, rows, term, answer)
 }

@@ -18,6 +18,13 @@ pub enum Point {
     At(i64),
 }
 
+// What is asked of each node: its expansion in a variable, at a point, of an order.
+pub struct Asked {
+    pub var: u32,
+    pub point: Point,
+    pub order: u32,
+}
+
 // The node of the point: a new variable, or a new literal.
 fn point_in(
     kinds: &mut [u8; LIMIT],
@@ -39,16 +46,15 @@ pub fn variable_in(
     kinds: &mut [u8; LIMIT],
     words: &mut [u64; LIMIT],
     room: Room,
-    var: u32,
-    point: Point,
-    order: u32,
+    asked: Asked,
 ) -> Expanded
-    requires { ⌜ order < terms ⌝ }
-    ensures { λ r. ⌜ Answers r (now (kinds .exit)) (now (words .exit)) (variableWork var (pointOf point) order (poolOf (now (kinds .entry)) (now (words .entry)) room)) ⌝ }
+    requires { ⌜ asked .order < terms ⌝ }
+    ensures { λ r. ⌜ Answers r (now (kinds .exit)) (now (words .exit)) (variableWork (asked .var) (pointOf (asked .point)) (asked .order) (poolOf (now (kinds .entry)) (now (words .entry)) room)) ⌝ }
 {
-    let x = point_in(kinds, words, room, var, point);
+    let point = asked.point;
+    let x = point_in(kinds, words, room, asked.var, point);
     let Made::Node { node, room: rest } = x else {
         return answer_of(x);
     };
-    taylor_base::var_in(kinds, words, rest, node, order)
+    taylor_base::var_in(kinds, words, rest, node, asked.order)
 }

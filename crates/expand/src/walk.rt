@@ -11,6 +11,7 @@ ghost use Rattle.expand.specs.declared.node.Parts.the-variants.{One, Two
 use crate::node::Parts;
 use crate::node::join_in;
 use crate::node::visited;
+use crate::point::Asked;
 use crate::point::Point;
 use pool::LIMIT;
 use pool::Made;
@@ -37,17 +38,8 @@ pub fn expand_in(
         let mut marks = [0u8; LIMIT];
         let row = [0u32; TERMS];
         let mut rows = [row; LIMIT];
-        let status = walk_at(
-            kinds,
-            words,
-            &mut marks,
-            &mut rows,
-            room,
-            root,
-            var,
-            point,
-            order,
-        );
+        let asked = Asked { var, point, order };
+        let status = walk_at(kinds, words, &mut marks, &mut rows, room, root, asked);
         return crate::kept::answer_at(&marks, &rows, root, status);
     }
     taylor_base::answer_of(Made::Refused(refusals::BROKEN_POOL))
@@ -61,30 +53,17 @@ fn walk_at(
     rows: &mut [[u32; TERMS]; LIMIT],
     room: Room,
     term: u32,
-    var: u32,
-    point: Point,
-    order: u32,
+    asked: Asked,
 ) -> Status
-    requires { ⌜ Ready term order (now marks) (now rows) ⌝ }
-    ensures { λ r. ⌜ Walks r (now (kinds .exit)) (now (words .exit)) (now (marks .exit)) (now (rows .exit)) term (expandBelow var (pointOf point) order (term + 1) term (stateOf (now (kinds .entry)) (now (words .entry)) (now (marks .entry)) (now (rows .entry)) room)) ⌝ }
+    requires { ⌜ Ready term (asked .order) (now marks) (now rows) ⌝ }
+    ensures { λ r. ⌜ Walks r (now (kinds .exit)) (now (words .exit)) (now (marks .exit)) (now (rows .exit)) term (expandBelow (asked .var) (pointOf (asked .point)) (asked .order) (term + 1) term (stateOf (now (kinds .entry)) (now (words .entry)) (now (marks .entry)) (now (rows .entry)) room)) ⌝ }
 {
     let mark = marks[term as usize];
     if mark != 0 {
         return Status::Done(room);
     }
     let node = pool::node_at(kinds, words, term);
-    walk_node(
-        kinds,
-        words,
-        marks,
-        rows,
-        room,
-        term,
-        node,
-        var,
-        point,
-        order,
-    )
+    walk_node(kinds, words, marks, rows, room, term, node, asked)
 }
 
 // At a node: its parts, if they are visited, and then the node itself.
@@ -96,54 +75,16 @@ fn walk_node(
     room: Room,
     term: u32,
     node: Node,
-    var: u32,
-    point: Point,
-    order: u32,
+    asked: Asked,
 ) -> Status
-    requires { ⌜ Ready term order (now marks) (now rows) ⌝ }
-    ensures { λ r. ⌜ Walks r (now (kinds .exit)) (now (words .exit)) (now (marks .exit)) (now (rows .exit)) term (bind (expandNode var (pointOf point) order (expandBelow var (pointOf point) order term) term node (stateOf (now (kinds .entry)) (now (words .entry)) (now (marks .entry)) (now (rows .entry)) room)) (keep term)) ⌝ }
+    requires { ⌜ Ready term (asked .order) (now marks) (now rows) ⌝ }
+    ensures { λ r. ⌜ Walks r (now (kinds .exit)) (now (words .exit)) (now (marks .exit)) (now (rows .exit)) term (bind (expandNode (asked .var) (pointOf (asked .point)) (asked .order) (expandBelow (asked .var) (pointOf (asked .point)) (asked .order) term) term node (stateOf (now (kinds .entry)) (now (words .entry)) (now (marks .entry)) (now (rows .entry)) room)) (keep term)) ⌝ }
 {
     let parts = visited(node);
     match parts {
-        Parts::None => join_in(
-            kinds,
-            words,
-            marks,
-            rows,
-            room,
-            term,
-            node,
-            var,
-            point,
-            order,
-        ),
-        Parts::One(a) => walk_one(
-            kinds,
-            words,
-            marks,
-            rows,
-            room,
-            term,
-            node,
-            a,
-            var,
-            point,
-            order,
-        ),
-        Parts::Two(a, b) => walk_two(
-            kinds,
-            words,
-            marks,
-            rows,
-            room,
-            term,
-            node,
-            a,
-            b,
-            var,
-            point,
-            order,
-        ),
+        Parts::None => join_in(kinds, words, marks, rows, room, term, node, asked),
+        Parts::One(a) => walk_one(kinds, words, marks, rows, room, term, node, a, asked),
+        Parts::Two(a, b) => walk_two(kinds, words, marks, rows, room, term, node, a, b, asked),
     }
 }
 
@@ -157,30 +98,17 @@ fn walk_one(
     term: u32,
     node: Node,
     a: u32,
-    var: u32,
-    point: Point,
-    order: u32,
+    asked: Asked,
 ) -> Status
-    requires { ⌜ Ready term order (now marks) (now rows) ⌝ }
+    requires { ⌜ Ready term (asked .order) (now marks) (now rows) ⌝ }
     requires { ⌜ visits node ≡ One a ⌝ }
-    ensures { λ r. ⌜ Walks r (now (kinds .exit)) (now (words .exit)) (now (marks .exit)) (now (rows .exit)) term (bind (expandNode var (pointOf point) order (expandBelow var (pointOf point) order term) term node (stateOf (now (kinds .entry)) (now (words .entry)) (now (marks .entry)) (now (rows .entry)) room)) (keep term)) ⌝ }
+    ensures { λ r. ⌜ Walks r (now (kinds .exit)) (now (words .exit)) (now (marks .exit)) (now (rows .exit)) term (bind (expandNode (asked .var) (pointOf (asked .point)) (asked .order) (expandBelow (asked .var) (pointOf (asked .point)) (asked .order) term) term node (stateOf (now (kinds .entry)) (now (words .entry)) (now (marks .entry)) (now (rows .entry)) room)) (keep term)) ⌝ }
 {
-    let part = walk_part(kinds, words, marks, rows, room, term, a, var, point, order);
+    let part = walk_part(kinds, words, marks, rows, room, term, a, asked);
     let Status::Done(rest) = part else {
         return part;
     };
-    join_in(
-        kinds,
-        words,
-        marks,
-        rows,
-        rest,
-        term,
-        node,
-        var,
-        point,
-        order,
-    )
+    join_in(kinds, words, marks, rows, rest, term, node, asked)
 }
 
 // A node of two parts, left before right.
@@ -194,34 +122,21 @@ fn walk_two(
     node: Node,
     a: u32,
     b: u32,
-    var: u32,
-    point: Point,
-    order: u32,
+    asked: Asked,
 ) -> Status
-    requires { ⌜ Ready term order (now marks) (now rows) ⌝ }
+    requires { ⌜ Ready term (asked .order) (now marks) (now rows) ⌝ }
     requires { ⌜ visits node ≡ Two a b ⌝ }
-    ensures { λ r. ⌜ Walks r (now (kinds .exit)) (now (words .exit)) (now (marks .exit)) (now (rows .exit)) term (bind (expandNode var (pointOf point) order (expandBelow var (pointOf point) order term) term node (stateOf (now (kinds .entry)) (now (words .entry)) (now (marks .entry)) (now (rows .entry)) room)) (keep term)) ⌝ }
+    ensures { λ r. ⌜ Walks r (now (kinds .exit)) (now (words .exit)) (now (marks .exit)) (now (rows .exit)) term (bind (expandNode (asked .var) (pointOf (asked .point)) (asked .order) (expandBelow (asked .var) (pointOf (asked .point)) (asked .order) term) term node (stateOf (now (kinds .entry)) (now (words .entry)) (now (marks .entry)) (now (rows .entry)) room)) (keep term)) ⌝ }
 {
-    let left = walk_part(kinds, words, marks, rows, room, term, a, var, point, order);
+    let left = walk_part(kinds, words, marks, rows, room, term, a, asked);
     let Status::Done(more) = left else {
         return left;
     };
-    let right = walk_part(kinds, words, marks, rows, more, term, b, var, point, order);
+    let right = walk_part(kinds, words, marks, rows, more, term, b, asked);
     let Status::Done(rest) = right else {
         return right;
     };
-    join_in(
-        kinds,
-        words,
-        marks,
-        rows,
-        rest,
-        term,
-        node,
-        var,
-        point,
-        order,
-    )
+    join_in(kinds, words, marks, rows, rest, term, node, asked)
 }
 
 // A part, which has a smaller number than the node.
@@ -233,15 +148,13 @@ fn walk_part(
     room: Room,
     term: u32,
     a: u32,
-    var: u32,
-    point: Point,
-    order: u32,
+    asked: Asked,
 ) -> Status
-    requires { ⌜ Ready term order (now marks) (now rows) ⌝ }
-    ensures { λ r. ⌜ Walks r (now (kinds .exit)) (now (words .exit)) (now (marks .exit)) (now (rows .exit)) a (expandBelow var (pointOf point) order term a (stateOf (now (kinds .entry)) (now (words .entry)) (now (marks .entry)) (now (rows .entry)) room)) ⌝ }
+    requires { ⌜ Ready term (asked .order) (now marks) (now rows) ⌝ }
+    ensures { λ r. ⌜ Walks r (now (kinds .exit)) (now (words .exit)) (now (marks .exit)) (now (rows .exit)) a (expandBelow (asked .var) (pointOf (asked .point)) (asked .order) term a (stateOf (now (kinds .entry)) (now (words .entry)) (now (marks .entry)) (now (rows .entry)) room)) ⌝ }
 {
     if a < term {
-        return walk_at(kinds, words, marks, rows, room, a, var, point, order);
+        return walk_at(kinds, words, marks, rows, room, a, asked);
     }
     Status::Refused(refusals::BROKEN_POOL)
 }

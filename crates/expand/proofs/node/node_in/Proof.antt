@@ -22,8 +22,8 @@ use Rattle.expand.proofs.node.node_in.Tie as tie
 at-node :
     (c : tie.Start) {n : Node} {r : Expanded} {ks ws : List ℕ}
     → c .args .node ≡ n
-    → Answers r ks ws (nodeWork (c .args .var) (pointOf (c .args .point)) (c .args .order) (expansionAt (c .args .marks .now) (c .args .rows .now)) (c .args .term) n (poolOf (c .args .kinds .now) (c .args .words .now) (c .args .room)))
-    → Answers r ks ws (nodeWork (c .args .var) (pointOf (c .args .point)) (c .args .order) (expansionAt (c .args .marks .now) (c .args .rows .now)) (c .args .term) (c .args .node) (poolOf (c .args .kinds .now) (c .args .words .now) (c .args .room)))
+    → Answers r ks ws (nodeWork (c .args .asked .var) (pointOf (c .args .asked .point)) (c .args .asked .order) (expansionAt (c .args .marks .now) (c .args .rows .now)) (c .args .term) n (poolOf (c .args .kinds .now) (c .args .words .now) (c .args .room)))
+    → Answers r ks ws (nodeWork (c .args .asked .var) (pointOf (c .args .asked .point)) (c .args .asked .order) (expansionAt (c .args .marks .now) (c .args .rows .now)) (c .args .term) (c .args .node) (poolOf (c .args .kinds .now) (c .args .words .now) (c .args .room)))
 at-node c e a = rw e a
 
 enum-told : tie.Need-enum-told

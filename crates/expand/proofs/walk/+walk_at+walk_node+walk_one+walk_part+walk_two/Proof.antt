@@ -94,7 +94,7 @@ walk-at-returns : (t : ℕ) → walk-at-lts.Need-returns (
   walk-node-below t,
   walk-node.Post,
 ) (walk-at-at t) walk-at.Post
-walk-at-returns t c = left-as-kept (c .before .before .args .var) (pointOf (c .before .before .args .point)) (c .before .before .args .order) _ _ _ (c .before .before .args .term) (c .before .before .pre .1 .sized) (c .if1 .taken)
+walk-at-returns t c = left-as-kept (c .before .before .args .asked .var) (pointOf (c .before .before .args .asked .point)) (c .before .before .args .asked .order) _ _ _ (c .before .before .args .term) (c .before .before .pre .1 .sized) (c .if1 .taken)
 
 walk-at-node-at-requires : (t : ℕ) → walk-at-lts.Need-node-at-requires (
   node-at-reads.Asked,
@@ -118,7 +118,7 @@ walk-at-returns-2 : (t : ℕ) → walk-at-lts.Need-returns-2 (
   walk-node-below t,
   walk-node.Post,
 ) (walk-at-at t) walk-at.Post
-walk-at-returns-2 t c = visits-now (c .before .before .before .before .before .before .before .before .before .before .args .var) (pointOf (c .before .before .before .before .before .before .before .before .before .before .args .point)) (c .before .before .before .before .before .before .before .before .before .before .args .order) (poolOf (c .before .before .before .before .before .before .before .before .before .before .args .kinds .now) (c .before .before .before .before .before .before .before .before .before .before .args .words .now) (c .before .before .before .before .before .before .before .before .before .before .args .room)) (c .before .before .before .before .before .before .before .before .before .before .args .term) (c .before .before .before .before .before .before .before .before .before .before .pre .1 .sized) (c .before .before .before .before .before .before .before .before .if1 .left) (c .before .before .before .before .before .node-at .ensures) (c .walk-node .ensures)
+walk-at-returns-2 t c = visits-now (c .before .before .before .before .before .before .before .before .before .before .args .asked .var) (pointOf (c .before .before .before .before .before .before .before .before .before .before .args .asked .point)) (c .before .before .before .before .before .before .before .before .before .before .args .asked .order) (poolOf (c .before .before .before .before .before .before .before .before .before .before .args .kinds .now) (c .before .before .before .before .before .before .before .before .before .before .args .words .now) (c .before .before .before .before .before .before .before .before .before .before .args .room)) (c .before .before .before .before .before .before .before .before .before .before .args .term) (c .before .before .before .before .before .before .before .before .before .before .pre .1 .sized) (c .before .before .before .before .before .before .before .before .if1 .left) (c .before .before .before .before .before .node-at .ensures) (c .walk-node .ensures)
 
 walk-node-visited-requires : (t : ℕ) → walk-node-lts.Need-visited-requires (
   visited-reads.Asked,
@@ -214,7 +214,7 @@ walk-node-returns : (t : ℕ) → walk-node-lts.Need-returns (
   walk-two-below t,
   walk-two.Post,
 ) (walk-node-at t) walk-node.Post
-walk-node-returns t c = none-ends (c .before .before .before .before .before .before .before .before .args .var) (pointOf (c .before .before .before .before .before .before .before .before .args .point)) (c .before .before .before .before .before .before .before .before .args .order) (c .before .before .before .before .before .before .before .before .args .term) (c .before .before .before .before .before .before .before .before .args .node) (stateOf (c .before .before .before .before .before .before .before .before .args .kinds .now) (c .before .before .before .before .before .before .before .before .args .words .now) (c .before .before .before .before .before .before .before .before .args .marks .now) (c .before .before .before .before .before .before .before .before .args .rows .now) (c .before .before .before .before .before .before .before .before .args .room)) (expansionAt (c .before .before .before .before .before .before .before .before .args .marks .now) (c .before .before .before .before .before .before .before .before .args .rows .now)) (sym (c .before .before .before .before .before .before .before .visited .ensures) ∙ c .before .before .before .before .before .enum-told .given .1) (c .join-in .ensures)
+walk-node-returns t c = none-ends (c .before .before .before .before .before .before .before .before .args .asked .var) (pointOf (c .before .before .before .before .before .before .before .before .args .asked .point)) (c .before .before .before .before .before .before .before .before .args .asked .order) (c .before .before .before .before .before .before .before .before .args .term) (c .before .before .before .before .before .before .before .before .args .node) (stateOf (c .before .before .before .before .before .before .before .before .args .kinds .now) (c .before .before .before .before .before .before .before .before .args .words .now) (c .before .before .before .before .before .before .before .before .args .marks .now) (c .before .before .before .before .before .before .before .before .args .rows .now) (c .before .before .before .before .before .before .before .before .args .room)) (expansionAt (c .before .before .before .before .before .before .before .before .args .marks .now) (c .before .before .before .before .before .before .before .before .args .rows .now)) (sym (c .before .before .before .before .before .before .before .visited .ensures) ∙ c .before .before .before .before .before .enum-told .given .1) (c .join-in .ensures)
 
 walk-node-returns-2 : (t : ℕ) → walk-node-lts.Need-returns-2 (
   visited-reads.Asked,
@@ -270,7 +270,7 @@ walk-one-returns : (t : ℕ) → walk-one-lts.Need-returns (
   join-in-reads.Asked,
   join-in-reads.Learnt,
 ) (walk-one-at t) walk-one.Post
-walk-one-returns t c = one-refused (c .before .before .before .before .before .before .before .args .var) (pointOf (c .before .before .before .before .before .before .before .args .point)) (c .before .before .before .before .before .before .before .args .order) (c .before .before .before .before .before .before .before .args .term) (c .before .before .before .before .before .before .before .args .node) (stateOf (c .before .before .before .before .before .before .before .args .kinds .now) (c .before .before .before .before .before .before .before .args .words .now) (c .before .before .before .before .before .before .before .args .marks .now) (c .before .before .before .before .before .before .before .args .rows .now) (c .before .before .before .before .before .before .before .args .room)) (c .before .before .walk-part .ensures) (c .enum-told .given .1) (c .before .before .before .before .before .before .before .pre .1 .1)
+walk-one-returns t c = one-refused (c .before .before .before .before .before .before .before .args .asked .var) (pointOf (c .before .before .before .before .before .before .before .args .asked .point)) (c .before .before .before .before .before .before .before .args .asked .order) (c .before .before .before .before .before .before .before .args .term) (c .before .before .before .before .before .before .before .args .node) (stateOf (c .before .before .before .before .before .before .before .args .kinds .now) (c .before .before .before .before .before .before .before .args .words .now) (c .before .before .before .before .before .before .before .args .marks .now) (c .before .before .before .before .before .before .before .args .rows .now) (c .before .before .before .before .before .before .before .args .room)) (c .before .before .walk-part .ensures) (c .enum-told .given .1) (c .before .before .before .before .before .before .before .pre .1 .1)
 
 walk-one-join-in-requires : (t : ℕ) → walk-one-lts.Need-join-in-requires (
   walk-part-below t,
@@ -278,7 +278,7 @@ walk-one-join-in-requires : (t : ℕ) → walk-one-lts.Need-join-in-requires (
   join-in-reads.Asked,
   join-in-reads.Learnt,
 ) (walk-one-at t) walk-one.Post
-walk-one-join-in-requires t c κs = (ready-again (c .before .before .before .before .before .before .before .before .before .before .before .before .pre .1 .0) (c .before .before .before .before .before .before .before .walk-part .ensures .sized), one-visited (c .before .before .before .before .before .before .before .before .before .before .before .before .args .var) (pointOf (c .before .before .before .before .before .before .before .before .before .before .before .before .args .point)) (c .before .before .before .before .before .before .before .before .before .before .before .before .args .order) (poolOf (c .before .before .before .before .before .before .before .before .before .before .before .before .args .kinds .now) (c .before .before .before .before .before .before .before .before .before .before .before .before .args .words .now) (c .before .before .before .before .before .before .before .before .before .before .before .before .args .room)) (c .before .before .before .before .before .before .before .before .before .before .before .before .pre .1 .0 .sized) (c .before .before .before .before .before .before .before .before .before .before .before .before .pre .1 .0 .within) (c .before .before .before .before .before .before .before .walk-part .ensures) (c .before .before .before .before .before .part .given .1) (c .before .before .before .before .before .before .before .before .before .before .before .before .args .node) (c .before .before .before .before .before .before .before .before .before .before .before .before .pre .1 .1))
+walk-one-join-in-requires t c κs = (ready-again (c .before .before .before .before .before .before .before .before .before .before .before .before .pre .1 .0) (c .before .before .before .before .before .before .before .walk-part .ensures .sized), one-visited (c .before .before .before .before .before .before .before .before .before .before .before .before .args .asked .var) (pointOf (c .before .before .before .before .before .before .before .before .before .before .before .before .args .asked .point)) (c .before .before .before .before .before .before .before .before .before .before .before .before .args .asked .order) (poolOf (c .before .before .before .before .before .before .before .before .before .before .before .before .args .kinds .now) (c .before .before .before .before .before .before .before .before .before .before .before .before .args .words .now) (c .before .before .before .before .before .before .before .before .before .before .before .before .args .room)) (c .before .before .before .before .before .before .before .before .before .before .before .before .pre .1 .0 .sized) (c .before .before .before .before .before .before .before .before .before .before .before .before .pre .1 .0 .within) (c .before .before .before .before .before .before .before .walk-part .ensures) (c .before .before .before .before .before .part .given .1) (c .before .before .before .before .before .before .before .before .before .before .before .before .args .node) (c .before .before .before .before .before .before .before .before .before .before .before .before .pre .1 .1))
 
 walk-one-returns-2 : (t : ℕ) → walk-one-lts.Need-returns-2 (
   walk-part-below t,
@@ -286,7 +286,7 @@ walk-one-returns-2 : (t : ℕ) → walk-one-lts.Need-returns-2 (
   join-in-reads.Asked,
   join-in-reads.Learnt,
 ) (walk-one-at t) walk-one.Post
-walk-one-returns-2 t c = one-ends (c .before .before .before .before .before .before .before .before .before .before .before .before .before .args .var) (pointOf (c .before .before .before .before .before .before .before .before .before .before .before .before .before .args .point)) (c .before .before .before .before .before .before .before .before .before .before .before .before .before .args .order) (c .before .before .before .before .before .before .before .before .before .before .before .before .before .args .term) (c .before .before .before .before .before .before .before .before .before .before .before .before .before .args .node) (stateOf (c .before .before .before .before .before .before .before .before .before .before .before .before .before .args .kinds .now) (c .before .before .before .before .before .before .before .before .before .before .before .before .before .args .words .now) (c .before .before .before .before .before .before .before .before .before .before .before .before .before .args .marks .now) (c .before .before .before .before .before .before .before .before .before .before .before .before .before .args .rows .now) (c .before .before .before .before .before .before .before .before .before .before .before .before .before .args .room)) (c .before .before .before .before .before .before .before .before .walk-part .ensures) (c .before .before .before .before .before .before .part .given .1) (c .before .before .before .before .before .before .before .before .before .before .before .before .before .pre .1 .1) (c .join-in .ensures)
+walk-one-returns-2 t c = one-ends (c .before .before .before .before .before .before .before .before .before .before .before .before .before .args .asked .var) (pointOf (c .before .before .before .before .before .before .before .before .before .before .before .before .before .args .asked .point)) (c .before .before .before .before .before .before .before .before .before .before .before .before .before .args .asked .order) (c .before .before .before .before .before .before .before .before .before .before .before .before .before .args .term) (c .before .before .before .before .before .before .before .before .before .before .before .before .before .args .node) (stateOf (c .before .before .before .before .before .before .before .before .before .before .before .before .before .args .kinds .now) (c .before .before .before .before .before .before .before .before .before .before .before .before .before .args .words .now) (c .before .before .before .before .before .before .before .before .before .before .before .before .before .args .marks .now) (c .before .before .before .before .before .before .before .before .before .before .before .before .before .args .rows .now) (c .before .before .before .before .before .before .before .before .before .before .before .before .before .args .room)) (c .before .before .before .before .before .before .before .before .walk-part .ensures) (c .before .before .before .before .before .before .part .given .1) (c .before .before .before .before .before .before .before .before .before .before .before .before .before .pre .1 .1) (c .join-in .ensures)
 
 walk-part-walk-at-requires : (t : ℕ) → walk-part-lts.Need-walk-at-requires (
   walk-at-below t,
@@ -297,12 +297,12 @@ walk-part-walk-at-requires t c κs = (omega (arith, c .before .before .before .b
 walk-part-returns :
     (t : ℕ) →
     walk-part-lts.Need-returns (walk-at-below t, walk-at.Post) (walk-part-at t) walk-part.Post
-walk-part-returns t c = part-below (c .before .before .before .before .before .before .args .var) (pointOf (c .before .before .before .before .before .before .args .point)) (c .before .before .before .before .before .before .args .order) (stateOf (c .before .before .before .before .before .before .args .kinds .now) (c .before .before .before .before .before .before .args .words .now) (c .before .before .before .before .before .before .args .marks .now) (c .before .before .before .before .before .before .args .rows .now) (c .before .before .before .before .before .before .args .room)) (c .before .before .before .before .before .before .args .term) (c .before .before .before .before .before .before .args .a) (c .before .before .before .before .before .if1 .taken) (c .walk-at .ensures)
+walk-part-returns t c = part-below (c .before .before .before .before .before .before .args .asked .var) (pointOf (c .before .before .before .before .before .before .args .asked .point)) (c .before .before .before .before .before .before .args .asked .order) (stateOf (c .before .before .before .before .before .before .args .kinds .now) (c .before .before .before .before .before .before .args .words .now) (c .before .before .before .before .before .before .args .marks .now) (c .before .before .before .before .before .before .args .rows .now) (c .before .before .before .before .before .before .args .room)) (c .before .before .before .before .before .before .args .term) (c .before .before .before .before .before .before .args .a) (c .before .before .before .before .before .if1 .taken) (c .walk-at .ensures)
 
 walk-part-returns-2 :
     (t : ℕ) →
     walk-part-lts.Need-returns-2 (walk-at-below t, walk-at.Post) (walk-part-at t) walk-part.Post
-walk-part-returns-2 t c = part-above (c .before .args .var) (pointOf (c .before .args .point)) (c .before .args .order) (stateOf (c .before .args .kinds .now) (c .before .args .words .now) (c .before .args .marks .now) (c .before .args .rows .now) (c .before .args .room)) (c .before .args .term) (c .before .args .a) (c .before .pre .1 .sized) (c .if1 .left)
+walk-part-returns-2 t c = part-above (c .before .args .asked .var) (pointOf (c .before .args .asked .point)) (c .before .args .asked .order) (stateOf (c .before .args .kinds .now) (c .before .args .words .now) (c .before .args .marks .now) (c .before .args .rows .now) (c .before .args .room)) (c .before .args .term) (c .before .args .a) (c .before .pre .1 .sized) (c .if1 .left)
 
 walk-two-walk-part-requires : (t : ℕ) → walk-two-lts.Need-walk-part-requires (
   walk-part-below t,
@@ -334,7 +334,7 @@ walk-two-returns : (t : ℕ) → walk-two-lts.Need-returns (
   join-in-reads.Asked,
   join-in-reads.Learnt,
 ) (walk-two-at t) walk-two.Post
-walk-two-returns t c = left-refused (c .before .before .before .before .before .before .before .args .var) (pointOf (c .before .before .before .before .before .before .before .args .point)) (c .before .before .before .before .before .before .before .args .order) (c .before .before .before .before .before .before .before .args .term) (c .before .before .before .before .before .before .before .args .node) (stateOf (c .before .before .before .before .before .before .before .args .kinds .now) (c .before .before .before .before .before .before .before .args .words .now) (c .before .before .before .before .before .before .before .args .marks .now) (c .before .before .before .before .before .before .before .args .rows .now) (c .before .before .before .before .before .before .before .args .room)) (c .before .before .walk-part .ensures) (c .enum-told .given .1) (c .before .before .before .before .before .before .before .pre .1 .1)
+walk-two-returns t c = left-refused (c .before .before .before .before .before .before .before .args .asked .var) (pointOf (c .before .before .before .before .before .before .before .args .asked .point)) (c .before .before .before .before .before .before .before .args .asked .order) (c .before .before .before .before .before .before .before .args .term) (c .before .before .before .before .before .before .before .args .node) (stateOf (c .before .before .before .before .before .before .before .args .kinds .now) (c .before .before .before .before .before .before .before .args .words .now) (c .before .before .before .before .before .before .before .args .marks .now) (c .before .before .before .before .before .before .before .args .rows .now) (c .before .before .before .before .before .before .before .args .room)) (c .before .before .walk-part .ensures) (c .enum-told .given .1) (c .before .before .before .before .before .before .before .pre .1 .1)
 
 walk-two-walk-part-requires-2 : (t : ℕ) → walk-two-lts.Need-walk-part-requires-2 (
   walk-part-below t,
@@ -366,7 +366,7 @@ walk-two-returns-2 : (t : ℕ) → walk-two-lts.Need-returns-2 (
   join-in-reads.Asked,
   join-in-reads.Learnt,
 ) (walk-two-at t) walk-two.Post
-walk-two-returns-2 t c = right-refused (c .before .before .before .before .before .before .before .before .before .before .before .before .before .before .before .args .var) (pointOf (c .before .before .before .before .before .before .before .before .before .before .before .before .before .before .before .args .point)) (c .before .before .before .before .before .before .before .before .before .before .before .before .before .before .before .args .order) (c .before .before .before .before .before .before .before .before .before .before .before .before .before .before .before .args .term) (c .before .before .before .before .before .before .before .before .before .before .before .before .before .before .before .args .node) (stateOf (c .before .before .before .before .before .before .before .before .before .before .before .before .before .before .before .args .kinds .now) (c .before .before .before .before .before .before .before .before .before .before .before .before .before .before .before .args .words .now) (c .before .before .before .before .before .before .before .before .before .before .before .before .before .before .before .args .marks .now) (c .before .before .before .before .before .before .before .before .before .before .before .before .before .before .before .args .rows .now) (c .before .before .before .before .before .before .before .before .before .before .before .before .before .before .before .args .room)) (c .before .before .before .before .before .before .before .before .before .before .walk-part .ensures) (c .before .before .before .before .before .before .before .before .left .given .1) (c .before .before .walk-part2 .ensures) (c .enum-told2 .given .1) (c .before .before .before .before .before .before .before .before .before .before .before .before .before .before .before .pre .1 .1)
+walk-two-returns-2 t c = right-refused (c .before .before .before .before .before .before .before .before .before .before .before .before .before .before .before .args .asked .var) (pointOf (c .before .before .before .before .before .before .before .before .before .before .before .before .before .before .before .args .asked .point)) (c .before .before .before .before .before .before .before .before .before .before .before .before .before .before .before .args .asked .order) (c .before .before .before .before .before .before .before .before .before .before .before .before .before .before .before .args .term) (c .before .before .before .before .before .before .before .before .before .before .before .before .before .before .before .args .node) (stateOf (c .before .before .before .before .before .before .before .before .before .before .before .before .before .before .before .args .kinds .now) (c .before .before .before .before .before .before .before .before .before .before .before .before .before .before .before .args .words .now) (c .before .before .before .before .before .before .before .before .before .before .before .before .before .before .before .args .marks .now) (c .before .before .before .before .before .before .before .before .before .before .before .before .before .before .before .args .rows .now) (c .before .before .before .before .before .before .before .before .before .before .before .before .before .before .before .args .room)) (c .before .before .before .before .before .before .before .before .before .before .walk-part .ensures) (c .before .before .before .before .before .before .before .before .left .given .1) (c .before .before .walk-part2 .ensures) (c .enum-told2 .given .1) (c .before .before .before .before .before .before .before .before .before .before .before .before .before .before .before .pre .1 .1)
 
 walk-two-join-in-requires : (t : ℕ) → walk-two-lts.Need-join-in-requires (
   walk-part-below t,
@@ -374,7 +374,7 @@ walk-two-join-in-requires : (t : ℕ) → walk-two-lts.Need-join-in-requires (
   join-in-reads.Asked,
   join-in-reads.Learnt,
 ) (walk-two-at t) walk-two.Post
-walk-two-join-in-requires t c κs = (ready-again (c .before .before .before .before .before .before .before .before .before .before .before .before .before .before .before .before .before .before .before .before .pre .1 .0) (c .before .before .before .before .before .before .before .walk-part2 .ensures .sized), two-visited (c .before .before .before .before .before .before .before .before .before .before .before .before .before .before .before .before .before .before .before .before .args .var) (pointOf (c .before .before .before .before .before .before .before .before .before .before .before .before .before .before .before .before .before .before .before .before .args .point)) (c .before .before .before .before .before .before .before .before .before .before .before .before .before .before .before .before .before .before .before .before .args .order) (poolOf (c .before .before .before .before .before .before .before .before .before .before .before .before .before .before .before .before .before .before .before .before .args .kinds .now) (c .before .before .before .before .before .before .before .before .before .before .before .before .before .before .before .before .before .before .before .before .args .words .now) (c .before .before .before .before .before .before .before .before .before .before .before .before .before .before .before .before .before .before .before .before .args .room)) (c .before .before .before .before .before .before .before .before .before .before .before .before .before .before .before .before .before .before .before .before .pre .1 .0 .sized) (c .before .before .before .before .before .before .before .before .before .before .before .before .before .before .before .before .before .before .before .before .pre .1 .0 .within) (c .before .before .before .before .before .before .before .before .before .before .before .before .before .before .before .walk-part .ensures) (c .before .before .before .before .before .before .before .before .before .before .before .before .before .left .given .1) (c .before .before .before .before .before .before .before .walk-part2 .ensures) (c .before .before .before .before .before .right .given .1) (c .before .before .before .before .before .before .before .before .before .before .before .before .before .before .before .before .before .before .before .before .args .node) (c .before .before .before .before .before .before .before .before .before .before .before .before .before .before .before .before .before .before .before .before .pre .1 .1))
+walk-two-join-in-requires t c κs = (ready-again (c .before .before .before .before .before .before .before .before .before .before .before .before .before .before .before .before .before .before .before .before .pre .1 .0) (c .before .before .before .before .before .before .before .walk-part2 .ensures .sized), two-visited (c .before .before .before .before .before .before .before .before .before .before .before .before .before .before .before .before .before .before .before .before .args .asked .var) (pointOf (c .before .before .before .before .before .before .before .before .before .before .before .before .before .before .before .before .before .before .before .before .args .asked .point)) (c .before .before .before .before .before .before .before .before .before .before .before .before .before .before .before .before .before .before .before .before .args .asked .order) (poolOf (c .before .before .before .before .before .before .before .before .before .before .before .before .before .before .before .before .before .before .before .before .args .kinds .now) (c .before .before .before .before .before .before .before .before .before .before .before .before .before .before .before .before .before .before .before .before .args .words .now) (c .before .before .before .before .before .before .before .before .before .before .before .before .before .before .before .before .before .before .before .before .args .room)) (c .before .before .before .before .before .before .before .before .before .before .before .before .before .before .before .before .before .before .before .before .pre .1 .0 .sized) (c .before .before .before .before .before .before .before .before .before .before .before .before .before .before .before .before .before .before .before .before .pre .1 .0 .within) (c .before .before .before .before .before .before .before .before .before .before .before .before .before .before .before .walk-part .ensures) (c .before .before .before .before .before .before .before .before .before .before .before .before .before .left .given .1) (c .before .before .before .before .before .before .before .walk-part2 .ensures) (c .before .before .before .before .before .right .given .1) (c .before .before .before .before .before .before .before .before .before .before .before .before .before .before .before .before .before .before .before .before .args .node) (c .before .before .before .before .before .before .before .before .before .before .before .before .before .before .before .before .before .before .before .before .pre .1 .1))
 
 walk-two-returns-3 : (t : ℕ) → walk-two-lts.Need-returns-3 (
   walk-part-below t,
@@ -382,7 +382,7 @@ walk-two-returns-3 : (t : ℕ) → walk-two-lts.Need-returns-3 (
   join-in-reads.Asked,
   join-in-reads.Learnt,
 ) (walk-two-at t) walk-two.Post
-walk-two-returns-3 t c = two-ends (c .before .before .before .before .before .before .before .before .before .before .before .before .before .before .before .before .before .before .before .before .before .args .var) (pointOf (c .before .before .before .before .before .before .before .before .before .before .before .before .before .before .before .before .before .before .before .before .before .args .point)) (c .before .before .before .before .before .before .before .before .before .before .before .before .before .before .before .before .before .before .before .before .before .args .order) (poolOf (c .before .before .before .before .before .before .before .before .before .before .before .before .before .before .before .before .before .before .before .before .before .args .kinds .now) (c .before .before .before .before .before .before .before .before .before .before .before .before .before .before .before .before .before .before .before .before .before .args .words .now) (c .before .before .before .before .before .before .before .before .before .before .before .before .before .before .before .before .before .before .before .before .before .args .room)) (c .before .before .before .before .before .before .before .before .before .before .before .before .before .before .before .before .before .before .before .before .before .pre .1 .0 .sized) (c .before .before .before .before .before .before .before .before .before .before .before .before .before .before .before .before .before .before .before .before .before .pre .1 .0 .within) (c .before .before .before .before .before .before .before .before .before .before .before .before .before .before .before .before .walk-part .ensures) (c .before .before .before .before .before .before .before .before .before .before .before .before .before .before .left .given .1) (c .before .before .before .before .before .before .before .before .walk-part2 .ensures) (c .before .before .before .before .before .before .right .given .1) (c .before .before .before .before .before .before .before .before .before .before .before .before .before .before .before .before .before .before .before .before .before .args .node) (c .before .before .before .before .before .before .before .before .before .before .before .before .before .before .before .before .before .before .before .before .before .pre .1 .1) (c .join-in .ensures)
+walk-two-returns-3 t c = two-ends (c .before .before .before .before .before .before .before .before .before .before .before .before .before .before .before .before .before .before .before .before .before .args .asked .var) (pointOf (c .before .before .before .before .before .before .before .before .before .before .before .before .before .before .before .before .before .before .before .before .before .args .asked .point)) (c .before .before .before .before .before .before .before .before .before .before .before .before .before .before .before .before .before .before .before .before .before .args .asked .order) (poolOf (c .before .before .before .before .before .before .before .before .before .before .before .before .before .before .before .before .before .before .before .before .before .args .kinds .now) (c .before .before .before .before .before .before .before .before .before .before .before .before .before .before .before .before .before .before .before .before .before .args .words .now) (c .before .before .before .before .before .before .before .before .before .before .before .before .before .before .before .before .before .before .before .before .before .args .room)) (c .before .before .before .before .before .before .before .before .before .before .before .before .before .before .before .before .before .before .before .before .before .pre .1 .0 .sized) (c .before .before .before .before .before .before .before .before .before .before .before .before .before .before .before .before .before .before .before .before .before .pre .1 .0 .within) (c .before .before .before .before .before .before .before .before .before .before .before .before .before .before .before .before .walk-part .ensures) (c .before .before .before .before .before .before .before .before .before .before .before .before .before .before .left .given .1) (c .before .before .before .before .before .before .before .before .walk-part2 .ensures) (c .before .before .before .before .before .before .right .given .1) (c .before .before .before .before .before .before .before .before .before .before .before .before .before .before .before .before .before .before .before .before .before .args .node) (c .before .before .before .before .before .before .before .before .before .before .before .before .before .before .before .before .before .before .before .before .before .pre .1 .1) (c .join-in .ensures)
 
 pub +walk-at+walk-node+walk-one+walk-part+walk-two-spec : {M : Type 1} → statement M
 +walk-at+walk-node+walk-one+walk-part+walk-two-spec =
