@@ -2,10 +2,14 @@
 # Comparison with the Rust: both sides through the same random calls, with a fixed seed and a bounded time. Needs the Rust's sources.
 set -eu
 cd "$(dirname "$0")/.."
-if [ ! -e ../shared/docs/src/src/symbolic.rs ]; then
+if [ ! -e "${BUNLAYOG_RUST:-../shared/docs/src/src}/symbolic.rs" ]; then
   echo "skipped: the Rust's sources are not here, so no comparison was run"
   exit 0
 fi
-rt staticlib bunlayog > /dev/null
+# The archive is built once: proving it again takes longer than the test.
+archive=target/staticlib/libbunlayog.a
+if [ ! -e "$archive" ] || [ -n "$(find crates crates.txt -newer "$archive" -print -quit)" ]; then
+  rt staticlib bunlayog > /dev/null
+fi
 cargo build --offline --release --quiet --manifest-path compare/Cargo.toml --config compare/.cargo/config.toml
-compare/target/release/bunlayog-compare 20261115 60
+compare/target/release/bunlayog-compare 20261115 45

@@ -12,28 +12,42 @@ extern "C" {
     fn bunlayog_exp(k: *mut u8, kl: usize, w: *mut u64, wl: usize, n: *mut u64, a: u64, node: *mut u64) -> u32;
     fn bunlayog_log(k: *mut u8, kl: usize, w: *mut u64, wl: usize, n: *mut u64, a: u64, node: *mut u64) -> u32;
     fn bunlayog_pow(k: *mut u8, kl: usize, w: *mut u64, wl: usize, n: *mut u64, a: u64, e: u32, node: *mut u64) -> u32;
+    fn bunlayog_substitute_var(k: *mut u8, kl: usize, w: *mut u64, wl: usize, n: *mut u64, root: u64, var: u64, value: u64, node: *mut u64) -> u32;
+    fn bunlayog_derive(k: *mut u8, kl: usize, w: *mut u64, wl: usize, n: *mut u64, root: u64, var: u64, node: *mut u64) -> u32;
+    fn bunlayog_read(k: *mut u8, kl: usize, w: *mut u64, wl: usize, n: *mut u64, file: *const u8, fl: usize, root: *mut u64) -> u32;
+    fn bunlayog_check(k: *const u8, kl: usize, w: *const u64, wl: usize, n: u64) -> u32;
+    fn bunlayog_evaluate(k: *const u8, kl: usize, w: *const u64, wl: usize, n: u64, root: u64, v: *const f64, vl: usize, bits: *mut u64) -> u32;
+    fn bunlayog_evaluate_residue(k: *const u8, kl: usize, w: *const u64, wl: usize, n: u64, root: u64, v: *const u32, vl: usize, residue: *mut u32) -> u32;
+    fn bunlayog_print(k: *const u8, kl: usize, w: *const u64, wl: usize, n: u64, root: u64, out: *mut u8, ol: usize, written: *mut u64) -> u32;
+    fn bunlayog_write(k: *const u8, kl: usize, w: *const u64, wl: usize, n: u64, root: u64, out: *mut u8, ol: usize, written: *mut u64) -> u32;
 }
 
 const GUARD: usize = 64;
 const BYTE: u8 = 0xa5;
 const WORD: u64 = 0xa5a5_a5a5_a5a5_a5a5;
 
+#[derive(Clone)]
 pub struct Engine {
     kinds: Vec<u8>,
     words: Vec<u64>,
     count: u64,
+    /// The lengths that the tables are lent with.
+    kinds_len: usize,
+    words_len: usize,
     /// The tables as they are to be: what an accepted call appended is copied here.
     kinds_then: Vec<u8>,
     words_then: Vec<u64>,
 }
 
+/// A call that works on the pool.
 macro_rules! call {
-    ($name:ident, $c:ident, $($arg:ident: $t:ty),*) => {
-        pub fn $name(&mut self, $($arg: $t),*) -> Result<u64, u32> {
+    ($name:ident, $c:ident, $($arg:ident: $t:ty),* $(; $slice:ident)?) => {
+        pub fn $name(&mut self, $($arg: $t,)* $($slice: &[u8])?) -> Result<u64, u32> {
             let mut node = WORD;
             let before = self.count;
             let number = unsafe {
-                $c(self.kinds.as_mut_ptr().add(GUARD), LIMIT, self.words.as_mut_ptr().add(GUARD), LIMIT, &mut self.count, $($arg,)* &mut node)
+                $c(self.kinds.as_mut_ptr().add(GUARD), self.kinds_len, self.words.as_mut_ptr().add(GUARD), self.words_len, &mut self.count,
+                    $($arg,)* $($slice.as_ptr(), $slice.len(),)? &mut node)
             };
             if number == 0 {
                 for i in before as usize..self.count as usize {
@@ -49,13 +63,51 @@ macro_rules! call {
     };
 }
 
+/// A call that gives a number and changes nothing else.
+macro_rules! value {
+    ($name:ident, $c:ident, $t:ty, $given:ty) => {
+        pub fn $name(&self, root: u64, values: &[$t]) -> Result<u64, u32> {
+            let mut given = WORD as $given;
+            let number = unsafe {
+                $c(self.kinds.as_ptr().add(GUARD), self.kinds_len, self.words.as_ptr().add(GUARD), self.words_len, self.count,
+                    root, values.as_ptr(), values.len(), &mut given)
+            };
+            if number == 0 {
+                Ok(given as u64)
+            } else {
+                assert_eq!(given, WORD as $given, "a refused call wrote to the place of its answer");
+                Err(number)
+            }
+        }
+    };
+}
+
+/// A call that writes to an output, which stands between guard bytes.
+macro_rules! output {
+    ($name:ident, $c:ident) => {
+        pub fn $name(&self, root: u64, room: usize) -> Result<Vec<u8>, u32> {
+            let mut out = vec![BYTE; room + 2 * GUARD];
+            let mut written = WORD;
+            let number = unsafe {
+                $c(self.kinds.as_ptr().add(GUARD), self.kinds_len, self.words.as_ptr().add(GUARD), self.words_len, self.count,
+                    root, out.as_mut_ptr().add(GUARD), room, &mut written)
+            };
+            let length = if number == 0 { written as usize } else { 0 };
+            assert!(number == 0 || written == WORD, "a refused call wrote to the place of its answer");
+            let around = out[..GUARD].iter().chain(&out[GUARD + length..]);
+            assert!(around.into_iter().all(|b| *b == BYTE), "a byte of the output changed that should not");
+            if number == 0 { Ok(out[GUARD..GUARD + length].to_vec()) } else { Err(number) }
+        }
+    };
+}
+
 impl Engine {
     pub fn new() -> Self {
         let mut kinds = vec![BYTE; LIMIT + 2 * GUARD];
         let mut words = vec![WORD; LIMIT + 2 * GUARD];
         kinds[GUARD..GUARD + LIMIT].fill(0);
         words[GUARD..GUARD + LIMIT].fill(0);
-        Engine { kinds_then: kinds.clone(), words_then: words.clone(), kinds, words, count: 0 }
+        Engine { kinds_then: kinds.clone(), words_then: words.clone(), kinds, words, count: 0, kinds_len: LIMIT, words_len: LIMIT }
     }
 
     call!(lit, bunlayog_lit, value: i64);
@@ -68,6 +120,34 @@ impl Engine {
     call!(exp, bunlayog_exp, a: u64);
     call!(log, bunlayog_log, a: u64);
     call!(pow, bunlayog_pow, a: u64, e: u32);
+    call!(substitute_var, bunlayog_substitute_var, root: u64, var: u64, value: u64);
+    call!(derive, bunlayog_derive, root: u64, var: u64);
+    call!(read, bunlayog_read, ; file);
+    value!(evaluate, bunlayog_evaluate, f64, u64);
+    value!(evaluate_residue, bunlayog_evaluate_residue, u32, u32);
+    output!(print, bunlayog_print);
+    output!(write, bunlayog_write);
+
+    pub fn check(&self) -> u32 {
+        unsafe { bunlayog_check(self.kinds.as_ptr().add(GUARD), self.kinds_len, self.words.as_ptr().add(GUARD), self.words_len, self.count) }
+    }
+
+    /// Both tables as they are lent.
+    pub fn tables(&self) -> (&[u8], &[u64]) {
+        (&self.kinds[GUARD..GUARD + self.kinds_len], &self.words[GUARD..GUARD + self.words_len])
+    }
+
+    /// Lends shorter tables.
+    pub fn lend(&mut self, kinds_len: usize, words_len: usize) {
+        (self.kinds_len, self.words_len) = (kinds_len, words_len);
+    }
+
+    /// Overwrites an entry, and the count, with anything.
+    pub fn damage(&mut self, i: usize, kind: u8, word: u64, count: u64) {
+        (self.kinds[GUARD + i], self.words[GUARD + i]) = (kind, word);
+        (self.kinds_then[GUARD + i], self.words_then[GUARD + i]) = (kind, word);
+        self.count = count;
+    }
 
     pub fn count(&self) -> u64 {
         self.count

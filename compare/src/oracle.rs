@@ -224,10 +224,20 @@ pub const RULES: &[&str] = &[
     "exp (a + lit)", "exp plain", "log 1", "log literal", "log (lit * b)", "log plain",
 ];
 
-/// Nodes as they are, by no constructor.
-pub fn raw_mul(a: u64, b: u64) -> u64 {
-    Rc::new(Mul::<Whole>(nth(a), nth(b))).number() as u64
-}
-pub fn raw_add(a: u64, b: u64) -> u64 {
-    Rc::new(Add::<Whole>(nth(a), nth(b))).number() as u64
+/// A node as it is, by no constructor: kind and word as document 01's table has them.
+pub fn raw(kind: u8, word: u64) -> u64 {
+    let (a, b) = (word & 0xffff_ffff, word >> 32);
+    let node: Kind = match kind {
+        1 => Variable(Var(word as usize)),
+        2 => Lit(Whole(word as i64)),
+        3 => Add(nth(a), nth(b)),
+        4 => Mul(nth(a), nth(b)),
+        5 => Div(nth(a), nth(b)),
+        6 => Exp(nth(word)),
+        7 => Log(nth(word)),
+        8 => Pow(nth(a), b as u32),
+        9 => Max(nth(a), nth(b)),
+        _ => unreachable!("no kind {kind}"),
+    };
+    Rc::new(node).number() as u64
 }

@@ -1,11 +1,20 @@
--- What a C function leaves: its answer, 0 or the refusal number, and everything that was lent to it. "unchanged after a refusal" holds of the place for the node too.
+-- What a C function leaves: its answer, 0 or the refusal number, and everything that was lent to it. "unchanged after a refusal" holds of the places for
+-- answers too.
 -- Assumes nothing.
+use mathlib.Core.Bool.{Bool, true, false}
 use mathlib.Core.List.{List}
 use Prim.Native.Nat.{ℕ}
+use Rattle.refusals.specs.Refusals.{brokenPool}
 use Rattle.lent.specs.Call.{Left}
 use Rattle.lent.specs.declared.Answer.{Answer}
 use Rattle.lent.specs.declared.Answer.the-variants.{Node, Refused}
 
+-- the test of a pool: 0, or 1
+abbrev pub checkNumber : Bool → ℕ
+checkNumber true = 0
+checkNumber false = brokenPool
+
+-- a call that works on the pool
 pub record LeftInC : Type 0 where
   pub answer : ℕ
   pub kinds : List ℕ
@@ -28,3 +37,20 @@ nodeOr (Refused k) before = before
 
 abbrev pub inC : ℕ → Left → LeftInC
 inC before l = leftInC (numberOf (l .answer)) (l .kinds) (l .words) (l .count) (nodeOr (l .answer) before)
+
+-- a call that gives a number and changes nothing else
+pub record ValueInC : Type 0 where
+  pub answer : ℕ
+  pub value : ℕ
+
+abbrev pub valueInC : ℕ → ℕ → ValueInC
+valueInC r x = record { answer = r; value = x }
+
+-- a call that writes to an output
+pub record OutputInC : Type 0 where
+  pub answer : ℕ
+  pub out : List ℕ
+  pub written : ℕ
+
+abbrev pub outputInC : ℕ → List ℕ → ℕ → OutputInC
+outputInC r out n = record { answer = r; out = out; written = n }

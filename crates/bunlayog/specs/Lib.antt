@@ -1,1 +1,4 @@
 pub mod Interface
+pub mod Values
+pub mod Printing
+pub mod Files

@@ -1,0 +1,22 @@
+-- `bunlayog::file::bunlayog_write` meets its contract: the entry point's outcome in C's terms.
+-- Assumes nothing.
+use borrow.Author.Needs.{needs}
+use Rattle.bunlayog.proofs.InC.{file-in-c}
+use Rattle.bunlayog.proofs.file.bunlayog_write.Statement.{statement}
+use Rattle.bunlayog.proofs.file.bunlayog_write.Tie as tie
+
+write-requires : tie.Need-write-requires
+write-requires c κs = search needs
+
+file-answered-requires : tie.Need-file-answered-requires
+file-answered-requires c κs = search needs
+
+same-length : tie.Need-same-length
+same-length c = search needs
+
+returns : tie.Need-returns
+returns c = file-in-c _ (c .before .before .before .before .write .ensures) (c .file-answered .ensures .0) (c .file-answered .ensures .1)
+
+pub bunlayog-write-spec : {M : Type 1} → statement M
+bunlayog-write-spec =
+    tie.close (tie.spec write-requires file-answered-requires same-length returns)

@@ -1,0 +1,26 @@
+-- `bunlayog::walk::bunlayog_substitute_var` meets its contract: the entry point's outcome in C's terms.
+-- Assumes nothing.
+use borrow.Author.Needs.{needs}
+use Rattle.bunlayog.proofs.InC.{in-c}
+use Rattle.bunlayog.proofs.walk.bunlayog_substitute_var.Statement.{statement}
+use Rattle.bunlayog.proofs.walk.bunlayog_substitute_var.Tie as tie
+
+substitute-var-requires : tie.Need-substitute-var-requires
+substitute-var-requires c κs = search needs
+
+answered-requires : tie.Need-answered-requires
+answered-requires c κs = search needs
+
+same-length : tie.Need-same-length
+same-length c = search needs
+
+same-length-2 : tie.Need-same-length-2
+same-length-2 c = search needs
+
+returns : tie.Need-returns
+returns c = in-c _ (c .before .before .before .before .before .before .substitute-var .ensures) (c .answered .ensures .0) (c .answered .ensures .1)
+
+pub bunlayog-substitute-var-spec : {M : Type 1} → statement M
+bunlayog-substitute-var-spec =
+    tie.close
+    (tie.spec substitute-var-requires answered-requires same-length same-length-2 returns)

@@ -1,0 +1,75 @@
+// An entry point's answer in C's terms: what it gives goes to its place, and a refusal leaves the place as it was. The number is 0 or the refusal.
+ghost use mathlib.Core.Path.{_≡_};
+ghost use Rattle.residue.specs.Residue.{fixedModulus};
+ghost use Rattle.evaluate_residue.specs.Residues.{Below};
+ghost use Rattle.bunlayog.specs.Interface.{numberOf, nodeOr, valueInC};
+ghost use Rattle.bunlayog.specs.Values.{bitsInC, residueInC};
+ghost use Rattle.bunlayog.specs.Printing.{textNumber, textLengthOr};
+ghost use Rattle.bunlayog.specs.Files.{fileNumber, fileLengthOr};
+use double::Valued;
+use lent::Answer;
+use residue::Divided;
+
+pub fn answered(answer: Answer, node: &mut u64) -> u32
+    ensures { λ r. ⌜ r ≡ numberOf answer ⌝ }
+    ensures { λ r. ⌜ now (node .exit) ≡ nodeOr answer (now (node .entry)) ⌝ }
+{
+    match answer {
+        Answer::Node(i) => {
+            *node = i;
+            0
+        }
+        Answer::Refused(number) => number,
+    }
+}
+
+pub fn bits_answered(answer: Valued, bits: &mut u64) -> u32
+    ensures { λ r. ⌜ valueInC r (now (bits .exit)) ≡ bitsInC (now (bits .entry)) answer ⌝ }
+{
+    match answer {
+        Valued::Double(x) => {
+            *bits = double::bits(x);
+            0
+        }
+        Valued::Refused(number) => number,
+    }
+}
+
+pub fn residue_answered(answer: Divided, residue: &mut u32) -> u32
+    requires { ⌜ Below fixedModulus answer ⌝ }
+    ensures { λ r. ⌜ valueInC r (now (residue .exit)) ≡ residueInC (now (residue .entry)) answer ⌝ }
+{
+    match answer {
+        Divided::Residue(x) => {
+            *residue = x as u32;
+            0
+        }
+        Divided::Refused(number) => number,
+    }
+}
+
+pub fn text_answered(answer: engine_print::Written, written: &mut u64) -> u32
+    ensures { λ r. ⌜ r ≡ textNumber answer ⌝ }
+    ensures { λ r. ⌜ now (written .exit) ≡ textLengthOr answer (now (written .entry)) ⌝ }
+{
+    match answer {
+        engine_print::Written::Length(n) => {
+            *written = n;
+            0
+        }
+        engine_print::Written::Refused(number) => number,
+    }
+}
+
+pub fn file_answered(answer: engine_file::Written, written: &mut u64) -> u32
+    ensures { λ r. ⌜ r ≡ fileNumber answer ⌝ }
+    ensures { λ r. ⌜ now (written .exit) ≡ fileLengthOr answer (now (written .entry)) ⌝ }
+{
+    match answer {
+        engine_file::Written::Length(n) => {
+            *written = n;
+            0
+        }
+        engine_file::Written::Refused(number) => number,
+    }
+}

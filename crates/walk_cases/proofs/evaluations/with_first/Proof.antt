@@ -1,0 +1,22 @@
+-- `walk_cases::evaluations::with_first` is safe: the part lies within the table.
+-- Assumes nothing.
+use mathlib.Core.Path.{sym}
+use lib.Seq.{length-take-le}
+use borrow.Author.Needs.{needs}
+use Rattle.walk_cases.proofs.evaluations.with_first.Statement.{statement}
+use Rattle.walk_cases.proofs.evaluations.with_first.Tie as tie
+
+slice-aggregate-evaluate : tie.Need-slice-aggregate-evaluate
+slice-aggregate-evaluate c = sym (length-take-le _ _ (c .before .if1 .taken))
+
+evaluate-requires : tie.Need-evaluate-requires
+evaluate-requires c κs = search needs
+
+returns : tie.Need-returns
+returns c = search needs
+
+returns-2 : tie.Need-returns-2
+returns-2 c = search needs
+
+pub with-first-spec : {M : Type 1} → statement M
+with-first-spec = tie.close (tie.spec slice-aggregate-evaluate evaluate-requires returns returns-2)
