@@ -5,5 +5,8 @@ mod walk;
 
 pub use max::has_max;
 pub use output::TEXT_MAX;
+pub use output::write;
+pub use output::write_exponent;
+pub use output::write_literal;
 pub use walk::print_into;
 pub use walk::text_length;

@@ -1,0 +1,4 @@
+pub mod Formula
+pub mod Book
+pub mod Order
+pub mod Recurrence

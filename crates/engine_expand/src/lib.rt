@@ -1,0 +1,105 @@
+// `taylor_coeffs` and `taylor_coeffs_at` as calls from outside.
+ghost use mathlib.Core.Path.{_≡_};
+ghost use lib.Dec.{leb};
+ghost use Rattle.pool.specs.Nodes.{greatestVariable};
+ghost use Rattle.taylor.specs.Expand.{none, point};
+ghost use Rattle.expand.specs.Points.{pointOf};
+ghost use Rattle.lent_series.specs.Call.{left, onPool};
+ghost use Rattle.engine_expand.specs.Expressions.{isPoint, expandWork};
+use expand::Point;
+use lent_series::Outcome;
+use pool::LIMIT;
+use pool::Room;
+use taylor_base::TERMS;
+
+// Whether a variable number is one.
+fn is_variable(var: u64) -> bool
+    ensures { λ r. ⌜ r ≡ leb var greatestVariable ⌝ }
+{
+    var <= pool::VARIABLE_MAX
+}
+
+// Whether the point is a literal, if there is one.
+fn is_point(x: Point) -> bool
+    ensures { λ r. ⌜ r ≡ isPoint (pointOf x) ⌝ }
+{
+    match x {
+        Point::None => true,
+        Point::At(z) => literal::is_literal(z),
+    }
+}
+
+// 1 to 5, then the walk.
+fn on_expression(
+    kinds: &mut [u8],
+    words: &mut [u64],
+    count: &mut u64,
+    root: u64,
+    var: u64,
+    x: Point,
+    order: u64,
+) -> Outcome
+    ensures { λ r. ⌜ left r (now (kinds .exit)) (now (words .exit)) (now (count .exit)) ≡ onPool (expandWork root var (pointOf x) order) (now (kinds .entry)) (now (words .entry)) (now (count .entry)) ⌝ }
+{
+    let mut k = [0u8; LIMIT];
+    let mut w = [0u64; LIMIT];
+    let n = *count;
+    if !lent::take_in(kinds, words, n, &mut k, &mut w) {
+        return lent_series::refused(refusals::BROKEN_POOL);
+    }
+    if !lent::one_given(n, root) {
+        return lent_series::refused(refusals::UNKNOWN_NODE);
+    }
+    if !is_variable(var) {
+        return lent_series::refused(refusals::UNKNOWN_VARIABLE);
+    }
+    if !is_point(x) {
+        return lent_series::refused(refusals::NOT_LITERAL);
+    }
+    if order >= TERMS as u64 {
+        return lent_series::refused(refusals::WRONG_ORDER);
+    }
+    let room = Room {
+        count: n as u32,
+        end: LIMIT as u32,
+    };
+    let result = expand::expand_in(
+        &mut k,
+        &mut w,
+        room,
+        root as u32,
+        var as u32,
+        x,
+        order as u32,
+    );
+    lent_series::finish(kinds, words, count, &k, &w, result)
+}
+
+// The expansion of an expression at the variable itself.
+pub fn coeffs(
+    kinds: &mut [u8],
+    words: &mut [u64],
+    count: &mut u64,
+    root: u64,
+    var: u64,
+    order: u64,
+) -> Outcome
+    ensures { λ r. ⌜ left r (now (kinds .exit)) (now (words .exit)) (now (count .exit)) ≡ onPool (expandWork root var none order) (now (kinds .entry)) (now (words .entry)) (now (count .entry)) ⌝ }
+{
+    on_expression(kinds, words, count, root, var, Point::None, order)
+}
+
+// The expansion of an expression at a point.
+pub fn coeffs_at(
+    kinds: &mut [u8],
+    words: &mut [u64],
+    count: &mut u64,
+    root: u64,
+    var: u64,
+    z: i64,
+    order: u64,
+) -> Outcome
+    ensures { λ r. ⌜ left r (now (kinds .exit)) (now (words .exit)) (now (count .exit)) ≡ onPool (expandWork root var (point z) order) (now (kinds .entry)) (now (words .entry)) (now (count .entry)) ⌝ }
+{
+    on_expression(kinds, words, count, root, var, Point::At(z), order)
+}

@@ -1,0 +1,3 @@
+pub mod Growing
+pub mod Indices
+pub mod Reading

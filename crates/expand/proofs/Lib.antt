@@ -1,0 +1,4 @@
+pub mod Tables
+pub mod Leaves
+pub mod Parts
+pub mod Turns

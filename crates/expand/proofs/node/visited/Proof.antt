@@ -1,0 +1,92 @@
+-- `expand::node::visited` meets its contract: each arm gives the parts that the definition visits.
+-- Assumes nothing.
+use borrow.Author.Needs.{needs}
+use mathlib.Core.Path.{sym, ap}
+use Rattle.expand.specs.Nodes.{visits}
+use Rattle.expand.proofs.node.visited.Statement.{statement}
+use Rattle.expand.proofs.node.visited.Tie as tie
+
+enum-told : tie.Need-enum-told
+enum-told c = search needs
+
+enum-told-2 : tie.Need-enum-told-2
+enum-told-2 c = search needs
+
+enum-told-3 : tie.Need-enum-told-3
+enum-told-3 c = search needs
+
+enum-known-node : tie.Need-enum-known-node
+enum-known-node c = search needs
+
+enum-known-node-2 : tie.Need-enum-known-node-2
+enum-known-node-2 c = search needs
+
+enum-known-node-3 : tie.Need-enum-known-node-3
+enum-known-node-3 c = search needs
+
+enum-known-node-4 : tie.Need-enum-known-node-4
+enum-known-node-4 c = search needs
+
+enum-known-node-5 : tie.Need-enum-known-node-5
+enum-known-node-5 c = search needs
+
+enum-known-node-6 : tie.Need-enum-known-node-6
+enum-known-node-6 c = search needs
+
+enum-told-4 : tie.Need-enum-told-4
+enum-told-4 c = search needs
+
+returns : tie.Need-returns
+returns c = search needs
+
+returns-2 : tie.Need-returns-2
+returns-2 c = search needs
+
+returns-3 : tie.Need-returns-3
+returns-3 c = search needs
+
+returns-4 : tie.Need-returns-4
+returns-4 c = sym (ap visits (c .before .node .given .1))
+
+returns-5 : tie.Need-returns-5
+returns-5 c = sym (ap visits (c .before .node2 .given .1))
+
+returns-6 : tie.Need-returns-6
+returns-6 c = sym (ap visits (c .before .node3 .given .1))
+
+returns-7 : tie.Need-returns-7
+returns-7 c = sym (ap visits (c .before .node4 .given .1))
+
+returns-8 : tie.Need-returns-8
+returns-8 c = sym (ap visits (c .before .node5 .given .1))
+
+returns-9 : tie.Need-returns-9
+returns-9 c = sym (ap visits (c .before .node6 .given .1))
+
+returns-10 : tie.Need-returns-10
+returns-10 c = search needs
+
+pub visited-spec : {M : Type 1} → statement M
+visited-spec =
+    tie.close
+    (tie.spec
+    enum-told
+    enum-told-2
+    enum-told-3
+    enum-known-node
+    enum-known-node-2
+    enum-known-node-3
+    enum-known-node-4
+    enum-known-node-5
+    enum-known-node-6
+    enum-told-4
+    returns
+    returns-2
+    returns-3
+    returns-4
+    returns-5
+    returns-6
+    returns-7
+    returns-8
+    returns-9
+    returns-10)

@@ -1,0 +1,1 @@
+// Laws of the expansion of an expression: how its walk goes, and what it keeps. There is no code here.

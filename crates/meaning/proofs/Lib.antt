@@ -1,0 +1,10 @@
+pub mod Laws
+pub mod Recursion
+pub mod Values
+pub mod Terms
+pub mod Tables
+pub mod Running
+pub mod Theorems
+pub mod Integers
+pub mod Limits
+pub mod Duals

@@ -1,0 +1,5 @@
+pub mod Model
+pub mod Value
+pub mod Integers
+pub mod Examples
+pub mod Duals

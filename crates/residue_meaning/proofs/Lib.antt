@@ -1,0 +1,4 @@
+pub mod Signs
+pub mod Model
+pub mod Evaluation
+pub mod Theorems

@@ -1,0 +1,50 @@
+-- `sheet_lines::answer::expand_file` meets its contract: the file is read into an empty pool, then comes the walk.
+-- Assumes nothing.
+use borrow.Author.Needs.{needs}
+use Rattle.expand.specs.Points.{pointOf}
+use Rattle.taylor_base.proofs.Lists.{refusal-answers, answers-same}
+use Rattle.sheet_lines.proofs.Pages.{file-refused, file-read}
+use Rattle.sheet_lines.proofs.answer.expand_file.Statement.{statement}
+use Rattle.sheet_lines.proofs.answer.expand_file.Tie as tie
+
+cast-t11 : tie.Need-cast-t11
+cast-t11 c = search needs
+
+read-file-requires : tie.Need-read-file-requires
+read-file-requires c κs = search needs
+
+enum-known-made : tie.Need-enum-known-made
+enum-known-made c = search needs
+
+enum-told : tie.Need-enum-told
+enum-told c = search needs
+
+answer-of-requires : tie.Need-answer-of-requires
+answer-of-requires c κs = search needs
+
+returns : tie.Need-returns
+returns c =
+    let made = c .before .before .before .read-file in
+    refusal-answers (made .result) (made .last .1 .0) (made .last .1 .1 .0) (c .answer-of .ensures) (c .before .enum-told .given .1)
+    (file-refused (c .before .before .before .before .before .before .before .args .file .now) (c .before .before .before .before .before .before .before .args .var) (pointOf (c .before .before .before .before .before .before .before .args .point)) (c .before .before .before .before .before .before .before .args .order) (made .result) (made .last .1 .0) (made .last .1 .1 .0) (c .before .before .before .before .before .before .before .pre .1) (made .ensures) (c .before .enum-told .given .1))
+
+expand-in-requires : tie.Need-expand-in-requires
+expand-in-requires c κs = search needs
+
+returns-2 : tie.Need-returns-2
+returns-2 c =
+    let made = c .before .before .before .before .before .before .read-file in
+    answers-same (c .expand-in .ensures) (file-read (c .before .before .before .before .before .before .before .before .before .before .args .file .now) (c .before .before .before .before .before .before .before .before .before .before .args .var) (pointOf (c .before .before .before .before .before .before .before .before .before .before .args .point)) (c .before .before .before .before .before .before .before .before .before .before .args .order) (made .result) (made .last .1 .0) (made .last .1 .1 .0) (c .before .before .before .before .before .before .before .before .before .before .pre .1) (made .ensures) (c .before .before .before .before .made .given .1))
+
+pub expand-file-spec : {M : Type 1} → statement M
+expand-file-spec =
+    tie.close
+    (tie.spec
+    cast-t11
+    read-file-requires
+    enum-known-made
+    enum-told
+    answer-of-requires
+    returns
+    expand-in-requires
+    returns-2)

@@ -1,0 +1,77 @@
+-- A sheet in pieces, line by line: the first line is one piece; of each further line the index, the text and the line end are one each.
+-- Assumes nothing.
+use mathlib.Core.Path.{_≡_}
+use mathlib.Core.Bool.{Bool, true, false}
+use mathlib.Core.List.{List, [], _∷_, _++_}
+use Prim.Native.Nat.{ℕ, zero, suc, _≤_, _<_}
+use lib.Dec.{ltb}
+use lib.ListN.{length, drop}
+use Rattle.text.specs.Text.{decimal}
+use Rattle.pool.specs.Pool.{nodeIn}
+use Rattle.walks.specs.Print.{textOf, longestText}
+use Rattle.taylor.specs.Work.{at}
+use Rattle.taylor.specs.Expand.{Point}
+use Rattle.taylor_base.specs.Answers.{terms}
+use Rattle.expand.specs.Points.{pointOf}
+use Rattle.sheet_text.specs.Sheet.{lineEnd, space, colon, usageText, refusedText, pointText}
+use Rattle.sheet_page.specs.declared.first.Page.{Page}
+use Rattle.sheet_page.specs.declared.first.Verdict.{Verdict}
+use Rattle.sheet_page.specs.declared.first.Verdict.the-variants.{Usage, Refused, Lines}
+
+-- `refused`, one space and the number
+abbrev pub refusedLine : ℕ → List ℕ
+refusedLine k = refusedText ++ decimal k ++ lineEnd
+
+-- variable, order, point or `none`
+abbrev pub firstLine : ℕ → ℕ → Point → List ℕ
+firstLine v order x = decimal v ++ space ++ decimal order ++ space ++ pointText x ++ lineEnd
+
+abbrev pub headBy : Verdict → Page → List ℕ
+headBy Usage page = usageText ++ lineEnd
+headBy (Refused k) page = refusedLine k
+headBy Lines page = firstLine (page .var) (page .order) (pointOf (page .point))
+
+abbrev pub headOf : Page → List ℕ
+headOf page = headBy (page .verdict) page
+
+-- the pieces of the line of coefficient i
+abbrev pub partOf : List ℕ → ℕ → ℕ → List ℕ
+partOf text i zero = decimal i ++ colon
+partOf text i (suc zero) = text
+partOf text i (suc (suc zero)) = lineEnd
+partOf text i (suc (suc (suc part))) = []
+
+abbrev pub pick : Bool → List ℕ → List ℕ → List ℕ
+pick true a b = a
+pick false a b = b
+
+-- the text of coefficient i
+abbrev pub textAt : Page → List ℕ → List ℕ → ℕ → List ℕ
+textAt page ks ws i = textOf (nodeIn ks ws) (at (page .nodes) i)
+
+unfoldable pub pieceOf : Page → List ℕ → List ℕ → ℕ → ℕ → List ℕ
+pieceOf page ks ws zero zero = headOf page
+pieceOf page ks ws zero (suc part) = []
+pieceOf page ks ws (suc i) part = pick (ltb i (page .lines)) (partOf (textAt page ks ws i) i part) []
+
+-- the pieces of a line, and of the first n lines
+abbrev pub lineOf : Page → List ℕ → List ℕ → ℕ → List ℕ
+lineOf page ks ws line = pieceOf page ks ws line 0 ++ pieceOf page ks ws line 1 ++ pieceOf page ks ws line 2
+
+unfoldable pub linesUpTo : Page → List ℕ → List ℕ → ℕ → List ℕ
+linesUpTo page ks ws zero = []
+linesUpTo page ks ws (suc n) = linesUpTo page ks ws n ++ lineOf page ks ws n
+
+-- all pieces in order: the first line and those of the coefficients
+abbrev pub wholeOf : Page → List ℕ → List ℕ → List ℕ
+wholeOf page ks ws = linesUpTo page ks ws (suc (page .lines))
+
+-- "19 here means one coefficient's text above 65,535 bytes": no text is
+pub record Printable (page : Page) (ks ws : List ℕ) : Type 0 where
+  pub few : page .lines ≤ terms
+  pub short : (i : ℕ) → i < page .lines → length (textAt page ks ws i) ≤ longestText
+
+-- a piece at the front of the output, which is otherwise as before
+pub record Put (text before : List ℕ) (n : ℕ) (after : List ℕ) : Type 0 where
+  pub long : n ≡ length text
+  pub bytes : after ≡ text ++ drop (length text) before

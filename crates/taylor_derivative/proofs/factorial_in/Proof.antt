@@ -1,0 +1,34 @@
+-- `taylor_derivative::factorial_in` meets its contract: a one, and the factors after it.
+-- Assumes nothing.
+use borrow.Author.Needs.{needs}
+use Rattle.taylor_base.proofs.Steps.{onward, handed-on}
+use Rattle.taylor_derivative.proofs.factorial_in.Statement.{statement}
+use Rattle.taylor_derivative.proofs.factorial_in.Tie as tie
+
+from-in-requires : tie.Need-from-in-requires
+from-in-requires c κs = search needs
+
+enum-known-one : tie.Need-enum-known-one
+enum-known-one c = search needs
+
+enum-told : tie.Need-enum-told
+enum-told c = search needs
+
+returns : tie.Need-returns
+returns c =
+    let one = c .before .before .from-in in
+    handed-on (one .last .0) (one .last .1 .0) _ _ _ (c .enum-told .given .1) (one .ensures)
+
+products-in-requires : tie.Need-products-in-requires
+products-in-requires c κs = search needs
+
+returns-2 : tie.Need-returns-2
+returns-2 c =
+    let one = c .before .before .before .before .before .before .from-in in
+    onward (one .last .0) (one .last .1 .0) _ (c .before .before .before .before .one .given .1) (one .ensures)
+    (c .products-in .ensures)
+
+pub factorial-in-spec : {M : Type 1} → statement M
+factorial-in-spec =
+    tie.close
+    (tie.spec from-in-requires enum-known-one enum-told returns products-in-requires returns-2)

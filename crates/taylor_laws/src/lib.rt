@@ -1,0 +1,1 @@
+// What the definitions of the expansions promise of every pool, proved in proofs/; there is no code here.

@@ -1,0 +1,16 @@
+pub mod Sums
+pub mod SeriesRing
+pub mod Working
+pub mod Operations
+pub mod Elementary
+pub mod Quotients
+pub mod Polynomials
+pub mod Powers
+pub mod Compositions
+pub mod Walking
+pub mod Expanding
+pub mod Book
+pub mod Theorems
+pub mod PolynomialExpressions
+pub mod Functions
+pub mod FirstCoefficients

@@ -1,0 +1,4 @@
+pub mod Series
+pub mod Coefficients
+pub mod Book
+pub mod PolynomialExpressions

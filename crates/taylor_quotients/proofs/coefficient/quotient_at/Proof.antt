@@ -1,0 +1,36 @@
+-- `taylor_quotients::coefficient::quotient_at` meets its contract: the terms are taken away, then comes the scale.
+-- Assumes nothing.
+use mathlib.Core.Path.{ap}
+use borrow.Author.Needs.{needs}
+use Rattle.taylor_base.proofs.Steps.{onward, handed-on}
+use Rattle.taylor.specs.Work.{answered}
+use Rattle.taylor_quotients.proofs.coefficient.quotient_at.Statement.{statement}
+use Rattle.taylor_quotients.proofs.coefficient.quotient_at.Tie as tie
+
+fold-in-requires : tie.Need-fold-in-requires
+fold-in-requires c κs = search needs
+
+enum-known-sum : tie.Need-enum-known-sum
+enum-known-sum c = search needs
+
+enum-told : tie.Need-enum-told
+enum-told c = search needs
+
+returns : tie.Need-returns
+returns c =
+    let sum = c .before .before .fold-in in
+    handed-on (sum .last .0) (sum .last .1 .0) _ _ _ (c .enum-told .given .1) (sum .ensures)
+
+mul-in-requires : tie.Need-mul-in-requires
+mul-in-requires c κs = search needs
+
+returns-2 : tie.Need-returns-2
+returns-2 c =
+    let sum = c .before .before .before .before .before .before .fold-in in
+    onward (sum .last .0) (sum .last .1 .0) _ (c .before .before .before .before .sum .given .1) (sum .ensures)
+    (ap answered (c .mul-in .ensures))
+
+pub quotient-at-spec : {M : Type 1} → statement M
+quotient-at-spec =
+    tie.close
+    (tie.spec fold-in-requires enum-known-sum enum-told returns mul-in-requires returns-2)

@@ -1,0 +1,4 @@
+pub mod Walking
+pub mod Substitution
+pub mod Slopes
+pub mod Derivation

@@ -1,0 +1,131 @@
+-- Substitution: the answer has the value that the root has where the variable is set to the value of the node put in. A part that is given back unchanged has that value already.
+-- Assumes nothing.
+use mathlib.Core.Path.{_≡_, refl, sym, ap, _∙_}
+use mathlib.Core.Bool.{Bool, true, false, _&&_, cond, and-eq-true-iff}
+use Prim.Native.Nat.{ℕ, _<_}
+use native.Mathlib.Omega.{arith}
+use lib.Dec.{eqb}
+use borrow.Author.Tests.{eqb-true}
+use Rattle.pool.specs.declared.node.Node.{Node}
+use Rattle.pool.specs.declared.node.Node.the-variants.{Empty, Variable, Lit, Add, Mul, Div, Exp, Log, Pow, Max}
+use Rattle.pool.specs.Nodes.{parts}
+use Rattle.pool.specs.Pool.{Pool, done, Run, nodeAt}
+use Rattle.constructors.specs.Build.{depth}
+use Rattle.constructor_laws.specs.Keeps.{Keeps}
+use Rattle.constructor_laws.proofs.Growth.{earlier-same}
+use Rattle.constructor_laws.proofs.Rules.{AllBelow, parts-below}
+use Rattle.walks.specs.Walk.{State, Walk, bind, yield, lift}
+use Rattle.walks.specs.Substitute.{unless, pick, substituteNode, substituteAt, substituteVar}
+use Rattle.meaning.specs.Model.{Algebra, Model, power}
+use Rattle.meaning.specs.Value.{Values, valueNode, value, Means}
+use Rattle.meaning.proofs.Values.{falling, same-op, value-law, value-kept}
+use Rattle.meaning.proofs.Running.{TwoMean, OneMeans, calls-mean, after-weaker}
+use Rattle.meaning.proofs.Theorems.{meant}
+use Rattle.walk_meaning.specs.Setting.{setting}
+use Rattle.walk_meaning.proofs.Walking.{Good, Walked, ended-walk, walked-next, walked-here, lift-walked, Walks, walk-means}
+
+module _ {A : Algebra} (M : Model A) (env : Values A) {P₀ : Pool} (keeps : Keeps P₀) (var given : ℕ) (below : given < P₀ .count) where
+  open Algebra A using (carrier)
+
+  abbrev val : Pool → ℕ → carrier
+  val P i = value A env (nodeAt P) i
+
+  -- the variable set to the value of the node put in
+  abbrev set-values : Values A
+  set-values = setting A env var (val P₀ given)
+
+  abbrev goal : ℕ → carrier
+  goal i = value A set-values (nodeAt P₀) i
+
+  -- a node of the first pool has the value that it had
+  stands : {S : State} → Good M env P₀ goal S → (i : ℕ) → i < P₀ .count → val (S .pool) i ≡ val P₀ i
+  stands good i h = value-kept A env keeps (good .grown) i h
+
+  -- the value of a node, from its parts' values
+  from-parts : (i : ℕ) {x : Node} → nodeAt P₀ i ≡ x → val P₀ i ≡ valueNode A env (val P₀) x
+  from-parts i e = value-law A env (nodeAt P₀) (falling keeps) i ∙ ap (valueNode A env (val P₀)) e
+
+  goal-from-parts : (i : ℕ) {x : Node} → nodeAt P₀ i ≡ x → goal i ≡ valueNode A set-values goal x
+  goal-from-parts i e = value-law A set-values (nodeAt P₀) (falling keeps) i ∙ ap (valueNode A set-values goal) e
+
+  module _ {down : ℕ → Walk} (walks : Walks M env P₀ goal down) (term : ℕ) (h : term < P₀ .count) where
+    later : {S : State} → Good M env P₀ goal S → term < S .pool .count
+    later good = omega (arith, good .grown .no-fewer)
+
+    -- a node of two parts: given back if both came back, else built from what came
+    two-parts :
+        {make : ℕ → ℕ → Run} (op : carrier → carrier → carrier) (a b : ℕ)
+        → TwoMean M env make op
+        → (a < P₀ .count) × (b < P₀ .count)
+        → val P₀ term ≡ op (val P₀ a) (val P₀ b)
+        → goal term ≡ op (goal a) (goal b)
+        → (S : State) → Good M env P₀ goal S
+        → Walked M env P₀ goal S (goal term) (bind (down a S) (λ a2 T. bind (down b T) (λ b2. unless (eqb a a2 && eqb b b2) term (lift (make a2 b2)))))
+    two-parts {make} op a b means (la, lb) here there S good =
+        walked-next M env P₀ goal (walks a la S good) (λ a2 T good-T gT lT eT.
+        walked-next M env P₀ goal (walks b lb T good-T) (λ b2 U good-U gU lU eU.
+        go a2 b2 U good-U (omega (arith, gU .no-fewer)) lU (value-kept A env (good-T .keeps) gU a2 lT ∙ eT) eU (eqb a a2 && eqb b b2) refl))
+      where
+        go :
+            (a2 b2 : ℕ) (U : State) → Good M env P₀ goal U → a2 < U .pool .count → b2 < U .pool .count → val (U .pool) a2 ≡ goal a → val (U .pool) b2 ≡ goal b
+            → (t : Bool) → (eqb a a2 && eqb b b2) ≡ t → Walked M env P₀ goal U (goal term) (unless t term (lift (make a2 b2)) U)
+        go a2 b2 U good-U l2 m2 ea eb true t =
+            let both = and-eq-true-iff (eqb a a2) (eqb b b2) .0 t in
+            let same-a : val P₀ a ≡ goal a = sym (stands good-U a la) ∙ ap (val (U .pool)) (eqb-true a a2 (both .0)) ∙ ea in
+            let same-b : val P₀ b ≡ goal b = sym (stands good-U b lb) ∙ ap (val (U .pool)) (eqb-true b b2 (both .1)) ∙ eb in
+            walked-here M env P₀ goal good-U (later good-U) (stands good-U term h ∙ here ∙ same-op op same-a same-b ∙ sym there)
+        go a2 b2 U good-U l2 m2 ea eb false t =
+            lift-walked M env P₀ goal (make a2 b2) good-U (after-weaker M env (λ y e. e ∙ same-op op ea eb ∙ sym there) (means (U .pool) (good-U .keeps) a2 b2 l2 m2))
+
+    one-part :
+        {make : ℕ → Run} (op : carrier → carrier) (a : ℕ)
+        → OneMeans M env make op
+        → a < P₀ .count
+        → val P₀ term ≡ op (val P₀ a)
+        → goal term ≡ op (goal a)
+        → (S : State) → Good M env P₀ goal S
+        → Walked M env P₀ goal S (goal term) (bind (down a S) (λ a2. unless (eqb a a2) term (lift (make a2))))
+    one-part {make} op a means la here there S good =
+        walked-next M env P₀ goal (walks a la S good) (λ a2 T good-T gT lT eT. go a2 T good-T lT eT (eqb a a2) refl)
+      where
+        go :
+            (a2 : ℕ) (U : State) → Good M env P₀ goal U → a2 < U .pool .count → val (U .pool) a2 ≡ goal a
+            → (t : Bool) → eqb a a2 ≡ t → Walked M env P₀ goal U (goal term) (unless t term (lift (make a2)) U)
+        go a2 U good-U l2 ea true t =
+            let same-a : val P₀ a ≡ goal a = sym (stands good-U a la) ∙ ap (val (U .pool)) (eqb-true a a2 t) ∙ ea in
+            walked-here M env P₀ goal good-U (later good-U) (stands good-U term h ∙ here ∙ ap op same-a ∙ sym there)
+        go a2 U good-U l2 ea false t =
+            lift-walked M env P₀ goal (make a2) good-U (after-weaker M env (λ y e. e ∙ ap op ea ∙ sym there) (means (U .pool) (good-U .keeps) a2 l2))
+
+    variable-walked : (v : ℕ) → nodeAt P₀ term ≡ Variable v → (S : State) → Good M env P₀ goal S → Walked M env P₀ goal S (goal term) (yield (pick (eqb v var) given term) S)
+    unfolding valueNode
+    variable-walked v e S good = go (eqb v var) (from-parts term e) (goal-from-parts term e)
+      where
+        go : (t : Bool) → val P₀ term ≡ env v → goal term ≡ cond t (val P₀ given) (env v) → Walked M env P₀ goal S (goal term) (yield (pick t given term) S)
+        go true here there = walked-here M env P₀ goal good (omega (arith, good .grown .no-fewer)) (stands good given below ∙ sym there)
+        go false here there = walked-here M env P₀ goal good (later good) (stands good term h ∙ here ∙ sym there)
+
+    node-walked :
+        (x : Node) → nodeAt P₀ term ≡ x → AllBelow (P₀ .count) (parts x) → (S : State) → Good M env P₀ goal S → Walked M env P₀ goal S (goal term) (substituteNode var given down term x S)
+    unfolding valueNode
+    node-walked Empty e l S good = ended-walk
+    node-walked (Variable v) e l S good = variable-walked v e S good
+    node-walked (Lit z) e l S good = walked-here M env P₀ goal good (later good) (stands good term h ∙ from-parts term e ∙ sym (goal-from-parts term e))
+    node-walked (Add a b) e (la, (lb, _)) S good = two-parts (A .plus) a b (calls-mean M env depth .add-at) (la, lb) (from-parts term e) (goal-from-parts term e) S good
+    node-walked (Mul a b) e (la, (lb, _)) S good = two-parts (A .times) a b (calls-mean M env depth .mul-at) (la, lb) (from-parts term e) (goal-from-parts term e) S good
+    node-walked (Div a b) e (la, (lb, _)) S good = two-parts (A .over) a b (calls-mean M env depth .div-at) (la, lb) (from-parts term e) (goal-from-parts term e) S good
+    node-walked (Exp a) e (la, _) S good = one-part (A .exp) a (calls-mean M env depth .exp-at) la (from-parts term e) (goal-from-parts term e) S good
+    node-walked (Log a) e (la, _) S good = one-part (A .log) a (calls-mean M env depth .log-at) la (from-parts term e) (goal-from-parts term e) S good
+    node-walked (Pow a n) e (la, _) S good = one-part (λ x. power A x n) a (calls-mean M env depth .pow-at n) la (from-parts term e) (goal-from-parts term e) S good
+    node-walked (Max a b) e (la, (lb, _)) S good = two-parts (A .max) a b (calls-mean M env depth .max-at) (la, lb) (from-parts term e) (goal-from-parts term e) S good
+
+  at-walked : (down : ℕ → Walk) → Walks M env P₀ goal down → Walks M env P₀ goal (substituteAt var given down)
+  at-walked down walks i h S good = node-walked walks i h (nodeAt (S .pool) i) (sym same) (rw same (parts-below keeps i)) S good
+    where
+      same : nodeAt (S .pool) i ≡ nodeAt P₀ i
+      same = earlier-same (good .grown) i h
+
+  -- an accepted substitution: the answer's value is the root's with the variable set to the value of the node put in, and all earlier values stand
+  pub substitution-means : {i : ℕ} {Q : Pool} (root : ℕ) → root < P₀ .count → substituteVar root var given P₀ ≡ done i Q → Means A env P₀ (goal root) i Q
+  unfolding substituteVar
+  substitution-means root h e = meant M env keeps (walk-means M env P₀ goal at-walked keeps root h) e
