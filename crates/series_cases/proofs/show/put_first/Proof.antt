@@ -1,0 +1,22 @@
+-- `series_cases::show::put_first` is safe: the part lies within the bytes.
+-- Assumes nothing.
+use mathlib.Core.Path.{sym}
+use lib.Seq.{length-take-le}
+use borrow.Author.Needs.{needs}
+use Rattle.series_cases.proofs.show.put_first.Statement.{statement}
+use Rattle.series_cases.proofs.show.put_first.Tie as tie
+
+slice-aggregate-put : tie.Need-slice-aggregate-put
+slice-aggregate-put c = sym (length-take-le _ _ (c .before .if1 .taken))
+
+put-requires : tie.Need-put-requires
+put-requires c κs = search needs
+
+returns : tie.Need-returns
+returns c = search needs
+
+returns-2 : tie.Need-returns-2
+returns-2 c = search needs
+
+pub put-first-spec : {M : Type 1} → statement M
+put-first-spec = tie.close (tie.spec slice-aggregate-put put-requires returns returns-2)
