@@ -8,7 +8,7 @@ use Rattle.pool.specs.Pool.{Pool}
 use Rattle.taylor.specs.Work.{Result, gives, refused-work, Work, bind, yield, from, add, sub, mul, div, at, fold}
 use Rattle.taylor.specs.Expansion.{productTerm, productAt, quotientTerm, quotientAt, expTerm, expAt, logTerm, logAt}
 use Rattle.taylor_base.proofs.Steps.{bind-same, bind-assoc}
-use Rattle.book.specs.Formula.{Formula, #, whole, _⊕_, _⊖_, _⊗_, _⊘_, _⊟_, work, chain, sum, less}
+use Rattle.book.specs.Formula.{Formula, #, whole, _⊕_, _⊖_, _⊗_, work, chain}
 use Rattle.book.specs.Book.{list}
 use Rattle.book.specs.Order.{productOrdered, quotientOrdered, expOrdered, logOrdered}
 

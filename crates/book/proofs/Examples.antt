@@ -1,7 +1,7 @@
 -- The recurrences at k = 2, written out: the book's, and the Rust's order. Worked out by hand from the book's tables and the Rust's text.
 -- Assumes nothing.
 use mathlib.Core.Path.{_≡_, refl}
-use Prim.Native.Nat.{ℕ, _+_, _-_}
+use Prim.Native.Nat.{ℕ}
 use Rattle.book.specs.Formula.{#, whole, _⊕_, _⊖_, _⊗_, _⊘_, _⊟_, chain}
 use Rattle.book.specs.Book.{Coefficients, productBook, quotientBook, expBook, logBook}
 use Rattle.book.specs.Order.{productOrdered, quotientOrdered, expOrdered, logOrdered}

@@ -2,14 +2,14 @@
 -- Assumes nothing.
 use mathlib.Core.Path.{_≡_, refl, sym, ap, _∙_, subst}
 use mathlib.Core.List.{List, [], _∷_, _++_, append-nil}
-use Prim.Native.Nat.{ℕ, zero, suc, _+_, _-_, _≤_, _<_}
+use Prim.Native.Nat.{ℕ, zero, suc, _≤_, _<_}
 use native.Mathlib.Omega.{arith}
 use lib.ListN.{length, length-append}
 use lib.Seq.{append-snoc}
 use Rattle.pool.specs.Pool.{Pool}
-use Rattle.taylor.specs.Work.{gives, Work, bind, at, each, fill}
+use Rattle.taylor.specs.Work.{gives, Work, at, each, fill}
 use Rattle.book.specs.Formula.{Formula, work, works, row}
-use Rattle.book.proofs.Work.{Came, came, ended, came-weaker, came-next, came-here, Appends, work-appends, one-more}
+use Rattle.book.proofs.Work.{Came, came-weaker, came-next, came-here, Appends, work-appends, one-more}
 
 -- formula k speaks of earlier coefficients alone
 abbrev pub LooksBack : (List ℕ → ℕ → Formula) → Type 0

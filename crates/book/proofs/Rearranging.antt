@@ -2,7 +2,7 @@
 -- Assumes nothing.
 use mathlib.Core.List.{List}
 use Prim.Native.Nat.{ℕ, zero, suc, _+_, _-_}
-use Rattle.book.specs.Formula.{Formula, #, whole, _⊕_, _⊖_, _⊗_, _⊘_, _⊟_, chain, sum, less}
+use Rattle.book.specs.Formula.{Formula, #, whole, _⊖_, _⊗_, _⊘_, chain, sum, less}
 use Rattle.book.specs.Book.{Coefficients, constant, Σ, productBook, scaledBook, quotientBook, expBook, logBook}
 use Rattle.book.specs.Order.{productOrdered, scaledOrdered, dividedOrdered, quotientOrdered, constantQuotientOrdered, expOrdered, logOrdered}
 use Rattle.book.specs.Order.{_≈_, itself, both, sums, differences, products, quotients, product-comm, product-assoc, less-zero, less-sum, as-quotient, sum-first}

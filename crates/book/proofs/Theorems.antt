@@ -1,20 +1,20 @@
 -- Wherever a product, a quotient, an exponential or a logarithm of expansions is accepted, every coefficient of the answer is the book's recurrence at the nodes of the pool, its terms in the Rust's order.
 -- Assumes nothing.
 use mathlib.Core.Path.{_≡_, refl, sym, ap, _∙_}
-use mathlib.Core.List.{List, [], _∷_, _++_}
-use Prim.Native.Nat.{ℕ, zero, suc, _+_, _-_, _≤_, _<_, min}
+use mathlib.Core.List.{List, [], _∷_}
+use Prim.Native.Nat.{ℕ, zero, suc, _-_, _≤_, min}
 use native.Mathlib.Omega.{arith}
 use lib.ListN.{length}
 use Rattle.pool.specs.Pool.{Pool}
 use Rattle.taylor.specs.Work.{Result, gives, refused-work, Work, bind, yield, zeroLit, oneLit, mul, div, at, each, fill}
-use Rattle.taylor.specs.Expansion.{Expansion, Constant, Polynomial, polynomial, productAt, times, quotientAt, quotient, expAt, exponential, logAt, logarithm}
-use Rattle.book.specs.Formula.{Formula, #, whole, _⊕_, _⊖_, _⊗_, _⊘_, _⊟_, Exp, Log, work, works, row, chain}
+use Rattle.taylor.specs.Expansion.{Expansion, Constant, Polynomial, productAt, times, quotientAt, quotient, expAt, exponential, logAt, logarithm}
+use Rattle.book.specs.Formula.{Formula, #, whole, _⊕_, _⊖_, _⊗_, _⊘_, _⊟_, work, works, row, chain}
 use Rattle.book.specs.Book.{Coefficients, list, constant, productBook, scaledBook, quotientBook, expBook, logBook}
 use Rattle.book.specs.Order.{productOrdered, scaledOrdered, dividedOrdered, quotientOrdered, constantQuotientOrdered, expOrdered, logOrdered, _≈_, once}
 use Rattle.book.specs.Recurrence.{Recurrence, WithZero, WithScale}
 use Rattle.book.proofs.Work.{Came, came-weaker, came-next, holds-then, work-appends, one-more, works-then, coefficients-in-turn}
 use Rattle.book.proofs.Chains.{same-chain, product-is, quotient-is, exp-is, log-is}
-use Rattle.book.proofs.Filling.{LooksBack, Filled, fill-in-turn, Row, from-none, from-first, each-in-turn}
+use Rattle.book.proofs.Filling.{LooksBack, fill-in-turn, Row, from-none, from-first, each-in-turn}
 use Rattle.book.proofs.Rearranging.{product-same, scaled-same, divided-same, quotient-same, constant-quotient-same, exp-same, log-same}
 
 -- ---- formulas speak of earlier coefficients alone

@@ -7,7 +7,7 @@ use native.Mathlib.Omega.{arith}
 use lib.IntN.{pos}
 use Rattle.literal.specs.Literal.{folded}
 use Rattle.pool.specs.Pool.{Pool, Out, done, refused, Run}
-use Rattle.constructors.specs.Build.{calls, depth}
+use Rattle.constructors.specs.Build.{depth}
 use Rattle.constructor_laws.specs.Grown.{Grown, Grows}
 use Rattle.constructor_laws.proofs.Growth.{Growing, grown-by-nothing, grown-by-both, literal-grows, calls-grow}
 use Rattle.taylor.specs.Work.{Result, gives, refused-work, Work, bind, yield, answered, node, sub, at}

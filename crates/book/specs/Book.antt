@@ -3,7 +3,7 @@
 use mathlib.Core.List.{List}
 use Prim.Native.Nat.{ℕ, zero, suc, _-_}
 use Rattle.taylor.specs.Work.{at}
-use Rattle.book.specs.Formula.{Formula, #, whole, _⊕_, _⊖_, _⊗_, _⊘_, Exp, Log, sum}
+use Rattle.book.specs.Formula.{Formula, #, whole, _⊖_, _⊗_, _⊘_, Exp, Log, sum}
 
 -- the coefficients of an expansion, as formulas
 abbrev pub Coefficients : Type 0
