@@ -1,25 +1,22 @@
 // The program `sheet`: the coefficient sheet of the expression in nodes.bin, for one line from standard input.
-// Its whole text is known before a byte of it is printed; the pieces that are printed are proved to be that text.
-ghost use Prim.Native.Nat.{_≤_};
-ghost use lib.ListN.{length};
+// Its whole text is known before a byte of it is printed; the pieces, asked for in order, are proved to be that text.
 ghost use Rattle.io.specs.Counts.{Counts};
-ghost use Rattle.walks.specs.Print.{longestText};
-ghost use Rattle.sheet_page.specs.Pages.{Printable};
 use libc::STDIN_FILENO;
 use libc::STDOUT_FILENO;
 use pool::LIMIT;
 use sheet_line::Line;
 use sheet_page::PARTS;
 use sheet_page::Page;
+use taylor_base::TERMS;
 
 // One byte more than the longest file has, so that a longer one is not read whole and is still too long.
-const FILE_ROOM: usize = 36_869;
+const FILE_ROOM: usize = 4 + 9 * LIMIT + 1;
 
 // The error that a file is missing.
 const ENOENT: i32 = 2;
 
 // One byte more than the longest line has.
-const LINE_ROOM: usize = 65;
+const LINE_ROOM: usize = sheet_line::LINE_MAX + 1;
 
 // nodes.bin in the working directory: how many bytes it has. One that is missing or cannot be read counts as 0 bytes.
 fn read_nodes(file: &mut [u8]) -> usize
@@ -59,10 +56,7 @@ fn print_part(
     line: u32,
     part: u32,
     out: &mut [u8],
-) -> bool
-    requires { ⌜ Printable page (now kinds) (now words) ⌝ }
-    requires { ⌜ longestText ≤ length (now out) ⌝ }
-{
+) -> bool {
     let n = sheet_page::piece(page, kinds, words, line, part, out);
     if n > out.len() {
         return false;
@@ -77,10 +71,7 @@ fn print_line(
     words: &[u64; LIMIT],
     line: u32,
     out: &mut [u8],
-) -> bool
-    requires { ⌜ Printable page (now kinds) (now words) ⌝ }
-    requires { ⌜ longestText ≤ length (now out) ⌝ }
-{
+) -> bool {
     let mut part = 0;
     while part < PARTS {
         if !print_part(page, kinds, words, line, part, out) {
@@ -91,15 +82,12 @@ fn print_line(
     true
 }
 
-// All lines, the first one too.
-fn print_page(page: Page, kinds: &[u8; LIMIT], words: &[u64; LIMIT])
-    requires { ⌜ Printable page (now kinds) (now words) ⌝ }
-{
+// All lines, the first one too. Behind the last there are no pieces, so none is printed.
+fn print_page(page: Page, kinds: &[u8; LIMIT], words: &[u64; LIMIT]) {
     let mut out = [0u8; print::TEXT_MAX];
-    let last = page.lines;
     let mut line = 0;
-    while line <= last {
-        if !print_line(page, kinds, words, line, &mut out) {
+    while line <= TERMS {
+        if !print_line(page, kinds, words, line as u32, &mut out) {
             os::fail(b"standard output");
             return;
         }

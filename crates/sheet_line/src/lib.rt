@@ -9,7 +9,7 @@ ghost use Rattle.sheet_line.specs.Split.{contentLength, firstSpace, spli
 const CUT: u64 = 0x20_0000_0000_0000;
 
 // The longest line, with its line end.
-const LINE_MAX: usize = 64;
+pub const LINE_MAX: usize = 64;
 
 // The point, if the line has one.
 pub enum Place {

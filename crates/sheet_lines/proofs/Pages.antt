@@ -212,14 +212,6 @@ refusal-prepared number v order x ks ws e h = rw h (only-prepared (Refused numbe
 pub prepared-as : {page : Page} {ks ws a b : List ℕ} → a ≡ b → Prepared page ks ws a → Prepared page ks ws b
 prepared-as e p = rw e at p
 
--- ---- a text by its counted length
-module _ (text : List ℕ) {n : ℕ} (counted : n ≡ min (length text) (longestText + 1)) where
-  pub is-long : longestText < n → longestText < length text
-  is-long h = omega (arith, counted)
-
-  pub is-short : n ≤ longestText → length text ≤ longestText
-  is-short h = omega (arith, counted)
-
 -- one text more that is short
 pub one-more-short : (at : ℕ → Node) (cs : List ℕ) (i : ℕ) → ((j : ℕ) → j < i → length (textOf at (getD cs j 0)) ≤ longestText) → length (textOf at (getD cs i 0)) ≤ longestText → (j : ℕ) → j < i + 1 → length (textOf at (getD cs j 0)) ≤ longestText
 one-more-short at cs i before here j h = go (ℕ-discrete j i)

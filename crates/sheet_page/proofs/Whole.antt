@@ -8,18 +8,19 @@ use Prim.Native.Nat.{ℕ, zero, suc, _+_, _-_, min, _≤_, _<_}
 use native.Mathlib.Nat.{min-eq-left, add-zero}
 use native.Mathlib.Omega.{arith}
 use lib.IntN.{ℤ, pos, negsuc}
-use lib.ListN.{length, length-append}
+use lib.ListN.{length, drop, length-append}
 use lib.Dec.{ltb}
-use borrow.Author.Tests.{lt-ltb, le-ltb}
+use borrow.Author.Tests.{lt-ltb, le-ltb, ltb-true, le-leb, lt-leb}
 use Rattle.text.specs.Text.{mostDigits, decimal, signedDecimal}
 use Rattle.text.proofs.Digits.{decimal-is-short}
 use Rattle.walks.specs.Print.{longestText}
 use Rattle.print.specs.Output.{Wrote}
 use Rattle.print.proofs.Writing.{counted, in-place}
 use Rattle.taylor.specs.Expand.{Point, none, point}
+use Rattle.taylor_base.specs.Answers.{terms}
 use Rattle.expand.specs.Points.{pointOf}
 use Rattle.sheet_text.specs.Sheet.{lineEnd, space, colon, usageText, refusedText, pointText, linesFrom}
-use Rattle.sheet_page.specs.Pages.{refusedLine, firstLine, headBy, headOf, pick, partOf, textAt, pieceOf, lineOf, linesUpTo, wholeOf, Put}
+use Rattle.sheet_page.specs.Pages.{refusedLine, firstLine, headBy, headOf, pick, partOf, textAt, pieceOf, lineOf, linesUpTo, wholeOf, short, putOf, Printable, Put}
 use Rattle.sheet_page.specs.declared.first.Page.{Page}
 use Rattle.sheet_page.specs.declared.first.Verdict.{Verdict}
 use Rattle.sheet_page.specs.declared.first.Verdict.the-variants.{Usage, Refused, Lines}
@@ -34,6 +35,27 @@ nothing-put l e = rw (← e) (record { long = refl; bytes = refl })
 
 pub put-as : {x y before after : List ℕ} {n : ℕ} → x ≡ y → Put x before n after → Put y before n after
 put-as e p = rw e at p
+
+-- a piece that is short is put whole, a longer one not at all
+pub put-short : {text before after : List ℕ} {n : ℕ} → length text ≤ longestText → Put text before n after → Put (short text) before n after
+put-short {text} h p = rw (le-leb (length text) longestText h) p
+
+-- a text by its counted length
+module _ (text : List ℕ) {n : ℕ} (length-counted : n ≡ min (length text) (longestText + 1)) where
+  pub is-long : longestText < n → longestText < length text
+  is-long h = omega (arith, length-counted)
+
+  pub is-short : n ≤ longestText → length text ≤ longestText
+  is-short h = omega (arith, length-counted)
+
+  pub long-is-none : longestText < n → [] ≡ short text
+  long-is-none h = rw (lt-leb (length text) longestText (is-long h)) refl
+
+  pub short-put : {before after : List ℕ} → n ≤ longestText → after ≡ text ++ drop (length text) before → Put (short text) before n after
+  short-put h e =
+      let few : length text ≤ longestText = is-short h in
+      let same : n ≡ length text = omega (arith, length-counted, few) in
+      put-short {text = text} few (record { long = same; bytes = e })
 
 -- ---- lengths
 joined-length : (xs ys : List ℕ) (m n : ℕ) → length xs ≤ m → length ys ≤ n → length (xs ++ ys) ≤ m + n
@@ -165,3 +187,33 @@ module _ (page : Page) (ks ws : List ℕ) where
       let all : 0 + page .lines ≡ page .lines = omega arith in
       let most : 0 + page .lines ≤ page .lines = omega arith in
       ap (λ (n : ℕ). linesUpTo page ks ws (suc n)) (sym all) ∙ lines-are (page .lines) 0 most ∙ ap (λ (l : List ℕ). l ++ linesFrom 0 (textsFrom page ks ws 0 (page .lines))) first-is
+
+-- ---- every piece of a printable page is put whole, where there is room
+module _ (page : Page) (ks ws : List ℕ) (p : Printable page ks ws) where
+  piece-short : (line part : ℕ) → length (pieceOf page ks ws line part) ≤ longestText
+  unfolding pieceOf
+  piece-short zero zero = head-short page
+  piece-short zero (suc part) = omega arith
+  piece-short (suc i) part = go (ltb i (page .lines)) refl part
+    where
+      go : (t : Bool) → ltb i (page .lines) ≡ t → (part : ℕ) → length (pick t (partOf (textAt page ks ws i) i part) []) ≤ longestText
+      go true e zero = label-short i
+      go true e (suc zero) = p .short i (ltb-true i (page .lines) e)
+      go true e (suc (suc zero)) = end-short
+      go true e (suc (suc (suc part))) = omega arith
+      go false e part = omega arith
+
+  pub whole-put : (line part room : ℕ) → longestText ≤ room → putOf page ks ws line part room ≡ pieceOf page ks ws line part
+  whole-put line part room h =
+      rw (le-leb longestText room h, le-leb (page .lines) terms (p .few), le-leb (length (pieceOf page ks ws line part)) longestText (piece-short line part)) refl
+
+-- what is put is nothing, or the piece
+module _ (page : Page) (ks ws : List ℕ) (line part room : ℕ) where
+  pub no-room : room < longestText → [] ≡ putOf page ks ws line part room
+  no-room h = rw (lt-leb longestText room h) refl
+
+  pub too-many : longestText ≤ room → terms < page .lines → [] ≡ putOf page ks ws line part room
+  too-many h k = rw (le-leb longestText room h, lt-leb (page .lines) terms k) refl
+
+  pub may-be-put : longestText ≤ room → page .lines ≤ terms → short (pieceOf page ks ws line part) ≡ putOf page ks ws line part room
+  may-be-put h k = rw (le-leb longestText room h, le-leb (page .lines) terms k) refl

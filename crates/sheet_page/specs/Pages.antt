@@ -1,10 +1,10 @@
 -- A sheet in pieces, line by line: the first line is one piece; of each further line the index, the text and the line end are one each.
 -- Assumes nothing.
 use mathlib.Core.Path.{_≡_}
-use mathlib.Core.Bool.{Bool, true, false}
+use mathlib.Core.Bool.{Bool, true, false, _&&_}
 use mathlib.Core.List.{List, [], _∷_, _++_}
 use Prim.Native.Nat.{ℕ, zero, suc, _≤_, _<_}
-use lib.Dec.{ltb}
+use lib.Dec.{leb, ltb}
 use lib.ListN.{length, drop}
 use Rattle.text.specs.Text.{decimal}
 use Rattle.pool.specs.Pool.{nodeIn}
@@ -33,6 +33,10 @@ headBy Lines page = firstLine (page .var) (page .order) (pointOf (page .point))
 
 abbrev pub headOf : Page → List ℕ
 headOf page = headBy (page .verdict) page
+
+-- how many pieces a line has at most
+abbrev pub parts : ℕ
+parts = 3
 
 -- the pieces of the line of coefficient i
 abbrev pub partOf : List ℕ → ℕ → ℕ → List ℕ
@@ -66,7 +70,15 @@ linesUpTo page ks ws (suc n) = linesUpTo page ks ws n ++ lineOf page ks ws n
 abbrev pub wholeOf : Page → List ℕ → List ℕ → List ℕ
 wholeOf page ks ws = linesUpTo page ks ws (suc (page .lines))
 
--- "19 here means one coefficient's text above 65,535 bytes": no text is
+-- a piece, unless it is above 65,535 bytes
+abbrev pub short : List ℕ → List ℕ
+short piece = pick (leb (length piece) longestText) piece []
+
+-- what is put of a piece: nothing where the output has no room for the longest text, or the page more lines than an expansion has entries
+abbrev pub putOf : Page → List ℕ → List ℕ → ℕ → ℕ → ℕ → List ℕ
+putOf page ks ws line part room = pick (leb longestText room && leb (page .lines) terms) (short (pieceOf page ks ws line part)) []
+
+-- "19 here means one coefficient's text above 65,535 bytes": no text is, and every piece is put whole (`whole-put` in proofs/)
 pub record Printable (page : Page) (ks ws : List ℕ) : Type 0 where
   pub few : page .lines ≤ terms
   pub short : (i : ℕ) → i < page .lines → length (textAt page ks ws i) ≤ longestText

@@ -4,28 +4,32 @@ ghost use Prim.Native.Nat.{_≤_};
 ghost use lib.ListN.{length};
 ghost use Rattle.pool.specs.Pool.{nodeIn};
 ghost use Rattle.walks.specs.Print.{longestText, textOf};
-ghost use Rattle.sheet_page.specs.Pages.{pieceOf, Printable, Put};
+ghost use Rattle.taylor_base.specs.Answers.{terms};
+ghost use Rattle.sheet_page.specs.Pages.{pieceOf, short, putOf, Put};
 use crate::first::Page;
 use crate::first::head;
 use crate::first::label;
 use pool::LIMIT;
+use taylor_base::TERMS;
 
 // How many pieces a line has at most.
 pub const PARTS: u32 = 3;
 
-// The text of a node.
+// The text of a node, unless it is too long.
 fn text_of(kinds: &[u8; LIMIT], words: &[u64; LIMIT], node: u32, out: &mut [u8]) -> usize
-    requires { ⌜ length (textOf (nodeIn (now kinds) (now words)) node) ≤ longestText ⌝ }
     requires { ⌜ longestText ≤ length (now out) ⌝ }
-    ensures { λ r. ⌜ Put (textOf (nodeIn (now (kinds .entry)) (now (words .entry))) node) (now (out .entry)) r (now (out .exit)) ⌝ }
+    ensures { λ r. ⌜ Put (short (textOf (nodeIn (now (kinds .entry)) (now (words .entry))) node)) (now (out .entry)) r (now (out .exit)) ⌝ }
 {
     let n = print::text_length(kinds, words, node);
+    if (n as usize) > print::TEXT_MAX {
+        return 0;
+    }
     print::print_into(kinds, words, node, out);
     n as usize
 }
 
-// A piece, put at the front of the output: how many bytes it has, 0 where there is none.
-pub fn piece(
+// A piece of a page with no more lines than an expansion has entries, where there is room for the longest text.
+fn piece_of(
     page: Page,
     kinds: &[u8; LIMIT],
     words: &[u64; LIMIT],
@@ -33,9 +37,9 @@ pub fn piece(
     part: u32,
     out: &mut [u8],
 ) -> usize
-    requires { ⌜ Printable page (now kinds) (now words) ⌝ }
+    requires { ⌜ page .lines ≤ terms ⌝ }
     requires { ⌜ longestText ≤ length (now out) ⌝ }
-    ensures { λ r. ⌜ Put (pieceOf page (now (kinds .entry)) (now (words .entry)) line part) (now (out .entry)) r (now (out .exit)) ⌝ }
+    ensures { λ r. ⌜ Put (short (pieceOf page (now (kinds .entry)) (now (words .entry)) line part)) (now (out .entry)) r (now (out .exit)) ⌝ }
 {
     if line == 0 {
         if part == 0 {
@@ -59,4 +63,24 @@ pub fn piece(
         return print::write(out, 0, b"\n");
     }
     0
+}
+
+// A piece, put at the front of the output: how many bytes it has, 0 where there is none or it cannot be put.
+pub fn piece(
+    page: Page,
+    kinds: &[u8; LIMIT],
+    words: &[u64; LIMIT],
+    line: u32,
+    part: u32,
+    out: &mut [u8],
+) -> usize
+    ensures { λ r. ⌜ Put (putOf page (now (kinds .entry)) (now (words .entry)) line part (length (now (out .entry)))) (now (out .entry)) r (now (out .exit)) ⌝ }
+{
+    if out.len() < print::TEXT_MAX {
+        return 0;
+    }
+    if (page.lines as usize) > TERMS {
+        return 0;
+    }
+    piece_of(page, kinds, words, line, part, out)
 }

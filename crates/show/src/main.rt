@@ -5,10 +5,7 @@ use libc::STDOUT_FILENO;
 use pool::LIMIT;
 
 // One byte more than the longest file has.
-const FILE_ROOM: usize = 36_869;
-
-// The longest text.
-const TEXT_ROOM: usize = 65_535;
+const FILE_ROOM: usize = 4 + 9 * LIMIT + 1;
 
 fn put_refused(number: u32) {
     io::write_all(STDOUT_FILENO, b"refused ");
@@ -26,7 +23,7 @@ fn put_text(text: &[u8], n: u64) {
 
 // The text of a root.
 fn show_root(kinds: &[u8], words: &[u64], count: u64, root: u64) {
-    let mut text = [0u8; TEXT_ROOM];
+    let mut text = [0u8; print::TEXT_MAX];
     match engine_print::print(kinds, words, count, root, &mut text) {
         Written::Length(n) => put_text(&text, n),
         Written::Refused(number) => put_refused(number),

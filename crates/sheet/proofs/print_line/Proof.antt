@@ -2,9 +2,10 @@
 -- Assumes nothing.
 use borrow.Author.Needs.{needs}
 use native.Mathlib.Omega.{arith}
-use mathlib.Core.Path.{_≡_, refl, ap, _∙_}
+use mathlib.Core.Path.{_≡_, refl, _∙_}
 use Prim.Native.Nat.{_-_}
 use lib.ListN.{length}
+use Rattle.sheet_page.specs.Pages.{parts}
 use Rattle.sheet.proofs.print_line.Statement.{statement}
 use Rattle.sheet.proofs.print_line.Tie as tie
 
@@ -12,13 +13,13 @@ abbrev Inv-loop : tie.InvT-loop
 Inv-loop page kinds words line out₀ part₀ out part = length out ≡ length out₀
 
 abbrev μ-loop : tie.MeasureT-loop
-μ-loop page kinds words line out₀ part₀ out part = 3 - part
+μ-loop page kinds words line out₀ part₀ out part = parts - part
 
 loop-holds : tie.Need-loop-holds Inv-loop μ-loop
 loop-holds c = refl
 
 print-part-requires : tie.Need-print-part-requires Inv-loop μ-loop
-print-part-requires c κs = (c .before .before .before .before .pre .0, omega (arith, c .before .before .loop .inv, c .before .before .before .before .pre .1))
+print-part-requires c κs = search needs
 
 same-length : tie.Need-same-length Inv-loop μ-loop
 same-length c = c .before .before .before .print-part .kept .1 .1 .1 .1 .1 .0 ∙ c .before .before .before .before .before .before .loop .inv

@@ -2,8 +2,8 @@
 -- Assumes nothing.
 use borrow.Author.Needs.{needs}
 use native.Mathlib.Omega.{arith}
-use mathlib.Core.Path.{_≡_, refl, ap, _∙_}
-use Prim.Native.Nat.{_+_, _-_, _≤_}
+use mathlib.Core.Path.{_≡_, refl, _∙_}
+use Prim.Native.Nat.{_+_, _-_}
 use lib.ListN.{length}
 use Rattle.taylor_base.specs.Answers.{terms}
 use Rattle.walks.specs.Print.{longestText}
@@ -11,19 +11,22 @@ use Rattle.sheet.proofs.print_page.Statement.{statement}
 use Rattle.sheet.proofs.print_page.Tie as tie
 
 abbrev Inv-loop : tie.InvT-loop
-Inv-loop page kinds words out₀ last line₀ t7 out line = (length out ≡ longestText) × (page .lines ≤ terms)
+Inv-loop page kinds words out₀ line₀ t6 out line = length out ≡ longestText
 
 abbrev μ-loop : tie.MeasureT-loop
-μ-loop page kinds words out₀ last line₀ t7 out line = page .lines + 1 - line
+μ-loop page kinds words out₀ line₀ t6 out line = terms + 1 - line
 
 loop-holds : tie.Need-loop-holds Inv-loop μ-loop
-loop-holds c = (refl, c .pre .few)
+loop-holds c = refl
+
+cast-print-line : tie.Need-cast-print-line Inv-loop μ-loop
+cast-print-line c = omega (arith, c .loop-test .taken)
 
 slice-aggregate-print-line : tie.Need-slice-aggregate-print-line Inv-loop μ-loop
 slice-aggregate-print-line c = search needs
 
 print-line-requires : tie.Need-print-line-requires Inv-loop μ-loop
-print-line-requires c κs = (c .before .before .before .pre, omega (arith, c .before .before .loop .inv .0))
+print-line-requires c κs = search needs
 
 slice-aggregate-fail : tie.Need-slice-aggregate-fail Inv-loop μ-loop
 slice-aggregate-fail c = search needs
@@ -35,13 +38,13 @@ returns : tie.Need-returns Inv-loop μ-loop
 returns c = search needs
 
 add-line : tie.Need-add-line Inv-loop μ-loop
-add-line c = omega (arith, c .before .before .before .before .loop-test .taken, c .before .before .before .before .before .loop .inv .1)
+add-line c = omega (arith, c .before .before .before .before .loop-test .taken)
 
 loop-less : tie.Need-loop-less Inv-loop μ-loop
 loop-less c = omega (arith, c .before .before .before .before .loop-test .taken)
 
 loop-again : tie.Need-loop-again Inv-loop μ-loop
-loop-again c = (c .before .before .print-line .kept .1 .1 .1 .1 .0 ∙ c .before .before .before .before .before .loop .inv .0, c .before .before .before .before .before .loop .inv .1)
+loop-again c = c .before .before .print-line .kept .1 .1 .1 .1 .0 ∙ c .before .before .before .before .before .loop .inv
 
 returns-2 : tie.Need-returns-2 Inv-loop μ-loop
 returns-2 c = search needs
@@ -53,6 +56,7 @@ print-page-spec =
     Inv-loop
     μ-loop
     loop-holds
+    cast-print-line
     slice-aggregate-print-line
     print-line-requires
     slice-aggregate-fail

@@ -8,7 +8,8 @@ use lib.ListN.{length, getD}
 use Rattle.pool.specs.Pool.{nodeIn}
 use Rattle.walks.specs.Print.{textOf, longestText}
 use Rattle.taylor_base.specs.Answers.{terms}
-use Rattle.sheet_lines.proofs.Pages.{all-are-short, one-is-long, one-more-short, is-long, is-short}
+use Rattle.sheet_page.proofs.Whole.{is-long, is-short}
+use Rattle.sheet_lines.proofs.Pages.{all-are-short, one-is-long, one-more-short}
 use Rattle.sheet_lines.proofs.answer.all_short.Statement.{statement}
 use Rattle.sheet_lines.proofs.answer.all_short.Tie as tie
 

@@ -1,113 +1,36 @@
--- `sheet_page::pieces::piece` meets its contract: each way is one of the definition.
+-- `sheet_page::pieces::piece` meets its contract: room for the longest text and the number of lines are looked at first.
 -- Assumes nothing.
-use native.Mathlib.Omega.{arith}
-use mathlib.Core.List.{_++_}
-use Prim.Native.Nat.{_-_}
+use mathlib.Core.Path.{_≡_}
+use lib.ListN.{length}
 use borrow.Author.Needs.{needs}
-use Rattle.text.specs.Text.{decimal}
-use Rattle.sheet_text.specs.Sheet.{lineEnd, colon}
-use Rattle.sheet_page.specs.Pages.{headOf}
-use Rattle.sheet_page.proofs.Whole.{wrote-put, put-as, nothing-put, label-short, end-short, head-short, first-piece, one-first-piece, no-line, index-piece, text-piece, end-piece, no-part}
+use Rattle.sheet_page.proofs.Whole.{put-as, nothing-put, no-room, too-many, may-be-put}
 use Rattle.sheet_page.proofs.pieces.piece.Statement.{statement}
 use Rattle.sheet_page.proofs.pieces.piece.Tie as tie
 
-head-requires : tie.Need-head-requires
-head-requires c κs = search needs
+returns : tie.Need-returns
+returns c =
+    let a = c .before .before .args in
+    nothing-put (a .out .now) (no-room (a .page) (a .kinds .now) (a .words .now) (a .line) (a .part) (length (a .out .now)) (c .if1 .taken))
+
+cast-if2 : tie.Need-cast-if2
+cast-if2 c = search needs
+
+returns-2 : tie.Need-returns-2
+returns-2 c =
+    let a = c .before .before .before .before .args in
+    nothing-put (a .out .now) (too-many (a .page) (a .kinds .now) (a .words .now) (a .line) (a .part) (length (a .out .now)) (c .before .before .if1 .left) (c .if2 .taken))
+
+piece-of-requires : tie.Need-piece-of-requires
+piece-of-requires c κs = search needs
 
 same-length : tie.Need-same-length
 same-length c = search needs
 
-returns : tie.Need-returns
-returns c =
-    let a = c .before .before .before .before .before .before .before .args in
-    put-as (first-piece (a .t1) (a .kinds .now) (a .words .now) (c .before .before .before .before .before .if1 .taken) (c .before .before .before .before .if2 .taken)) (wrote-put (headOf (a .t1)) (c .before .before .head .ensures) (head-short (a .t1)) (c .before .before .before .before .before .before .before .pre .1))
-
-returns-2 : tie.Need-returns-2
-returns-2 c =
-    let a = c .before .before .before .args in
-    nothing-put (a .out .now) (one-first-piece (a .t1) (a .kinds .now) (a .words .now) (c .before .if1 .taken) (c .if2 .left))
-
 returns-3 : tie.Need-returns-3
 returns-3 c =
-    let a = c .before .before .before .args in
-    nothing-put (a .out .now) (no-line (a .t1) (a .kinds .now) (a .words .now) (c .before .if1 .left) (a .part) (c .if3 .taken))
-
-sub-index : tie.Need-sub-index
-sub-index c = search needs
-
-label-requires : tie.Need-label-requires
-label-requires c κs = search needs
-
-same-length-2 : tie.Need-same-length-2
-same-length-2 c = search needs
-
-returns-4 : tie.Need-returns-4
-returns-4 c =
     let a = c .before .before .before .before .before .before .before .before .args in
-    put-as (index-piece (a .t1) (a .kinds .now) (a .words .now) (c .before .before .before .before .before .before .if1 .left) (c .before .before .before .before .before .if3 .left) (c .before .before .before .before .if4 .taken)) (wrote-put (decimal (a .line - 1) ++ colon) (c .before .before .label .ensures) (label-short (a .line - 1)) (c .before .before .before .before .before .before .before .before .pre .1))
-
-cast-at : tie.Need-cast-at
-cast-at c = search needs
-
-mul-node : tie.Need-mul-node
-mul-node c = search needs
-
-element-copy-out-node : tie.Need-element-copy-out-node
-element-copy-out-node c = search needs
-
-text-of-requires : tie.Need-text-of-requires
-text-of-requires c κs =
-    let a = c .before .before .before .before .before .before .before .args in
-    (c .before .before .before .before .before .before .before .pre .0 .short (a .line - 1) (omega (arith, c .before .before .before .before .if3 .left, c .before .before .before .before .before .if1 .left)), c .before .before .before .before .before .before .before .pre .1)
-
-same-length-3 : tie.Need-same-length-3
-same-length-3 c = search needs
-
-returns-5 : tie.Need-returns-5
-returns-5 c =
-    let a = c .before .before .before .before .before .before .before .before .before .before .args in
-    put-as (text-piece (a .t1) (a .kinds .now) (a .words .now) (c .before .before .before .before .before .before .before .before .if1 .left) (c .before .before .before .before .before .before .before .if3 .left) (c .before .before .before .before .before .if5 .taken)) (c .before .before .text-of .ensures)
-
-slice-aggregate-write : tie.Need-slice-aggregate-write
-slice-aggregate-write c = search needs
-
-write-requires : tie.Need-write-requires
-write-requires c κs = search needs
-
-same-length-4 : tie.Need-same-length-4
-same-length-4 c = search needs
-
-returns-6 : tie.Need-returns-6
-returns-6 c =
-    let a = c .before .before .before .before .before .before .before .before .before .before .before .args in
-    put-as (end-piece (a .t1) (a .kinds .now) (a .words .now) (c .before .before .before .before .before .before .before .before .before .if1 .left) (c .before .before .before .before .before .before .before .before .if3 .left) (c .before .before .before .before .before .if6 .taken)) (wrote-put lineEnd (c .before .before .write .ensures) end-short (c .before .before .before .before .before .before .before .before .before .before .before .pre .1))
-
-returns-7 : tie.Need-returns-7
-returns-7 c =
-    let a = c .before .before .before .before .before .before .args in
-    nothing-put (a .out .now) (no-part (a .t1) (a .kinds .now) (a .words .now) (c .before .before .before .before .if1 .left) (c .before .before .before .if3 .left) (c .before .before .if4 .left) (c .before .if5 .left) (c .if6 .left))
+    put-as (may-be-put (a .page) (a .kinds .now) (a .words .now) (a .line) (a .part) (length (a .out .now)) (c .before .before .before .before .before .before .if1 .left) (c .before .before .before .before .if2 .left)) (c .before .before .piece-of .ensures)
 
 pub piece-spec : {M : Type 1} → statement M
 piece-spec =
-    tie.close
-    (tie.spec
-    head-requires
-    same-length
-    returns
-    returns-2
-    returns-3
-    sub-index
-    label-requires
-    same-length-2
-    returns-4
-    cast-at
-    mul-node
-    element-copy-out-node
-    text-of-requires
-    same-length-3
-    returns-5
-    slice-aggregate-write
-    write-requires
-    same-length-4
-    returns-6
-    returns-7)
+    tie.close (tie.spec returns cast-if2 returns-2 piece-of-requires same-length returns-3)
