@@ -257,7 +257,7 @@ pow-from-grows (suc k) e res base = do
 pub power-grows : (base : Expansion) (e : ℕ) → Growing (power base e)
 power-grows base e = do
   o ← from-grows 1
-  pow-from-grows 32 e (Constant o) base
+  pow-from-grows _ e (Constant o) base
 
 pub maximum-grows : (s t : Expansion) → Growing (maximum s t)
 maximum-grows (Constant a) (Constant b) = constant-grows (node-grows (calls-grow depth .max-at a b))

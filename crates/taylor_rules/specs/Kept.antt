@@ -4,7 +4,7 @@ use mathlib.Core.Path.{_≡_}
 use mathlib.Core.Bool.{true}
 use mathlib.Core.Logic.{_⊎_}
 use mathlib.Core.List.{List, [], _∷_}
-use Prim.Native.Nat.{ℕ, zero, suc, _-_, _^_, _≤_}
+use Prim.Native.Nat.{ℕ, zero, suc, _≤_}
 use lib.ListN.{length}
 use Rattle.pool.specs.Nodes.{allBelow}
 use Rattle.pool.specs.Pool.{Pool}
@@ -43,7 +43,7 @@ NodeKeptBy P (refused-work r) = Unit {0}
 
 -- the order of a constant
 abbrev pub endless : ℕ
-endless = 2 ^ 64 - 1
+endless = order (Constant 0)
 
 -- pow: at exponent 0 the constant 1, else as long as the base
 abbrev pub powerOrder : Expansion → ℕ → ℕ
