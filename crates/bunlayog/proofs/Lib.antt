@@ -1,2 +1,3 @@
 pub mod InC
 pub mod Residues
+pub mod Expansions

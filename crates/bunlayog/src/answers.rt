@@ -6,9 +6,13 @@ ghost use Rattle.bunlayog.specs.Interface.{numberOf, nodeOr, valueInC};
 ghost use Rattle.bunlayog.specs.Values.{bitsInC, residueInC};
 ghost use Rattle.bunlayog.specs.Printing.{textNumber, textLengthOr};
 ghost use Rattle.bunlayog.specs.Files.{fileNumber, fileLengthOr};
+ghost use Rattle.bunlayog.specs.Expansions.{countInC, outcomeLeftInC, outcomeInC};
 use double::Valued;
+use engine_series::Counted;
 use lent::Answer;
+use lent_series::Outcome;
 use residue::Divided;
+use taylor_base::TERMS;
 
 pub fn answered(answer: Answer, node: &mut u64) -> u32
     ensures { λ r. ⌜ r ≡ numberOf answer ⌝ }
@@ -72,4 +76,30 @@ pub fn file_answered(answer: engine_file::Written, written: &mut u64) -> u32
         }
         engine_file::Written::Refused(number) => number,
     }
+}
+
+pub fn count_answered(answer: Counted, order: &mut u64) -> u32
+    ensures { λ r. ⌜ valueInC r (now (order .exit)) ≡ countInC (now (order .entry)) answer ⌝ }
+{
+    match answer {
+        Counted::Count(n) => {
+            *order = n;
+            0
+        }
+        Counted::Refused(number) => number,
+    }
+}
+
+pub fn outcome_answered(outcome: Outcome, order: &mut u64, coeffs: &mut [u64; TERMS]) -> u32
+    ensures { λ r. ⌜ outcomeLeftInC r (now (order .exit)) (now (coeffs .exit)) ≡ outcomeInC (now (order .entry)) (now (coeffs .entry)) outcome ⌝ }
+{
+    let number = outcome.number;
+    if number != 0 {
+        return number;
+    }
+    let series = outcome.series;
+    let entries = series.coeffs;
+    *order = series.order;
+    *coeffs = entries;
+    0
 }
