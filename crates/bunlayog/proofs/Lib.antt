@@ -1,3 +1,1 @@
-pub mod InC
 pub mod Residues
-pub mod Expansions

@@ -5,11 +5,11 @@ ghost use Rattle.lent.specs.Call.{onPool};
 ghost use Rattle.lent_series.specs.Series.{given};
 ghost use Rattle.lent_series.specs.Call.{asRun};
 ghost use Rattle.engine_series.specs.Operations.{givenIndex, countOf, coefficientsOf};
-ghost use Rattle.bunlayog.specs.Interface.{leftInC, inC, valueInC};
-ghost use Rattle.bunlayog.specs.Expansions.{series, countInC, outcomeLeftInC, outcomeInC};
-use crate::answers::answered;
-use crate::answers::count_answered;
-use crate::answers::outcome_answered;
+ghost use Rattle.c_answers.specs.Interface.{leftInC, inC, valueInC};
+ghost use Rattle.c_answers.specs.Expansions.{series, countInC, outcomeLeftInC, outcomeInC};
+use c_answers::answered;
+use c_answers::count_answered;
+use c_answers::outcome_answered;
 use lent_series::Series;
 use taylor_base::TERMS;
 

@@ -4,8 +4,8 @@ ghost use Rattle.taylor.specs.Expansion.{negate, exponential, logarithm, power}
 ghost use Rattle.lent_series.specs.Series.{given};
 ghost use Rattle.lent_series.specs.Call.{onPool, givenSeries};
 ghost use Rattle.engine_series.specs.Operations.{varWork};
-ghost use Rattle.bunlayog.specs.Expansions.{series, seriesLeftInC, seriesInC};
-use crate::answers::outcome_answered;
+ghost use Rattle.c_answers.specs.Expansions.{series, seriesLeftInC, seriesInC};
+use c_answers::outcome_answered;
 use lent_series::Series;
 use taylor_base::TERMS;
 

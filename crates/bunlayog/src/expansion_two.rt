@@ -5,8 +5,8 @@ ghost use Rattle.taylor.specs.Expansion.{addTo, subFrom, times, quotient, maxim
 ghost use Rattle.lent_series.specs.Series.{lengthOk, given};
 ghost use Rattle.lent_series.specs.Call.{onPool, givenTwo};
 ghost use Rattle.engine_pairs.specs.Pairs.{agree};
-ghost use Rattle.bunlayog.specs.Expansions.{series, seriesLeftInC, seriesInC};
-use crate::answers::outcome_answered;
+ghost use Rattle.c_answers.specs.Expansions.{series, seriesLeftInC, seriesInC};
+use c_answers::outcome_answered;
 use lent_series::Series;
 use taylor_base::TERMS;
 

@@ -3,8 +3,8 @@ ghost use mathlib.Core.Path.{_≡_};
 ghost use Rattle.taylor.specs.Expand.{none, point};
 ghost use Rattle.lent_series.specs.Call.{onPool};
 ghost use Rattle.engine_expand.specs.Expressions.{expandWork};
-ghost use Rattle.bunlayog.specs.Expansions.{seriesLeftInC, seriesInC};
-use crate::answers::outcome_answered;
+ghost use Rattle.c_answers.specs.Expansions.{seriesLeftInC, seriesInC};
+use c_answers::outcome_answered;
 use taylor_base::TERMS;
 
 // At the variable itself.

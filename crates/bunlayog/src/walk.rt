@@ -3,8 +3,8 @@ ghost use mathlib.Core.Path.{_≡_};
 ghost use Rattle.pool.specs.Pool.{isPool};
 ghost use Rattle.lent.specs.Call.{onPool};
 ghost use Rattle.engine_walk.specs.Walks.{substituteWork, deriveWork};
-ghost use Rattle.bunlayog.specs.Interface.{leftInC, inC, checkNumber};
-use crate::answers::answered;
+ghost use Rattle.c_answers.specs.Interface.{leftInC, inC, checkNumber};
+use c_answers::answered;
 use pool::LIMIT;
 
 #[no_mangle]

@@ -1,7 +1,7 @@
 -- `bunlayog::expansion_entries::bunlayog_taylor_coeff` meets its contract: the entry point's outcome in C's terms.
 -- Assumes nothing.
 use borrow.Author.Needs.{needs}
-use Rattle.bunlayog.proofs.InC.{in-c}
+use Rattle.c_answers.proofs.InC.{in-c}
 use Rattle.bunlayog.proofs.expansion_entries.bunlayog_taylor_coeff.Statement.{statement}
 use Rattle.bunlayog.proofs.expansion_entries.bunlayog_taylor_coeff.Tie as tie
 

@@ -2,7 +2,7 @@
 -- Assumes nothing.
 use mathlib.Core.Path.{_∙_, ap}
 use borrow.Author.Needs.{needs}
-use Rattle.bunlayog.specs.Expansions.{outcomeInC}
+use Rattle.c_answers.specs.Expansions.{outcomeInC}
 use Rattle.bunlayog.proofs.expansion_entries.bunlayog_taylor_from_coefficients.Statement.{statement}
 use Rattle.bunlayog.proofs.expansion_entries.bunlayog_taylor_from_coefficients.Tie as tie
 

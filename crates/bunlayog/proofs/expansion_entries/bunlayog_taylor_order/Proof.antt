@@ -2,7 +2,7 @@
 -- Assumes nothing.
 use mathlib.Core.Path.{_∙_, ap}
 use borrow.Author.Needs.{needs}
-use Rattle.bunlayog.specs.Expansions.{countInC}
+use Rattle.c_answers.specs.Expansions.{countInC}
 use Rattle.bunlayog.proofs.expansion_entries.bunlayog_taylor_order.Statement.{statement}
 use Rattle.bunlayog.proofs.expansion_entries.bunlayog_taylor_order.Tie as tie
 

@@ -3,7 +3,7 @@
 use mir.Syntax.{w64}
 use mir.ValLaws.{toZ-ofZ}
 use borrow.Author.Needs.{needs}
-use Rattle.bunlayog.proofs.Expansions.{series-in-c}
+use Rattle.c_answers.proofs.Expansions.{series-in-c}
 use Rattle.bunlayog.proofs.expansion_walk.bunlayog_taylor_coeffs_at.Statement.{statement}
 use Rattle.bunlayog.proofs.expansion_walk.bunlayog_taylor_coeffs_at.Tie as tie
 

@@ -1,7 +1,7 @@
 -- `bunlayog::walk::bunlayog_check` meets its contract: the test is the one that takes the tables in.
 -- Assumes nothing.
 use borrow.Author.Needs.{needs}
-use Rattle.bunlayog.proofs.InC.{keeps, breaks}
+use Rattle.c_answers.proofs.InC.{keeps, breaks}
 use Rattle.bunlayog.proofs.walk.bunlayog_check.Statement.{statement}
 use Rattle.bunlayog.proofs.walk.bunlayog_check.Tie as tie
 

@@ -1,9 +1,9 @@
--- `bunlayog::answers::bits_answered` meets its contract, by the two cases of the answer.
+-- `c_answers::bits_answered` meets its contract, by the two cases of the answer.
 -- Assumes nothing.
 use borrow.Author.Needs.{needs}
-use Rattle.bunlayog.proofs.InC.{bits-of, no-bits}
-use Rattle.bunlayog.proofs.answers.bits_answered.Statement.{statement}
-use Rattle.bunlayog.proofs.answers.bits_answered.Tie as tie
+use Rattle.c_answers.proofs.InC.{bits-of, no-bits}
+use Rattle.c_answers.proofs.bits_answered.Statement.{statement}
+use Rattle.c_answers.proofs.bits_answered.Tie as tie
 
 enum-known-answer : tie.Need-enum-known-answer
 enum-known-answer c = search needs

@@ -1,9 +1,9 @@
--- `bunlayog::answers::count_answered` meets its contract: by the two cases of the answer.
+-- `c_answers::count_answered` meets its contract: by the two cases of the answer.
 -- Assumes nothing.
 use borrow.Author.Needs.{needs}
-use Rattle.bunlayog.proofs.Expansions.{no-count}
-use Rattle.bunlayog.proofs.answers.count_answered.Statement.{statement}
-use Rattle.bunlayog.proofs.answers.count_answered.Tie as tie
+use Rattle.c_answers.proofs.Expansions.{no-count}
+use Rattle.c_answers.proofs.count_answered.Statement.{statement}
+use Rattle.c_answers.proofs.count_answered.Tie as tie
 
 enum-known-answer : tie.Need-enum-known-answer
 enum-known-answer c = search needs

@@ -1,8 +1,8 @@
--- `bunlayog::answers::outcome_answered` meets its contract: by the two cases of the number.
+-- `c_answers::outcome_answered` meets its contract: by the two cases of the number.
 -- Assumes nothing.
-use Rattle.bunlayog.proofs.Expansions.{outcome-refused, outcome-given}
-use Rattle.bunlayog.proofs.answers.outcome_answered.Statement.{statement}
-use Rattle.bunlayog.proofs.answers.outcome_answered.Tie as tie
+use Rattle.c_answers.proofs.Expansions.{outcome-refused, outcome-given}
+use Rattle.c_answers.proofs.outcome_answered.Statement.{statement}
+use Rattle.c_answers.proofs.outcome_answered.Tie as tie
 
 returns : tie.Need-returns
 returns c = outcome-refused _ _ (c .before .args .outcome) (c .if1 .taken)

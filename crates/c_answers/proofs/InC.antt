@@ -16,10 +16,10 @@ use Rattle.engine_print.specs.Printing.{Put, put}
 use Rattle.engine_print.specs.declared.Written as text
 use Rattle.engine_file.specs.Write.{Output, output}
 use Rattle.engine_file.specs.declared.Written as file
-use Rattle.bunlayog.specs.Interface.{checkNumber, leftInC, inC, numberOf, nodeOr, valueInC, outputInC}
-use Rattle.bunlayog.specs.Values.{bitsInC, residueInC}
-use Rattle.bunlayog.specs.Printing.{printedInC, textNumber, textLengthOr}
-use Rattle.bunlayog.specs.Files.{fileInC, fileNumber, fileLengthOr}
+use Rattle.c_answers.specs.Interface.{checkNumber, leftInC, inC, numberOf, nodeOr, valueInC, outputInC}
+use Rattle.c_answers.specs.Values.{bitsInC, residueInC}
+use Rattle.c_answers.specs.Printing.{printedInC, textNumber, textLengthOr}
+use Rattle.c_answers.specs.Files.{fileInC, fileNumber, fileLengthOr}
 
 -- the test of the pool came out true, or false
 pub keeps : {r t : Bool} → r ≡ t → r ≡ true → 0 ≡ checkNumber t

@@ -9,7 +9,7 @@ use Rattle.lent_series.specs.declared.call.Outcome.{Outcome}
 use Rattle.lent_series.specs.Call.{Left}
 use Rattle.engine_series.specs.declared.read.Counted.{Counted}
 use Rattle.engine_series.specs.declared.read.Counted.the-variants.{Count, Refused}
-use Rattle.bunlayog.specs.Interface.{ValueInC, valueInC}
+use Rattle.c_answers.specs.Interface.{ValueInC, valueInC}
 
 abbrev pub series : ℕ → List ℕ → Series
 series order coeffs = record { order = order; coeffs = coeffs }

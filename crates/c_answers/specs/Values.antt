@@ -6,7 +6,7 @@ use Rattle.double.specs.declared.Valued.{Valued}
 use Rattle.double.specs.declared.Valued.the-variants as valued
 use Rattle.residue.specs.declared.Divided.{Divided}
 use Rattle.residue.specs.declared.Divided.the-variants as divided
-use Rattle.bunlayog.specs.Interface.{ValueInC, valueInC}
+use Rattle.c_answers.specs.Interface.{ValueInC, valueInC}
 
 abbrev pub bitsInC : ℕ → Valued → ValueInC
 bitsInC before (valued.Double x) = valueInC 0 (toBits binary64 x)

@@ -1,17 +1,14 @@
 // An entry point's answer in C's terms: what it gives goes to its place, and a refusal leaves the place as it was. The number is 0 or the refusal.
 ghost use mathlib.Core.Path.{_≡_};
-ghost use Rattle.residue.specs.Residue.{fixedModulus};
-ghost use Rattle.evaluate_residue.specs.Residues.{Below};
-ghost use Rattle.bunlayog.specs.Interface.{numberOf, nodeOr, valueInC};
-ghost use Rattle.bunlayog.specs.Values.{bitsInC, residueInC};
-ghost use Rattle.bunlayog.specs.Printing.{textNumber, textLengthOr};
-ghost use Rattle.bunlayog.specs.Files.{fileNumber, fileLengthOr};
-ghost use Rattle.bunlayog.specs.Expansions.{countInC, outcomeLeftInC, outcomeInC};
+ghost use Rattle.c_answers.specs.Interface.{numberOf, nodeOr, valueInC};
+ghost use Rattle.c_answers.specs.Values.{bitsInC};
+ghost use Rattle.c_answers.specs.Printing.{textNumber, textLengthOr};
+ghost use Rattle.c_answers.specs.Files.{fileNumber, fileLengthOr};
+ghost use Rattle.c_answers.specs.Expansions.{countInC, outcomeLeftInC, outcomeInC};
 use double::Valued;
 use engine_series::Counted;
 use lent::Answer;
 use lent_series::Outcome;
-use residue::Divided;
 use taylor_base::TERMS;
 
 pub fn answered(answer: Answer, node: &mut u64) -> u32
@@ -36,19 +33,6 @@ pub fn bits_answered(answer: Valued, bits: &mut u64) -> u32
             0
         }
         Valued::Refused(number) => number,
-    }
-}
-
-pub fn residue_answered(answer: Divided, residue: &mut u32) -> u32
-    requires { ⌜ Below fixedModulus answer ⌝ }
-    ensures { λ r. ⌜ valueInC r (now (residue .exit)) ≡ residueInC (now (residue .entry)) answer ⌝ }
-{
-    match answer {
-        Divided::Residue(x) => {
-            *residue = x as u32;
-            0
-        }
-        Divided::Refused(number) => number,
     }
 }
 

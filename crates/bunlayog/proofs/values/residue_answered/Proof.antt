@@ -1,11 +1,11 @@
--- `bunlayog::answers::residue_answered` meets its contract, by the two cases of the answer: a residue below the modulus fits 32 bits.
+-- `bunlayog::values::residue_answered` meets its contract, by the two cases of the answer: a residue below the modulus fits 32 bits.
 -- Assumes nothing.
 use native.Mathlib.Omega.{arith}
 use borrow.Author.Needs.{needs}
-use Rattle.bunlayog.proofs.InC.{no-residue}
+use Rattle.c_answers.proofs.InC.{no-residue}
 use Rattle.bunlayog.proofs.Residues.{is-below}
-use Rattle.bunlayog.proofs.answers.residue_answered.Statement.{statement}
-use Rattle.bunlayog.proofs.answers.residue_answered.Tie as tie
+use Rattle.bunlayog.proofs.values.residue_answered.Statement.{statement}
+use Rattle.bunlayog.proofs.values.residue_answered.Tie as tie
 
 enum-known-answer : tie.Need-enum-known-answer
 enum-known-answer c = search needs

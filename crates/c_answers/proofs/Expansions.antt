@@ -9,8 +9,8 @@ use Rattle.lent_series.specs.declared.call.Outcome.{Outcome}
 use Rattle.lent_series.specs.Call.{Left, left}
 use Rattle.engine_series.specs.declared.read.Counted.{Counted}
 use Rattle.engine_series.specs.declared.read.Counted.the-variants.{Refused}
-use Rattle.bunlayog.specs.Interface.{valueInC}
-use Rattle.bunlayog.specs.Expansions.{countInC, outcomeLeftInC, outcomeInC, seriesLeftInC, seriesInC}
+use Rattle.c_answers.specs.Interface.{valueInC}
+use Rattle.c_answers.specs.Expansions.{countInC, outcomeLeftInC, outcomeInC, seriesLeftInC, seriesInC}
 
 -- the refusal of a count
 pub no-count : {a : Counted} {k : ℕ} (before : ℕ) → a ≡ Refused k → valueInC k before ≡ countInC before a

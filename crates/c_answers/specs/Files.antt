@@ -4,7 +4,7 @@ use Prim.Native.Nat.{ℕ}
 use Rattle.engine_file.specs.Write.{Output}
 use Rattle.engine_file.specs.declared.Written.{Written}
 use Rattle.engine_file.specs.declared.Written.the-variants.{Length, Refused}
-use Rattle.bunlayog.specs.Interface.{OutputInC, outputInC}
+use Rattle.c_answers.specs.Interface.{OutputInC, outputInC}
 
 abbrev pub fileNumber : Written → ℕ
 fileNumber (Length n) = 0

@@ -4,7 +4,7 @@ use Prim.Native.Nat.{ℕ}
 use Rattle.engine_print.specs.Printing.{Put}
 use Rattle.engine_print.specs.declared.Written.{Written}
 use Rattle.engine_print.specs.declared.Written.the-variants.{Length, Refused}
-use Rattle.bunlayog.specs.Interface.{OutputInC, outputInC}
+use Rattle.c_answers.specs.Interface.{OutputInC, outputInC}
 
 abbrev pub textNumber : Written → ℕ
 textNumber (Length n) = 0
