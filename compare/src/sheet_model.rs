@@ -111,7 +111,7 @@ fn random_line(random: &mut Random) -> Vec<u8> {
         2 => Some((random.below(9) as i64 - 4).to_string()),
         _ => Some(random.literal().to_string()),
     };
-    match random.below(12) {
+    match random.below(16) {
         0 => variable = number_word(random),
         1 => order = number_word(random),
         2 => point = Some(number_word(random)),
@@ -120,25 +120,34 @@ fn random_line(random: &mut Random) -> Vec<u8> {
     }
     let mut words = vec![variable, order];
     words.extend(point);
-    if random.below(40) == 0 {
-        words.pop();
+    let end = if random.below(4) == 0 { "" } else { "\n" };
+    if random.below(6) == 0 { misshapen(random, words, end) } else { (words.join(" ") + end).into_bytes() }
+}
+
+/// A line with one thing wrong with its form, or nearly so.
+fn misshapen(random: &mut Random, mut words: Vec<String>, end: &str) -> Vec<u8> {
+    match random.below(7) {
+        0 => {
+            words.pop();
+        }
+        1 => words.push("7".to_string()),
+        2 => return (words.join(random.one_of(&["  ", "\t", ""])) + end).into_bytes(),
+        3 => return (words.join(" ") + random.one_of(&["\r\n", "\n\n", " \n", "\n0", "\0"])).into_bytes(),
+        4 => return (random.one_of(&[" ", "\n", "+", "-"]).to_string() + &words.join(" ") + end).into_bytes(),
+        5 => {
+            // as long as a line may be, and a byte around it
+            let line = words.join(" ");
+            let digits = (62 + random.below(4) as usize).saturating_sub(line.len());
+            return (line + &"9".repeat(digits) + end).into_bytes();
+        }
+        _ => {
+            let mut line = (words.join(" ") + end).into_bytes();
+            let at = random.below(line.len() as u64) as usize;
+            line[at] = random.next() as u8;
+            return line;
+        }
     }
-    if random.below(40) == 0 {
-        words.push("7".to_string());
-    }
-    let mut line = words.join(random.one_of(&[" ", " ", " ", " ", " ", " ", " ", " ", " ", " ", " ", " ", "  ", "\t"]));
-    if random.below(16) == 0 {
-        // as long as a line may be, and a byte around it
-        let digits = 62 + random.below(4) as usize;
-        line += &"9".repeat(digits.saturating_sub(line.len()));
-    }
-    line += random.one_of(&["\n", "\n", "\n", "\n", "\n", "\n", "\n", "\n", "\n", "", "", "", "\r\n", "\n\n", " \n", "\n0"]);
-    let mut line = line.into_bytes();
-    if random.below(24) == 0 && !line.is_empty() {
-        let at = random.below(line.len() as u64) as usize;
-        line[at] = random.next() as u8;
-    }
-    line
+    (words.join(" ") + end).into_bytes()
 }
 
 /// Nodes that constructors make.
