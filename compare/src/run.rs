@@ -77,8 +77,9 @@ impl Run {
         let Ok(Given::Number(q)) = self.both.call(&Call::Pow(a, n)) else { return };
         let Ok(Given::Number(product)) = self.both.call(&Call::Mul(b, p)) else { return };
         let _ = self.both.call(&Call::Mul(product, q));
-        self.kept.truncate(4);
-        self.kept.extend([Series::constant(product), Series::constant(q), Series::list(&[product, a]), Series::list(&[q, q])]);
+        let s = if self.random.below(2) == 0 { Series::constant(product) } else { Series::list(&[product, a]) };
+        let t = if self.random.below(2) == 0 { Series::constant(q) } else { Series::list(&[q, q]) };
+        let _ = self.both.call(&Call::TaylorMul(s, t));
     }
 
     /// A call that builds a node.
