@@ -95,7 +95,7 @@ fn main() {
     let mut args = std::env::args().skip(1);
     let seed: u64 = args.next().map_or(20_261_115, |s| s.parse().expect("a seed"));
     let seconds: u64 = args.next().map_or(60, |s| s.parse().expect("seconds"));
-    // the Rust's walks need stack, ours as well where they are compared one by one
+    // the Rust's walks recurse with large frames
     let done = std::thread::Builder::new().stack_size(256 << 20).spawn(move || all(seed, seconds)).unwrap().join();
     std::process::exit(if matches!(done, Ok(true)) { 0 } else { 1 });
 }
