@@ -41,6 +41,11 @@ const MUST: [(&str, &[u32]); 35] = [
     ("taylor_coeffs_at", &[1, 2, 3, 4, 5, 10, 11, 12, 18]),
 ];
 
+/// The names of all calls but `check`, which has no other argument than the pool.
+pub fn names() -> impl Iterator<Item = &'static str> {
+    MUST.iter().map(|(name, _)| *name).filter(|name| *name != "check")
+}
+
 /// Prints how often a call was accepted and refused by each number; false where it was not accepted or a refusal is missing.
 fn call_met(met: &Met, name: &str, must: &[u32]) -> bool {
     let times = |outcome: u32| met.calls.get(name).and_then(|outcomes| outcomes.get(&outcome)).copied().unwrap_or(0);

@@ -3,6 +3,7 @@ use crate::call::{Answer, Call, Series, TERMS};
 use crate::counted::{self, LIMIT};
 use crate::engine::Engine;
 use crate::file::{self, Entry};
+use crate::report;
 use crate::symbolic::oracle;
 
 const STACK: usize = 2 << 20;
@@ -72,6 +73,7 @@ fn case(name: String, nodes: Vec<Entry>) -> Case {
     let mut calls = on_nodes(root);
     calls.extend(on_expansions(root));
     calls.push(Call::Read(file::written(&nodes, root as usize)));
+    assert!(report::names().all(|name| calls.iter().any(|call| call.name() == name)), "every entry point");
     Case { name, nodes, calls }
 }
 
