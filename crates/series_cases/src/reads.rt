@@ -1,0 +1,50 @@
+// What is read of an expansion: coeff SERIES INDEX | NAME, derivative SERIES INDEX | NAME, order SERIES | NAME; and of the last answer:
+// residues | NAME, last | NAME, keep SLOT.
+use case_lines::number;
+use case_lines::word;
+use crate::given;
+use crate::kept;
+use crate::kept::KEPT;
+use crate::show;
+
+fn coeff(text: &[u8], at: &mut usize, k: &mut [u8], w: &mut [u64], n: &mut u64, table: &[u64; KEPT]) {
+    let s = given::series(text, at, table);
+    let index = number(text, at);
+    let before = *n;
+    let got = engine_series::coeff(k, w, n, s, index);
+    show::node(text, *at, k, w, before, *n, got);
+}
+
+fn derivative(text: &[u8], at: &mut usize, k: &mut [u8], w: &mut [u64], n: &mut u64, table: &[u64; KEPT]) {
+    let s = given::series(text, at, table);
+    let index = number(text, at);
+    let before = *n;
+    let got = engine_series::derivative(k, w, n, s, index);
+    show::node(text, *at, k, w, before, *n, got);
+}
+
+fn order(text: &[u8], at: &mut usize, k: &[u8], w: &[u64], n: u64, table: &[u64; KEPT]) {
+    let s = given::series(text, at, table);
+    let got = engine_series::order(k, w, n, s);
+    show::counted(text, *at, got);
+}
+
+pub fn run_line(
+    text: &[u8],
+    from: usize,
+    k: &mut [u8],
+    w: &mut [u64],
+    n: &mut u64,
+    table: &mut [u64; KEPT],
+) {
+    let mut at = from;
+    match word(text, &mut at, b"coeff derivative order residues last keep") {
+        0 => coeff(text, &mut at, k, w, n, table),
+        1 => derivative(text, &mut at, k, w, n, table),
+        2 => order(text, &mut at, k, w, *n, table),
+        3 => show::residues(text, at, k, w, *n, kept::again(table, 0)),
+        4 => show::last(text, at, kept::again(table, 0)),
+        5 => kept::keep(table, number(text, &mut at), kept::again(table, 0)),
+        _ => {}
+    }
+}
