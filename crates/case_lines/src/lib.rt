@@ -12,5 +12,8 @@ pub use print::put_refused;
 pub use scan::next_line;
 pub use words::mark;
 pub use words::number;
+pub use words::put_label;
 pub use words::put_name;
+pub use words::size;
+pub use words::small_number;
 pub use words::word;

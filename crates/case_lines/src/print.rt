@@ -24,6 +24,6 @@ pub fn put_part(bytes: &[u8], from: usize, to: usize) {
 }
 
 // The first n bytes.
-pub fn put_first(bytes: &[u8], n: usize) {
-    put_part(bytes, 0, n);
+pub fn put_first(bytes: &[u8], n: u64) {
+    put_part(bytes, 0, n as usize);
 }

@@ -1,4 +1,5 @@
 // Words, numbers and the name of a line. `at` is the place that is read from, and moves behind what was read.
+use crate::print::put;
 use crate::print::put_part;
 use crate::scan::behind;
 use crate::scan::byte_at;
@@ -47,6 +48,16 @@ pub fn number(text: &[u8], at: &mut usize) -> u64 {
     n
 }
 
+// A number modulo 2^32.
+pub fn small_number(text: &[u8], at: &mut usize) -> u32 {
+    (number(text, at) % 0x1_0000_0000) as u32
+}
+
+// A number as a place or a length.
+pub fn size(text: &[u8], at: &mut usize) -> usize {
+    number(text, at) as usize
+}
+
 // Whether the word at one place of a text is the word at another place of a list.
 fn same_word(text: &[u8], from: usize, list: &[u8], start: usize) -> bool {
     let stop = end(list, start, b' ');
@@ -88,9 +99,23 @@ pub fn mark(text: &[u8], at: usize) -> u8 {
     byte_at(text, past_spaces(text, at))
 }
 
-// The name behind the mark.
+// The place behind one space: a name may begin with more.
+fn past_one(text: &[u8], at: usize) -> usize {
+    if byte_at(text, at) == b' ' {
+        return std::num::wrapping_add_usize(at, 1);
+    }
+    at
+}
+
+// The name behind the mark and a space.
 pub fn put_name(text: &[u8], at: usize) {
     let behind_mark = end(text, past_spaces(text, at), b' ');
-    let from = past_spaces(text, behind_mark);
+    let from = past_one(text, behind_mark);
     put_part(text, from, end(text, from, b'\n'));
+}
+
+// The name as a label.
+pub fn put_label(text: &[u8], at: usize) {
+    put_name(text, at);
+    put(b": ");
 }

@@ -1,6 +1,7 @@
 // Entries of both tables.
 ghost use mathlib.Core.Path.{_≡_};
 ghost use lib.ListN.{set};
+use pool::LIMIT;
 
 fn set_kind(kinds: &mut [u8], i: usize, kind: u8)
     ensures { λ _. ⌜ now (kinds .exit) ≡ set (now (kinds .entry)) i kind ⌝ }
@@ -46,4 +47,9 @@ pub fn set_run(
         word = std::num::wrapping_add_u64(word, step);
         i += 1;
     }
+}
+
+// Only the first entries stay.
+pub fn cut(kinds: &mut [u8], words: &mut [u64], count: u64) {
+    set_run(kinds, words, count as usize, LIMIT, 0, 0, 0);
 }

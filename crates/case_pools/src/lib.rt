@@ -4,12 +4,11 @@
 //   first N                         only the first N entries stay
 //   node KIND LOW HIGH              one entry more
 //   run TO KIND LOW HIGH LOW HIGH   entries up to the number TO, of one kind: the word of the first, and the step from each to the next
-//   say / TEXT                      prints the text and a line end
+//   say | TEXT                      prints the text and a line end
 mod entries;
 mod line;
 mod show;
 
-pub use entries::set;
-pub use entries::set_run;
+pub use entries::cut;
 pub use line::run_line;
 pub use show::put_text;

@@ -1,25 +1,21 @@
 // The lines that make a pool.
+use crate::entries::cut;
+use crate::entries::set;
+use crate::entries::set_run;
 use case_lines::number;
 use case_lines::put;
 use case_lines::put_name;
 use case_lines::word;
-use crate::entries::set;
-use crate::entries::set_run;
-use pool::LIMIT;
 
 // 2^32, what the upper half of a word counts for.
 const HALF: u64 = 0x1_0000_0000;
-
-fn as_index(n: u64) -> usize {
-    n as usize
-}
 
 // The numbers of document 01's table of kinds.
 fn kind(text: &[u8], at: &mut usize) -> u8 {
     word(text, at, b"none variable lit add mul div exp log pow max")
 }
 
-// A word by its halves. Only the lower half of a literal is given, as the whole.
+// A word by its halves: what is given for the lower half may be a whole literal.
 fn halves(text: &[u8], at: &mut usize) -> u64 {
     let low = number(text, at);
     let high = number(text, at) % HALF;
@@ -28,7 +24,7 @@ fn halves(text: &[u8], at: &mut usize) -> u64 {
 
 fn keep_first(text: &[u8], at: &mut usize, kinds: &mut [u8], words: &mut [u64], count: &mut u64) {
     let n = number(text, at);
-    set_run(kinds, words, as_index(n), LIMIT, 0, 0, 0);
+    cut(kinds, words, n);
     *count = n;
 }
 
@@ -36,7 +32,7 @@ fn add_node(text: &[u8], at: &mut usize, kinds: &mut [u8], words: &mut [u64], co
     let k = kind(text, at);
     let w = halves(text, at);
     let n = *count;
-    set(kinds, words, as_index(n), k, w);
+    set(kinds, words, n as usize, k, w);
     *count = std::num::wrapping_add_u64(n, 1);
 }
 
@@ -46,7 +42,7 @@ fn add_run(text: &[u8], at: &mut usize, kinds: &mut [u8], words: &mut [u64], cou
     let first = halves(text, at);
     let step = halves(text, at);
     let n = *count;
-    set_run(kinds, words, as_index(n), as_index(to), k, first, step);
+    set_run(kinds, words, n as usize, to as usize, k, first, step);
     *count = to;
 }
 

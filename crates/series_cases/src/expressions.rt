@@ -1,8 +1,8 @@
 // Expansions of expressions: coeffs ROOT VAR ORDER | NAME, coeffs_at ROOT VAR POINT ORDER | NAME.
-use case_lines::number;
-use case_lines::word;
 use crate::kept::KEPT;
 use crate::show;
+use case_lines::number;
+use case_lines::word;
 use lent_series::Outcome;
 
 // The expansion, with a point or not.

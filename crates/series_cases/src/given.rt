@@ -4,10 +4,10 @@
 //   two NODE NODE NODE   the same with the length two
 //   filled NODE ORDER    the same node in all 25 entries, and any length beside them
 //   kept SLOT            one that was kept, 0 the last answer
-use case_lines::number;
-use case_lines::word;
 use crate::kept;
 use crate::kept::KEPT;
+use case_lines::number;
+use case_lines::word;
 use lent_series::ENDLESS;
 use lent_series::Series;
 use taylor_base::TERMS;

@@ -1,15 +1,12 @@
 // The operations on one expansion, and the variable: CALL SERIES | NAME, pow SERIES EXPONENT | NAME, var NODE ORDER | NAME.
-use case_lines::number;
-use case_lines::word;
 use crate::given;
 use crate::kept::KEPT;
 use crate::show;
+use case_lines::number;
+use case_lines::small_number;
+use case_lines::word;
 use lent_series::Outcome;
 use lent_series::Series;
-
-fn as_exponent(n: u64) -> u32 {
-    (n % 0x1_0000_0000) as u32
-}
 
 fn of_series(
     call: u8,
@@ -44,7 +41,7 @@ fn called(
         return engine_series::var(k, w, n, x, order);
     }
     let s = given::series(text, at, kept);
-    let exponent = if call == 3 { as_exponent(number(text, at)) } else { 0 };
+    let exponent = if call == 3 { small_number(text, at) } else { 0 };
     of_series(call, k, w, n, s, exponent)
 }
 

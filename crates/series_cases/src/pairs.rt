@@ -1,19 +1,12 @@
 // The operations on two expansions: CALL SERIES SERIES | NAME.
-use case_lines::word;
 use crate::given;
 use crate::kept::KEPT;
 use crate::show;
+use case_lines::word;
 use lent_series::Outcome;
 use lent_series::Series;
 
-fn called(
-    call: u8,
-    k: &mut [u8],
-    w: &mut [u64],
-    n: &mut u64,
-    s: Series,
-    t: Series,
-) -> Outcome {
+fn called(call: u8, k: &mut [u8], w: &mut [u64], n: &mut u64, s: Series, t: Series) -> Outcome {
     match call {
         0 => engine_pairs::add(k, w, n, s, t),
         1 => engine_pairs::sub(k, w, n, s, t),

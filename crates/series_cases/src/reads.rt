@@ -1,13 +1,20 @@
 // What is read of an expansion: coeff SERIES INDEX | NAME, derivative SERIES INDEX | NAME, order SERIES | NAME; and of the last answer:
 // residues | NAME, last | NAME, keep SLOT.
-use case_lines::number;
-use case_lines::word;
 use crate::given;
 use crate::kept;
 use crate::kept::KEPT;
 use crate::show;
+use case_lines::number;
+use case_lines::word;
 
-fn coeff(text: &[u8], at: &mut usize, k: &mut [u8], w: &mut [u64], n: &mut u64, table: &[u64; KEPT]) {
+fn coeff(
+    text: &[u8],
+    at: &mut usize,
+    k: &mut [u8],
+    w: &mut [u64],
+    n: &mut u64,
+    table: &[u64; KEPT],
+) {
     let s = given::series(text, at, table);
     let index = number(text, at);
     let before = *n;
@@ -15,7 +22,14 @@ fn coeff(text: &[u8], at: &mut usize, k: &mut [u8], w: &mut [u64], n: &mut u64, 
     show::node(text, *at, k, w, before, *n, got);
 }
 
-fn derivative(text: &[u8], at: &mut usize, k: &mut [u8], w: &mut [u64], n: &mut u64, table: &[u64; KEPT]) {
+fn derivative(
+    text: &[u8],
+    at: &mut usize,
+    k: &mut [u8],
+    w: &mut [u64],
+    n: &mut u64,
+    table: &[u64; KEPT],
+) {
     let s = given::series(text, at, table);
     let index = number(text, at);
     let before = *n;

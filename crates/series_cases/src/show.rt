@@ -1,11 +1,13 @@
 // What a call answered, on a line: coefficients as texts or as residues, or the refusal, and how many nodes the call appended.
+use crate::kept;
+use crate::kept::KEPT;
 use case_lines::mark;
 use case_lines::put;
+use case_lines::put_label;
+use case_lines::put_name;
 use case_lines::put_number;
 use case_lines::put_refused;
 use case_pools::put_text;
-use crate::kept;
-use crate::kept::KEPT;
 use engine_series::Counted;
 use lent::Answer;
 use lent_series::ENDLESS;
@@ -55,11 +57,6 @@ fn put_new(before: u64, count: u64) {
     put(b" new\n");
 }
 
-fn put_name(text: &[u8], at: usize) {
-    case_lines::put_name(text, at);
-    put(b": ");
-}
-
 fn outcome(
     text: &[u8],
     at: usize,
@@ -69,7 +66,7 @@ fn outcome(
     count: u64,
     got: Outcome,
 ) {
-    put_name(text, at);
+    put_label(text, at);
     let number = got.number;
     if number == 0 {
         put_series(kinds, words, count, got.series);
@@ -81,7 +78,7 @@ fn outcome(
 
 // Only how many nodes were appended.
 fn appended(text: &[u8], at: usize, before: u64, count: u64) {
-    case_lines::put_name(text, at);
+    put_name(text, at);
     put_new(before, count);
 }
 
@@ -113,7 +110,7 @@ pub fn node(
     count: u64,
     answer: Answer,
 ) {
-    put_name(text, at);
+    put_label(text, at);
     match answer {
         Answer::Node(i) => put_text(kinds, words, count, i),
         Answer::Refused(number) => put_refused(number),
@@ -122,7 +119,7 @@ pub fn node(
 }
 
 pub fn counted(text: &[u8], at: usize, answer: Counted) {
-    put_name(text, at);
+    put_label(text, at);
     match answer {
         Counted::Count(n) => put_number(n),
         Counted::Refused(number) => put_refused(number),
@@ -132,7 +129,7 @@ pub fn counted(text: &[u8], at: usize, answer: Counted) {
 
 // The last entry of the array, which is 0 past a list's end.
 pub fn last(text: &[u8], at: usize, s: Series) {
-    put_name(text, at);
+    put_label(text, at);
     put_number(s.coeffs[24]);
     put(b"\n");
 }
@@ -164,7 +161,7 @@ fn put_residues(kinds: &[u8], words: &[u64], count: u64, s: Series) {
 
 // A list's coefficients as residues.
 pub fn residues(text: &[u8], at: usize, kinds: &[u8], words: &[u64], count: u64, s: Series) {
-    case_lines::put_name(text, at);
+    put_name(text, at);
     put(b":");
     put_residues(kinds, words, count, s);
     put(b"\n");
