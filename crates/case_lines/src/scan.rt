@@ -8,7 +8,9 @@ pub fn byte_at(text: &[u8], i: usize) -> u8 {
 }
 
 // The first place from `from` on that has no space.
-pub fn past_spaces(text: &[u8], from: usize) -> usize {
+pub fn past_spaces(text: &[u8], from: usize) -> usize
+    ensures { λ r. ⌜ from ≤ r ⌝ }
+{
     let mut i = from;
     while i < text.len() {
         if text[i] != b' ' {
@@ -20,7 +22,9 @@ pub fn past_spaces(text: &[u8], from: usize) -> usize {
 }
 
 // The first place from `from` on whose byte is `most` or less: of a space the end of a word, of a line end that of a line.
-pub fn end(text: &[u8], from: usize, most: u8) -> usize {
+pub fn end(text: &[u8], from: usize, most: u8) -> usize
+    ensures { λ r. ⌜ from ≤ r ⌝ }
+{
     let mut i = from;
     while i < text.len() {
         if text[i] <= most {

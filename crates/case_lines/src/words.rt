@@ -1,6 +1,7 @@
 // Words, numbers and the name of a line. `at` is the place that is read from, and moves behind what was read.
-use crate::print::put;
-use crate::print::put_part;
+ghost use Prim.Native.Nat.{_≤_};
+use crate::output::put;
+use crate::output::put_part;
 use crate::scan::behind;
 use crate::scan::byte_at;
 use crate::scan::end;
@@ -37,7 +38,9 @@ fn digits(text: &[u8], from: usize, to: usize) -> u64 {
 }
 
 // A whole number modulo 2^64, with a minus before it or not.
-pub fn number(text: &[u8], at: &mut usize) -> u64 {
+pub fn number(text: &[u8], at: &mut usize) -> u64
+    ensures { λ _. ⌜ now (at .entry) ≤ now (at .exit) ⌝ }
+{
     let from = past_spaces(text, *at);
     let to = end(text, from, b' ');
     *at = to;
@@ -49,12 +52,16 @@ pub fn number(text: &[u8], at: &mut usize) -> u64 {
 }
 
 // A number modulo 2^32.
-pub fn small_number(text: &[u8], at: &mut usize) -> u32 {
+pub fn small_number(text: &[u8], at: &mut usize) -> u32
+    ensures { λ _. ⌜ now (at .entry) ≤ now (at .exit) ⌝ }
+{
     (number(text, at) % 0x1_0000_0000) as u32
 }
 
 // A number as a place or a length.
-pub fn size(text: &[u8], at: &mut usize) -> usize {
+pub fn size(text: &[u8], at: &mut usize) -> usize
+    ensures { λ _. ⌜ now (at .entry) ≤ now (at .exit) ⌝ }
+{
     number(text, at) as usize
 }
 
@@ -88,7 +95,9 @@ fn index_in(text: &[u8], from: usize, list: &[u8]) -> u8 {
 }
 
 // The next word, by its index in a list of words with one space between.
-pub fn word(text: &[u8], at: &mut usize, list: &[u8]) -> u8 {
+pub fn word(text: &[u8], at: &mut usize, list: &[u8]) -> u8
+    ensures { λ _. ⌜ now (at .entry) ≤ now (at .exit) ⌝ }
+{
     let from = past_spaces(text, *at);
     *at = end(text, from, b' ');
     index_in(text, from, list)

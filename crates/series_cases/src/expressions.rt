@@ -23,6 +23,7 @@ fn called(
     engine_expand::coeffs_at(k, w, n, root, var, point, number(text, at))
 }
 
+// Whether the line is one of these, and was run.
 pub fn run_line(
     text: &[u8],
     from: usize,

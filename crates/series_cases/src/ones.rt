@@ -45,6 +45,7 @@ fn called(
     of_series(call, k, w, n, s, exponent)
 }
 
+// Whether the line is one of these, and was run.
 pub fn run_line(
     text: &[u8],
     from: usize,

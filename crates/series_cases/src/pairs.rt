@@ -17,6 +17,7 @@ fn called(call: u8, k: &mut [u8], w: &mut [u64], n: &mut u64, s: Series, t: Seri
     }
 }
 
+// Whether the line is one of these, and was run.
 pub fn run_line(
     text: &[u8],
     from: usize,

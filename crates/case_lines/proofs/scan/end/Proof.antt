@@ -1,13 +1,13 @@
 -- `case_lines::scan::end` returns: each turn counts up to the length.
 -- Assumes nothing.
-use Prim.Native.Nat.{_-_}
+use Prim.Native.Nat.{_-_, _≤_}
 use borrow.Author.Needs.{needs}
 use lib.ListN.{length}
 use Rattle.case_lines.proofs.scan.end.Statement.{statement}
 use Rattle.case_lines.proofs.scan.end.Tie as tie
 
 abbrev Inv-loop : tie.InvT-loop
-Inv-loop text from most i₀ i = Unit
+Inv-loop text from most i₀ i = from ≤ i
 
 abbrev μ-loop : tie.MeasureT-loop
 μ-loop text from most i₀ i = length text - i
