@@ -1,9 +1,10 @@
 //! The cases: each is run by the engine and by the Rust on the same input.
 use crate::double::Double;
-use crate::engine::{Pool, FILE_MAX, TEXT_MAX};
+use crate::engine::{Expansion, Pool, FILE_MAX, LIST, TEXT_MAX};
 use crate::number::Number;
 use crate::ppl::Var;
 use crate::symbolic::SymGenFun;
+use crate::univariate_taylor::TaylorExpansion;
 use crate::whole::Whole;
 use std::fmt::Write;
 
@@ -16,15 +17,26 @@ pub enum Operation {
     Print,
     Write,
     Read,
+    /// To an order, at the point 1 or at the variable itself.
+    ExpandAt(u64),
+    Expand(u64),
+    /// A quotient of an exp and a log, which have their recurrences.
+    ExpandMixed(u64),
 }
 use Operation::*;
 
-pub const OPERATIONS: [(Operation, &str, [u64; 3]); 7] = [
+/// Sizes are terms of a polynomial; those of expansions, of one in Horner's form, are chosen for the pool's 4,096 nodes.
+pub const OPERATIONS: [(Operation, &str, [u64; 3]); 12] = [
     (Build, "build", [25, 100, 300]),
     (Derive, "derive", [25, 100, 300]),
     (Substitute, "substitute", [25, 100, 300]),
     (Evaluate, "evaluate", [25, 100, 300]),
     (Print, "print", [25, 100, 300]),
+    (ExpandAt(8), "expand8_at", [10, 30, 80]),
+    (ExpandAt(24), "expand24_at", [3, 7, 14]),
+    (Expand(8), "expand8", [10, 30, 80]),
+    (Expand(24), "expand24", [3, 7, 14]),
+    (ExpandMixed(8), "mixed8", [3, 10, 30]),
     (Write, "write", [25, 100, 300]),
     (Read, "read", [25, 100, 300]),
 ];
@@ -62,6 +74,7 @@ pub struct Engine {
     file: Vec<u8>,
     node: u64,
     bits: u64,
+    expansion: Expansion,
 }
 
 /// The polynomial of a number of terms, from the constant on.
@@ -77,13 +90,36 @@ fn polynomial(pool: &mut Pool, terms: u64) -> u64 {
     sum
 }
 
+/// 1 + x + x^2 + .. in Horner's form.
+fn horner(pool: &mut Pool, terms: u64) -> u64 {
+    let x = pool.var(0);
+    let mut sum = pool.lit(1);
+    for k in 1..terms {
+        let product = pool.mul(sum, x);
+        let one = pool.lit(if k % 2 == 0 { 1 } else { 2 });
+        sum = pool.add(product, one);
+    }
+    sum
+}
+
+/// exp P / log P, P a polynomial in Horner's form times x.
+fn mixed(pool: &mut Pool, terms: u64) -> u64 {
+    let sum = horner(pool, terms);
+    let x = pool.var(0);
+    let inner = pool.mul(sum, x);
+    let (above, below) = (pool.exp(inner), pool.log(inner));
+    pool.div(above, below)
+}
+
 impl Engine {
     pub fn new(operation: Operation, size: u64) -> Self {
         let mut pool = Pool::new();
-        let mut root = 0;
-        if operation != Build {
-            root = polynomial(&mut pool, size);
-        }
+        let root = match operation {
+            Build => 0,
+            ExpandAt(_) | Expand(_) => horner(&mut pool, size),
+            ExpandMixed(_) => mixed(&mut pool, size),
+            _ => polynomial(&mut pool, size),
+        };
         let mut value = 0;
         if operation == Substitute {
             let (y, one) = (pool.var(1), pool.lit(1));
@@ -95,7 +131,8 @@ impl Engine {
             file.truncate(length);
             pool.back_to(0);
         }
-        Engine { operation, size, start: pool.count, pool, root, value, out: vec![0; TEXT_MAX], file, node: 0, bits: 0 }
+        let expansion = Expansion { order: 0, coeffs: [0; LIST] };
+        Engine { operation, size, start: pool.count, pool, root, value, out: vec![0; TEXT_MAX], file, node: 0, bits: 0, expansion }
     }
 }
 
@@ -113,6 +150,8 @@ impl Side for Engine {
             Print => self.bits = pool.print(self.root, &mut self.out) as u64,
             Write => self.bits = pool.write(self.root, &mut self.file) as u64,
             Read => self.node = pool.read(&self.file),
+            ExpandAt(order) => self.expansion = pool.expand(self.root, Some(1), order),
+            Expand(order) | ExpandMixed(order) => self.expansion = pool.expand(self.root, None, order),
         }
     }
     fn answer(&mut self) -> Vec<u8> {
@@ -124,6 +163,18 @@ impl Side for Engine {
             Evaluate => self.bits.to_le_bytes().to_vec(),
             Print => self.out[..self.bits as usize].to_vec(),
             Write => self.file[..self.bits as usize].to_vec(),
+            ExpandAt(_) | Expand(_) => {
+                let list = self.expansion.coeffs[..self.expansion.order as usize].iter();
+                list.flat_map(|node| self.pool.evaluate(*node, &[1.0]).to_le_bytes()).collect()
+            }
+            // not evaluated; the last coefficient's text is too long: the first three
+            ExpandMixed(_) => {
+                let list = self.expansion.coeffs[..3].iter();
+                list.flat_map(|node| {
+                    let length = self.pool.print(*node, &mut self.out);
+                    self.out[..length].to_vec()
+                }).collect()
+            }
         }
     }
 }
@@ -136,6 +187,7 @@ pub struct Rust {
     root: Expression,
     value: Expression,
     given: Option<Expression>,
+    expansion: Option<TaylorExpansion<Expression>>,
     text: String,
     bits: u64,
 }
@@ -154,16 +206,39 @@ fn rust_polynomial(terms: u64) -> Expression {
     sum
 }
 
+fn rust_horner(terms: u64) -> Expression {
+    let x = SymGenFun::var(Var(0));
+    let mut sum = lit(1);
+    for k in 1..terms {
+        sum = sum * x.clone() + lit(if k % 2 == 0 { 1 } else { 2 });
+    }
+    sum
+}
+
+fn value(root: &Expression, x: f64) -> u64 {
+    let values = [x];
+    root.evaluate(|z| Double(z.0 as f64), |v| Double(values[v.id()])).0.to_bits()
+}
+
 impl Rust {
     pub fn new(operation: Operation, size: u64) -> Self {
         let value = SymGenFun::var(Var(1)) + lit(1);
-        Rust { operation, size, root: rust_polynomial(size), value, given: None, text: String::with_capacity(TEXT_MAX), bits: 0 }
+        let root = match operation {
+            ExpandAt(_) | Expand(_) => rust_horner(size),
+            ExpandMixed(_) => {
+                let inner = rust_horner(size) * SymGenFun::var(Var(0));
+                inner.exp() / inner.log()
+            }
+            _ => rust_polynomial(size),
+        };
+        Rust { operation, size, root, value, given: None, expansion: None, text: String::with_capacity(TEXT_MAX), bits: 0 }
     }
 }
 
 impl Side for Rust {
     fn prepare(&mut self) {
         self.given = None;
+        self.expansion = None;
         self.text.clear();
     }
     fn work(&mut self) {
@@ -171,14 +246,11 @@ impl Side for Rust {
             Build => self.given = Some(rust_polynomial(self.size)),
             Derive => self.given = Some(self.root.derive(Var(0))),
             Substitute => self.given = Some(self.root.substitute_var(Var(0), self.value.clone())),
-            Evaluate => {
-                self.bits = (0..POINTS).fold(0, |bits, j| {
-                    let values = [point(j)];
-                    bits ^ self.root.evaluate(|z| Double(z.0 as f64), |v| Double(values[v.id()])).0.to_bits()
-                })
-            }
+            Evaluate => self.bits = (0..POINTS).fold(0, |bits, j| bits ^ value(&self.root, point(j))),
             Print => write!(self.text, "{}", self.root).unwrap(),
             Write | Read => {}
+            ExpandAt(order) => self.expansion = Some(self.root.taylor_coeffs_at(Var(0), &Whole(1), order as usize)),
+            Expand(order) | ExpandMixed(order) => self.expansion = Some(self.root.taylor_coeffs(Var(0), order as usize)),
         }
     }
     fn answer(&mut self) -> Vec<u8> {
@@ -187,6 +259,11 @@ impl Side for Rust {
             Evaluate => self.bits.to_le_bytes().to_vec(),
             Print => self.text.clone().into_bytes(),
             Write | Read => Vec::new(),
+            ExpandAt(_) | Expand(_) => {
+                let expansion = self.expansion.as_ref().unwrap();
+                (0..expansion.order()).flat_map(|k| value(&expansion.coeff(k), 1.0).to_le_bytes()).collect()
+            }
+            ExpandMixed(_) => (0..3).flat_map(|k| self.expansion.as_ref().unwrap().coeff(k).to_string().into_bytes()).collect(),
         }
     }
 }

@@ -40,11 +40,11 @@ fn mixed(count: usize) -> Pool {
 }
 
 /// A constructor's call; the pool is put back outside the time.
-fn constructor(time: Duration, pool: &mut Pool, call: fn(&mut Pool)) -> f64 {
+fn constructor(time: Duration, pool: &mut Pool, call: fn(&mut Pool) -> u64) -> f64 {
     let start = pool.count;
     median(time, || {
         let from = Instant::now();
-        call(black_box(pool));
+        black_box(call(black_box(pool)));
         let took = from.elapsed().as_nanos() as f64;
         pool.back_to(start);
         took
@@ -62,8 +62,8 @@ pub fn compare(time: Duration) {
     for (name, mut pool) in pools {
         let check = median(time, || row(20, || assert_eq!(black_box(&pool).check(), 0)));
         let plain = median(time, || row(20, || assert_eq!(black_box(&pool).plain_check(), 0)));
-        let var = constructor(time, &mut pool, |p| drop(p.var(1)));
-        let add = constructor(time, &mut pool, |p| drop(p.add(0, 0)));
+        let var = constructor(time, &mut pool, |p| p.var(1));
+        let add = constructor(time, &mut pool, |p| p.add(0, 0));
         println!("{name:20} {check:9.0} {plain:12.0} {:7.2}  | {var:7.0} {:10.2} | {add:7.0} {:10.2}", check / plain, var / check, add / check);
     }
 }

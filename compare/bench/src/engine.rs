@@ -35,6 +35,21 @@ functions! {
     bunlayog_substitute_var(root: u64, var: u64, value: u64, node: *mut u64);
     bunlayog_derive(root: u64, var: u64, node: *mut u64);
     bunlayog_read(file: *const u8, fl: usize, root: *mut u64);
+    bunlayog_taylor_var(x: u64, order: u64, order_out: *mut u64, out: *mut u64);
+    bunlayog_taylor_coeff(order: u64, c: *const u64, index: u64, node: *mut u64);
+    bunlayog_taylor_derivative(order: u64, c: *const u64, index: u64, node: *mut u64);
+    bunlayog_taylor_exp(order: u64, c: *const u64, order_out: *mut u64, out: *mut u64);
+    bunlayog_taylor_log(order: u64, c: *const u64, order_out: *mut u64, out: *mut u64);
+    bunlayog_taylor_neg(order: u64, c: *const u64, order_out: *mut u64, out: *mut u64);
+    bunlayog_taylor_pow(order: u64, c: *const u64, e: u32, order_out: *mut u64, out: *mut u64);
+    bunlayog_taylor_add(o: u64, c: *const u64, p: u64, d: *const u64, order_out: *mut u64, out: *mut u64);
+    bunlayog_taylor_sub(o: u64, c: *const u64, p: u64, d: *const u64, order_out: *mut u64, out: *mut u64);
+    bunlayog_taylor_mul(o: u64, c: *const u64, p: u64, d: *const u64, order_out: *mut u64, out: *mut u64);
+    bunlayog_taylor_div(o: u64, c: *const u64, p: u64, d: *const u64, order_out: *mut u64, out: *mut u64);
+    bunlayog_taylor_max(o: u64, c: *const u64, p: u64, d: *const u64, order_out: *mut u64, out: *mut u64);
+    bunlayog_taylor_subst(o: u64, c: *const u64, p: u64, d: *const u64, order_out: *mut u64, out: *mut u64);
+    bunlayog_taylor_coeffs(root: u64, var: u64, order: u64, order_out: *mut u64, out: *mut u64);
+    bunlayog_taylor_coeffs_at(root: u64, var: u64, point: i64, order: u64, order_out: *mut u64, out: *mut u64);
 }
 readers! {
     bunlayog_check();
@@ -42,7 +57,19 @@ readers! {
     bunlayog_evaluate_residue(root: u64, v: *const u32, vl: usize, residue: *mut u32);
     bunlayog_print(root: u64, out: *mut u8, ol: usize, written: *mut u64);
     bunlayog_write(root: u64, out: *mut u8, ol: usize, written: *mut u64);
+    bunlayog_taylor_from_coefficients(order: u64, c: *const u64, order_out: *mut u64, out: *mut u64);
+    bunlayog_taylor_order(order: u64, c: *const u64, order_out: *mut u64);
     plain_check();
+}
+
+/// The order of a constant, which stands first in its list.
+pub const CONSTANT: u64 = u64::MAX;
+
+/// An expansion as it is lent: the number of entries, or `CONSTANT`.
+#[derive(Clone, Copy)]
+pub struct Expansion {
+    pub order: u64,
+    pub coeffs: [u64; LIST],
 }
 
 #[derive(Clone)]
@@ -111,6 +138,15 @@ impl Pool {
     pub fn mul(&mut self, a: u64, b: u64) -> u64 {
         made!(self, bunlayog_mul, a, b)
     }
+    pub fn div(&mut self, a: u64, b: u64) -> u64 {
+        made!(self, bunlayog_div, a, b)
+    }
+    pub fn exp(&mut self, a: u64) -> u64 {
+        made!(self, bunlayog_exp, a)
+    }
+    pub fn log(&mut self, a: u64) -> u64 {
+        made!(self, bunlayog_log, a)
+    }
     pub fn pow(&mut self, a: u64, e: u32) -> u64 {
         made!(self, bunlayog_pow, a, e)
     }
@@ -131,5 +167,16 @@ impl Pool {
     }
     pub fn write(&self, root: u64, out: &mut [u8]) -> usize {
         given!(self, bunlayog_write, root, out.as_mut_ptr(), out.len()) as usize
+    }
+    /// The expansion of an expression by variable 0, at a point where one is given.
+    pub fn expand(&mut self, root: u64, point: Option<i64>, order: u64) -> Expansion {
+        let mut given = Expansion { order: 0, coeffs: [0; LIST] };
+        let (k, w, n) = (self.kinds.as_mut_ptr(), self.words.as_mut_ptr(), &mut self.count);
+        let number = match point {
+            Some(point) => unsafe { bunlayog_taylor_coeffs_at(k, LIMIT, w, LIMIT, n, root, 0, point, order, &mut given.order, given.coeffs.as_mut_ptr()) },
+            None => unsafe { bunlayog_taylor_coeffs(k, LIMIT, w, LIMIT, n, root, 0, order, &mut given.order, given.coeffs.as_mut_ptr()) },
+        };
+        assert_eq!(number, 0, "expand to order {order}");
+        given
     }
 }
