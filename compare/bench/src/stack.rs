@@ -220,6 +220,23 @@ const CALLS: [(&str, Call); 35] = [
     work!(bunlayog_taylor_coeffs_at, |a| a.top, a.other % 2, 1, 24, &mut 0, [0u64; LIST].as_mut_ptr()),
 ];
 
+fn goal(name: &str) -> usize {
+    if name.contains("taylor") { 4 << 20 } else { 2 << 20 }
+}
+
+/// Every entry point on every pool in a thread that has its goal of stack: one that needs more ends the program.
+fn within_goals() {
+    for (name, call) in CALLS {
+        let run = move || {
+            for (_, pool) in pools() {
+                arguments(&pool).iter_mut().for_each(|given| { black_box(call(&mut pool.clone(), given)); });
+            }
+        };
+        std::thread::Builder::new().stack_size(goal(name)).spawn(run).unwrap().join().unwrap();
+    }
+    println!("every entry point ran on every pool in a thread of 2 MiB of stack, those of expansions of 4 MiB");
+}
+
 /// The greatest use of an entry point over all pools and arguments: bytes, the pool, the answer there.
 fn worst(call: Call, pools: &[(String, Pool)]) -> (usize, String, u32) {
     let mut worst = (0, String::new(), 0);
@@ -242,14 +259,14 @@ fn table() -> bool {
     let mut within = true;
     println!("entry point                          bytes  goal     answer  pool");
     for (name, call) in CALLS {
-        let goal = if name.contains("taylor") { 4 << 20 } else { 2 << 20 };
         let (bytes, pool, answer) = worst(call, &pools);
-        within &= bytes <= goal;
-        println!("{name:34} {bytes:8}  {} MiB {answer:6}     {pool}", goal >> 20);
+        within &= bytes <= goal(name);
+        println!("{name:34} {bytes:8}  {} MiB {answer:6}     {pool}", goal(name) >> 20);
     }
     within
 }
 
 pub fn measure() -> bool {
+    within_goals();
     std::thread::Builder::new().stack_size(THREAD).spawn(table).unwrap().join().unwrap()
 }
