@@ -36,7 +36,7 @@ pub const OPERATIONS: [(Operation, &str, [u64; 3]); 12] = [
     (ExpandAt(24), "expand24_at", [3, 7, 14]),
     (Expand(8), "expand8", [10, 30, 80]),
     (Expand(24), "expand24", [3, 7, 14]),
-    (ExpandMixed(8), "mixed8", [3, 10, 30]),
+    (ExpandMixed(8), "mixed8", [3, 6, 10]),
     (Write, "write", [25, 100, 300]),
     (Read, "read", [25, 100, 300]),
 ];
