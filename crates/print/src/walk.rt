@@ -62,25 +62,20 @@ fn node_fmt(
     let node = pool::node_at(kinds, words, p.of);
     if precedence(node) < p.under {
         let opened = put(out, at, b'(');
-        let inner = inside(kinds, words, out, opened, i, node);
+        let inner = inside(kinds, words, out, opened, p.of);
         return put(out, inner, b')');
     }
-    inside(kinds, words, out, at, i, node)
+    inside(kinds, words, out, at, p.of)
 }
 
-// A node without the brackets around it; its parts are below its own number.
-fn inside(
-    kinds: &[u8; LIMIT],
-    words: &[u64; LIMIT],
-    out: &mut [u8],
-    at: usize,
-    i: usize,
-    node: Node,
-) -> usize
+// A node without the brackets around it; its parts are below its own number. It is read here once more, not handed over: a node
+// that is matched where it is read never stands in memory.
+fn inside(kinds: &[u8; LIMIT], words: &[u64; LIMIT], out: &mut [u8], at: usize, of: u32) -> usize
     requires { ⌜ at ≤ pastLongest ⌝ }
-    ensures { λ r. ⌜ Wrote at (now (out .entry)) (nodeText (textBelow (nodeIn (now (kinds .entry)) (now (words .entry))) i) node) r (now (out .exit)) ⌝ }
+    ensures { λ r. ⌜ Wrote at (now (out .entry)) (nodeText (textBelow (nodeIn (now (kinds .entry)) (now (words .entry))) of) (nodeIn (now (kinds .entry)) (now (words .entry)) of)) r (now (out .exit)) ⌝ }
 {
-    match node {
+    let i = of as usize;
+    match pool::node_at(kinds, words, of) {
         Node::Empty => at,
         Node::Variable(v) => write_variable(out, at, v),
         Node::Lit(z) => write_literal(out, at, z),
