@@ -16,12 +16,12 @@ use Rattle.pool.specs.Nodes.{allBelow}
 use Rattle.pool.specs.Pool.{limit}
 use Rattle.lent.proofs.Finishing.{and-left, and-right}
 use Rattle.taylor.specs.Work.{at}
-use Rattle.taylor.specs.Expansion.{Expansion, order}
+use Rattle.taylor.specs.Expansion.{Expansion, order, endless}
 use Rattle.taylor_base.specs.Answers.{terms, listOf, shape, expansionOf, constantOf, Given, Tidy, Tidied}
 use Rattle.taylor_base.specs.declared.answer.Expansion as coded
 use Rattle.taylor_base.proofs.Lists.{constant-tidy, list-tidied, list-long}
 use Rattle.taylor_base.proofs.Copying.{Copied}
-use Rattle.lent_series.specs.Series.{endless, isConstant, entries, nodesOf, lengthOk, given, coeffsOf, seriesOf, Usable, listed, Narrowed}
+use Rattle.lent_series.specs.Series.{isConstant, entries, nodesOf, lengthOk, given, coeffsOf, seriesOf, Usable, listed, Narrowed}
 use Rattle.lent_series.specs.declared.series.Series.{Series}
 
 -- ---- how many are given

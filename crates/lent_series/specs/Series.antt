@@ -3,20 +3,17 @@
 use mathlib.Core.Path.{_≡_}
 use mathlib.Core.Bool.{Bool, true, false, _&&_, _||_}
 use mathlib.Core.List.{List, [], _∷_, _++_}
-use Prim.Native.Nat.{ℕ, _-_, _^_, min, _<_}
+use Prim.Native.Nat.{ℕ, _-_, min, _<_}
 use lib.Dec.{eqb, leb}
 use lib.ListN.{length, getD, take, replicate}
 use Rattle.pool.specs.Pool.{limit}
 use Rattle.taylor.specs.Work.{at}
-use Rattle.taylor.specs.Expansion.{Expansion, Constant, Polynomial, order}
+use Rattle.taylor.specs.Expansion.{Expansion, Constant, Polynomial, order, endless}
 use Rattle.taylor_base.specs.Answers.{terms, shape, expansionOf, Tidy}
 use Rattle.taylor_base.specs.declared.answer.Expansion as coded
 use Rattle.lent_series.specs.declared.series.Series.{Series}
 
--- `order` of a constant is 2^64 - 1
-abbrev pub endless : ℕ
-endless = 2 ^ 64 - 1
-
+-- `order` of a constant
 abbrev pub isConstant : Series → Bool
 isConstant s = eqb (s .order) endless
 

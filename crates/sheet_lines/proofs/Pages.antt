@@ -23,7 +23,7 @@ use Rattle.shape.specs.File.{readFile}
 use Rattle.lent.proofs.Finishing.{and-left, and-right}
 use Rattle.walks.specs.Print.{textOf, longestText}
 use Rattle.taylor.specs.Work.{Result, gives, refused-work, at}
-use Rattle.taylor.specs.Expansion.{Expansion, Constant, Polynomial}
+use Rattle.taylor.specs.Expansion.{Expansion, Constant, Polynomial, greatestOrder}
 use Rattle.taylor.specs.Expand.{Point, expand}
 use Rattle.taylor_base.specs.Answers.{terms, listOf, shape, expansionOf, statusOf, Answers, Tidy}
 use Rattle.taylor_base.specs.declared.answer.Expanded.{Expanded}
@@ -31,7 +31,7 @@ use Rattle.taylor_base.specs.declared.answer.Status.the-variants as status
 use Rattle.taylor_base.specs.declared.answer.Expansion as coded
 use Rattle.expand.specs.Points.{pointOf}
 use Rattle.expand.specs.declared.point.Point as place
-use Rattle.sheet_text.specs.Sheet.{Coefficients, texts, refusal, printed, printAll, coefficientsOf, coefficients, empty, expandRoot, isPoint, greatestOrder, sheetText, linesFrom}
+use Rattle.sheet_text.specs.Sheet.{Coefficients, texts, refusal, printed, printAll, coefficientsOf, coefficients, empty, expandRoot, isPoint, sheetText, linesFrom}
 use Rattle.sheet_page.specs.declared.first.Page.{Page}
 use Rattle.sheet_page.specs.declared.first.Verdict.{Verdict}
 use Rattle.sheet_page.specs.declared.first.Verdict.the-variants.{Usage, Refused, Lines}

@@ -14,13 +14,9 @@ use Rattle.pool.specs.Pool.{Pool, pool, Out, done, refused, limit, nodeAt}
 use Rattle.shape.specs.File.{readFile}
 use Rattle.walks.specs.Print.{textOf, longestText}
 use Rattle.taylor.specs.Work.{Result, gives, refused-work}
-use Rattle.taylor.specs.Expansion.{Expansion, Constant, Polynomial}
+use Rattle.taylor.specs.Expansion.{Expansion, Constant, Polynomial, greatestOrder}
 use Rattle.taylor.specs.Expand.{Point, none, point, expand}
 use Rattle.sheet_text.specs.Line.{Line, usage, asks, parse}
-
--- "An order is above 24"
-abbrev pub greatestOrder : ℕ
-greatestOrder = 24
 
 -- the texts of the coefficients, or a refusal number
 pub data Coefficients : Type 0 where

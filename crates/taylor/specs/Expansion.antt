@@ -13,6 +13,10 @@ pub data Expansion : Type 0 where
   Constant : ℕ → Expansion
   Polynomial : List ℕ → Expansion
 
+-- "An order is above 24" is refused: this is the greatest
+abbrev pub greatestOrder : ℕ
+greatestOrder = 24
+
 abbrev pub polynomial : Work (List ℕ) → Work Expansion
 polynomial work = do
   cs ← work
@@ -50,9 +54,12 @@ coeff (Constant c) zero = yield c
 coeff (Constant c) (suc k) = zeroLit
 
 -- fn order(): usize::MAX of a constant
+abbrev pub endless : ℕ
+endless = 2 ^ 64 - 1
+
 abbrev pub order : Expansion → ℕ
 order (Polynomial cs) = length cs
-order (Constant c) = 2 ^ 64 - 1
+order (Constant c) = endless
 
 -- fn derivative(order): (1..=order).fold(one, |acc, i| acc * T::from(i)) * coeffs[order]
 abbrev pub derivative : Expansion → ℕ → Work ℕ
@@ -191,11 +198,15 @@ powFrom (suc k) e res base = do
   res2 ← when (eqb (e % 2) 1) (times res base) (yield res)
   when (eqb (e / 2) 0) (yield res2) (times base base >>= (λ base2. powFrom k (e / 2) res2 base2))
 
--- the exponent has 32 bits; res starts as the constant one
+-- how many bits an exponent has
+abbrev pub digits : ℕ
+digits = 32
+
+-- res starts as the constant one
 abbrev pub power : Expansion → ℕ → Work Expansion
 power base e = do
   o ← oneLit
-  powFrom 32 e (Constant o) base
+  powFrom digits e (Constant o) base
 
 -- ---- max: of two constants, else 10
 abbrev pub maximum : Expansion → Expansion → Work Expansion

@@ -3,21 +3,21 @@
 use mathlib.Core.Bool.{Bool, true, false}
 use mathlib.Core.Path.{_≡_}
 use mathlib.Core.List.{List}
-use Prim.Native.Nat.{ℕ, _-_, _≤_, _<_}
+use Prim.Native.Nat.{ℕ, _+_, _-_, _≤_, _<_}
 use lib.ListN.{length, take, drop, set, replicate}
 use Rattle.pool.specs.Made.{made, poolOf}
 use Rattle.pool.specs.declared.table.Made as made-node
 use Rattle.pool.specs.declared.table.Made.the-variants as made-as
 use Rattle.taylor.specs.Work.{Result, gives, refused-work, bind, yield, answered, at}
-use Rattle.taylor.specs.Expansion.{Expansion, Constant, Polynomial}
+use Rattle.taylor.specs.Expansion.{Expansion, Constant, Polynomial, greatestOrder}
 use Rattle.taylor_base.specs.declared.answer.Expansion as coded
 use Rattle.taylor_base.specs.declared.answer.Status.{Status}
 use Rattle.taylor_base.specs.declared.answer.Status.the-variants.{Done, Refused}
 use Rattle.taylor_base.specs.declared.answer.Expanded.{Expanded}
 
--- "a list of 1 to 25 node numbers": the orders 0 to 24
+-- "a list of 1 to 25 node numbers": one for each order from 0 on
 abbrev pub terms : ℕ
-terms = 25
+terms = greatestOrder + 1
 
 -- "arrays of 25, 0 past the list's end in answers, unread there in arguments"
 abbrev pub listOf : coded.Expansion → List ℕ

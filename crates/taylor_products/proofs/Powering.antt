@@ -13,14 +13,14 @@ use Rattle.pool.specs.Pool.{Pool}
 use Rattle.pool.specs.Made.{poolOf}
 use Rattle.pool.specs.declared.table.Room.{Room}
 use Rattle.taylor.specs.Work.{Result, gives, Work, bind, yield}
-use Rattle.taylor.specs.Expansion.{Expansion, Constant, times, when, powFrom}
+use Rattle.taylor.specs.Expansion.{Expansion, Constant, times, when, powFrom, digits}
 use Rattle.taylor_base.specs.Answers.{expansionOf, Tidy, Answers, constantOf}
 use Rattle.taylor_base.specs.declared.answer.Expansion as coded
 use Rattle.taylor_base.specs.declared.answer.Expanded.{Expanded}
 use Rattle.taylor_base.specs.declared.answer.Status.the-variants as status
 use Rattle.taylor_base.proofs.Steps.{bind-same}
 use Rattle.taylor_base.proofs.Lists.{constant-tidy, answers-same, answers-end, answers-onward, answers-done}
-use Rattle.taylor_products.specs.Powers.{digits, timesIf}
+use Rattle.taylor_products.specs.Powers.{timesIf}
 
 -- e has n binary digits
 pub record Digits (e n : ℕ) : Type 0 where

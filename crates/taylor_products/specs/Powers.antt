@@ -5,10 +5,6 @@ use Prim.Native.Nat.{ℕ}
 use Rattle.taylor.specs.Work.{Work, _>>=_, yield}
 use Rattle.taylor.specs.Expansion.{Expansion, Constant, times, addTo, when}
 
--- the exponent has 32 bits
-abbrev pub digits : ℕ
-digits = 32
-
 -- lhs *= rhs where it is asked for
 abbrev pub timesIf : Bool → Expansion → Expansion → Work Expansion
 timesIf asked lhs rhs = when asked (times lhs rhs) (yield lhs)

@@ -1,9 +1,9 @@
 // Powers of an expansion, by the binary digits of the exponent.
 ghost use mathlib.Core.Path.{_≡_};
 ghost use Rattle.pool.specs.Made.{poolOf};
-ghost use Rattle.taylor.specs.Expansion.{Constant, powFrom, power};
+ghost use Rattle.taylor.specs.Expansion.{Constant, powFrom, power, digits};
 ghost use Rattle.taylor_base.specs.Answers.{expansionOf, Given, Tidy, Answers};
-ghost use Rattle.taylor_products.specs.Powers.{digits, timesIf};
+ghost use Rattle.taylor_products.specs.Powers.{timesIf};
 use crate::product::times_in;
 use pool::LIMIT;
 use pool::Made;

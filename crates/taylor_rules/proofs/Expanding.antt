@@ -23,10 +23,10 @@ use Rattle.constructor_laws.proofs.Rules.{AllBelow, parts-below}
 use Rattle.constructor_laws.proofs.Keeping.{append-keeps}
 use Rattle.taylor.specs.Work.{Result, gives, refused-work, Work}
 use Rattle.taylor.specs.Work as work
-use Rattle.taylor.specs.Expansion.{Expansion, Constant, order, times, when, powFrom, power}
+use Rattle.taylor.specs.Expansion.{Expansion, Constant, order, times, when, powFrom, power, endless}
 use Rattle.taylor.specs.Expand.{Kept, nothing, kept, State, state, Went, went, refused-walk, Walk, bind, yield, refuse, lifted, lift, keep, once, Point, none, point, pointNode, ofVariable, expandNode, expandAt, expandBelow, expanded, expand}
 use Rattle.taylor_base.specs.Answers.{terms}
-use Rattle.taylor_rules.specs.Kept.{endless, ExpandedOrder}
+use Rattle.taylor_rules.specs.Kept.{ExpandedOrder}
 use Rattle.taylor_rules.proofs.Nodes.{KeptAs, Keeping, yield-keeps, next-keeps, said-as, node-keeps, lit-keeps, from-keeps}
 use Rattle.taylor_rules.proofs.Nodes as nodes
 use Rattle.taylor_rules.proofs.Operations.{Within, Series, within-more, var-keeps, add-to-keeps, times-keeps, quotient-keeps, exponential-keeps, logarithm-keeps}

@@ -12,9 +12,9 @@ use borrow.Author.Tests.{eq-eqb, ne-eqb}
 use Rattle.refusals.specs.Refusals.{maxReached}
 use Rattle.constructor_laws.proofs.Rules.{AllBelow, all-below-more}
 use Rattle.taylor.specs.Work.{Work, bind, yield, from, add, mul, at}
-use Rattle.taylor.specs.Expansion.{Expansion, Constant, Polynomial, polynomial, constant, varCoeffs, var, coeff, order, derivative, addTo, negate, subFrom, productAt, times, quotientAt, quotient, expAt, exponential, logAt, logarithm, when, powFrom, power, maximum, horner, subst}
+use Rattle.taylor.specs.Expansion.{Expansion, Constant, Polynomial, polynomial, constant, varCoeffs, var, coeff, order, derivative, addTo, negate, subFrom, productAt, times, quotientAt, quotient, expAt, exponential, logAt, logarithm, when, powFrom, power, maximum, horner, subst, endless}
 use Rattle.taylor_base.specs.Answers.{terms}
-use Rattle.taylor_rules.specs.Kept.{nodesOf, endless, powerOrder, substOrder}
+use Rattle.taylor_rules.specs.Kept.{nodesOf, powerOrder, substOrder}
 use Rattle.taylor_rules.proofs.Nodes.{Keeping, yield-keeps, refuse-keeps, next-keeps, Node, Nodes, at-below, nodes-as, from-keeps, add-keeps, mul-keeps, div-keeps, max-keeps, neg-keeps, sub-keeps, exp-keeps, log-keeps, each-keeps, first-keeps, two-keep, fold-keeps, fill-keeps}
 
 -- what may be given where the pool has m nodes

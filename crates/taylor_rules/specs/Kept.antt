@@ -12,7 +12,7 @@ use Rattle.constructor_laws.specs.Grown.{Grown}
 use Rattle.constructor_laws.specs.Keeps.{Keeps}
 use Rattle.constructor_laws.specs.Keeps as nodes
 use Rattle.taylor.specs.Work.{Result, gives, refused-work}
-use Rattle.taylor.specs.Expansion.{Expansion, Constant, Polynomial, order}
+use Rattle.taylor.specs.Expansion.{Expansion, Constant, Polynomial, order, endless}
 use Rattle.taylor_base.specs.Answers.{terms}
 
 abbrev pub nodesOf : Expansion → List ℕ
@@ -40,10 +40,6 @@ KeptBy P Order (refused-work r) = Unit {0}
 abbrev pub NodeKeptBy : Pool → Result ℕ → Type 0
 NodeKeptBy P (gives i Q) = nodes.Kept P i Q
 NodeKeptBy P (refused-work r) = Unit {0}
-
--- the order of a constant
-abbrev pub endless : ℕ
-endless = order (Constant 0)
 
 -- pow: at exponent 0 the constant 1, else as long as the base
 abbrev pub powerOrder : Expansion → ℕ → ℕ

@@ -2,7 +2,7 @@
 -- Assumes nothing.
 use mathlib.Core.Path.{refl}
 use borrow.Author.Tests.{eq-eqb, ne-eqb}
-use Rattle.lent_series.specs.Series.{endless}
+use Rattle.taylor.specs.Expansion.{endless}
 use Rattle.engine_pairs.proofs.binary.as_long.Statement.{statement}
 use Rattle.engine_pairs.proofs.binary.as_long.Tie as tie
 

@@ -3,7 +3,7 @@
 use mathlib.Core.Path.{refl, sym, _∙_}
 use borrow.Author.Tests.{not-true, not-false, eq-eqb, ne-eqb}
 use borrow.Author.Needs.{needs}
-use Rattle.lent_series.specs.Series.{endless}
+use Rattle.taylor.specs.Expansion.{endless}
 use Rattle.engine_series.proofs.indexed.index_fits.Statement.{statement}
 use Rattle.engine_series.proofs.indexed.index_fits.Tie as tie
 

@@ -3,8 +3,7 @@
 use borrow.Author.Needs.{needs}
 use mathlib.Core.Path.{ap}
 use Rattle.pool.specs.Made.{poolOf}
-use Rattle.taylor.specs.Expansion.{Expansion, Constant, powFrom}
-use Rattle.taylor_products.specs.Powers.{digits}
+use Rattle.taylor.specs.Expansion.{Expansion, Constant, powFrom, digits}
 use Rattle.taylor_base.proofs.Steps.{onward, stopped}
 use Rattle.taylor_base.proofs.Lists.{refusal-answers, answers-same}
 use Rattle.taylor_products.proofs.power.pow_in.Statement.{statement}

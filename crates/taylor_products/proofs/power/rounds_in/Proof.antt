@@ -4,9 +4,8 @@ use native.Mathlib.Omega.{arith}
 use borrow.Author.Needs.{needs}
 use lib.Count.{leadingZeros, leading-le}
 use Rattle.pool.specs.Made.{poolOf}
-use Rattle.taylor.specs.Expansion.{Constant, powFrom}
+use Rattle.taylor.specs.Expansion.{Constant, powFrom, digits}
 use Rattle.taylor_base.specs.Answers.{expansionOf}
-use Rattle.taylor_products.specs.Powers.{digits}
 use Rattle.taylor_products.proofs.Powering.{Powering, pow-starts, product-stopped, square-stopped, pow-onward, pow-done}
 use Rattle.taylor_products.proofs.power.rounds_in.Statement.{statement}
 use Rattle.taylor_products.proofs.power.rounds_in.Tie as tie
