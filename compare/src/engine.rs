@@ -22,18 +22,18 @@ extern "C" {
     fn bunlayog_write(k: *const u8, kl: usize, w: *const u64, wl: usize, n: u64, root: u64, out: *mut u8, ol: usize, written: *mut u64) -> u32;
 }
 
-const GUARD: usize = 64;
+pub const GUARD: usize = 64;
 const BYTE: u8 = 0xa5;
-const WORD: u64 = 0xa5a5_a5a5_a5a5_a5a5;
+pub const WORD: u64 = 0xa5a5_a5a5_a5a5_a5a5;
 
 #[derive(Clone)]
 pub struct Engine {
-    kinds: Vec<u8>,
-    words: Vec<u64>,
-    count: u64,
+    pub(crate) kinds: Vec<u8>,
+    pub(crate) words: Vec<u64>,
+    pub(crate) count: u64,
     /// The lengths that the tables are lent with.
-    kinds_len: usize,
-    words_len: usize,
+    pub(crate) kinds_len: usize,
+    pub(crate) words_len: usize,
     /// The tables as they are to be: what an accepted call appended is copied here.
     kinds_then: Vec<u8>,
     words_then: Vec<u64>,
@@ -49,16 +49,9 @@ macro_rules! call {
                 $c(self.kinds.as_mut_ptr().add(GUARD), self.kinds_len, self.words.as_mut_ptr().add(GUARD), self.words_len, &mut self.count,
                     $($arg,)* $($slice.as_ptr(), $slice.len(),)? &mut node)
             };
-            if number == 0 {
-                for i in before as usize..self.count as usize {
-                    self.kinds_then[GUARD + i] = self.kinds[GUARD + i];
-                    self.words_then[GUARD + i] = self.words[GUARD + i];
-                }
-                Ok(node)
-            } else {
-                assert_eq!((node, self.count), (WORD, before), "a refused call wrote to the node or the count");
-                Err(number)
-            }
+            self.appended(before, number);
+            assert!(number == 0 || node == WORD, "a refused call wrote to the node");
+            if number == 0 { Ok(node) } else { Err(number) }
         }
     };
 }
@@ -128,6 +121,18 @@ impl Engine {
     output!(print, bunlayog_print);
     output!(write, bunlayog_write);
 
+    /// After a call that works on the pool: what it appended is to be there from now on, and a refused call leaves the count.
+    pub(crate) fn appended(&mut self, before: u64, number: u32) {
+        if number != 0 {
+            assert_eq!(self.count, before, "a refused call wrote to the count");
+            return;
+        }
+        for i in before as usize..self.count as usize {
+            self.kinds_then[GUARD + i] = self.kinds[GUARD + i];
+            self.words_then[GUARD + i] = self.words[GUARD + i];
+        }
+    }
+
     pub fn check(&self) -> u32 {
         unsafe { bunlayog_check(self.kinds.as_ptr().add(GUARD), self.kinds_len, self.words.as_ptr().add(GUARD), self.words_len, self.count) }
     }
@@ -167,13 +172,14 @@ impl Engine {
         self.count += 1;
     }
 
-    pub fn var_unchecked(&mut self, v: u64) -> Result<u64, u32> {
-        self.push_raw(1, v);
-        Ok(self.count - 1)
-    }
-
-    pub fn clear(&mut self) {
-        *self = Engine::new();
+    /// Forgets the nodes from a number on.
+    pub fn forget_from(&mut self, count: usize) {
+        let gone = GUARD + count..GUARD + self.count as usize;
+        self.kinds[gone.clone()].fill(0);
+        self.words[gone.clone()].fill(0);
+        self.kinds_then[gone.clone()].fill(0);
+        self.words_then[gone].fill(0);
+        self.count = count as u64;
     }
 
     /// Nothing but appended entries may differ from before, inside the tables and around them.

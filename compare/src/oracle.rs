@@ -122,6 +122,11 @@ pub fn entry(i: usize) -> (u8, u64) {
     }
 }
 
+/// All nodes.
+pub fn entries() -> Vec<(u8, u64)> {
+    (0..counted::count()).map(entry).collect()
+}
+
 /// The rule of the constructors that applies first to two nodes, by its place in the Rust: what the comparison counts.
 pub fn rule_of(op: &str, a: u64, b: u64) -> &'static str {
     let (l, r) = (nth(a), nth(b));
