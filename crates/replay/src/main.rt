@@ -1,0 +1,17 @@
+// The list of calls on standard input, made again: each call's answer, and every entry of both tables after it, must be those that the list has.
+// The list was made by the Rust (README.md); this program has the engine alone. The file stdout has the number of calls from the same run.
+mod answers;
+mod calls;
+mod lines;
+mod raw;
+
+use libc::STDIN_FILENO;
+
+// More than the list has bytes.
+const LIST_ROOM: usize = 1_048_576;
+
+fn main() {
+    let mut text = [0u8; LIST_ROOM];
+    let n = io::read_full(STDIN_FILENO, &mut text);
+    lines::replay(&text[..n]);
+}
