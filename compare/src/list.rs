@@ -12,8 +12,8 @@ use std::fmt::Write;
 const LINE_MAX: usize = 8_000;
 /// The longest text, file or output of the list.
 const BYTES_MAX: usize = 400;
-/// How many calls the random part has.
-const RANDOM_CALLS: u64 = 3_600;
+/// How many calls the list has at least.
+const CALLS: u64 = 4_800;
 
 const HEAD: &str = "Calls of the engine and what the Rust answers: see README.md beside this list. A number is a run of digits; the words are for the reader.\n";
 
@@ -28,8 +28,11 @@ pub struct List {
 /// The whole list, and the line that the program prints when nothing differs.
 pub fn made(seed: u64) -> (String, String) {
     let mut list = List { random: Random(seed | 1), text: HEAD.to_string(), met: Met::default(), kept: Vec::new() };
-    list.situations();
-    while list.met.calls_made() < RANDOM_CALLS {
+    list.each_rule();
+    list.each_shape();
+    list.full_pool();
+    (0..4).for_each(|kind| list.nested(kind));
+    while list.met.calls_made() < CALLS {
         list.restart();
         let steps = 20 + list.random.below(40);
         (0..steps).for_each(|_| list.step());
@@ -259,38 +262,83 @@ impl List {
         (0..count).collect()
     }
 
-    fn situations(&mut self) {
+    /// Products of all shapes, and half of their sums.
+    fn each_rule(&mut self) {
         self.clear();
         let shapes = self.shapes();
-        for a in &shapes {
-            for b in &shapes {
-                self.call(Call::Mul(*a, *b));
-            }
+        for (a, b) in shapes.iter().flat_map(|a| shapes.iter().map(move |b| (*a, *b))) {
+            self.call(Call::Mul(a, b));
         }
         self.clear();
         let shapes = self.shapes();
-        for a in &shapes {
-            for b in &shapes {
-                if a % 2 == 0 || b % 2 == 0 {
-                    self.call(Call::Add(*a, *b));
-                }
+        for (a, b) in shapes.iter().flat_map(|a| shapes.iter().map(move |b| (*a, *b))) {
+            if a % 2 == 0 || b % 2 == 0 {
+                self.call(Call::Add(a, b));
             }
         }
+    }
+
+    fn all(&mut self, calls: Vec<Call>) {
+        calls.into_iter().for_each(|call| {
+            self.call(call);
+        });
+    }
+
+    /// Every other call on each shape.
+    fn each_shape(&mut self) {
         self.clear();
         let shapes = self.shapes();
         for a in &shapes {
             let b = shapes[(*a as usize + 3) % shapes.len()];
-            let calls = [
-                Call::Div(*a, b), Call::Max(*a, b), Call::Neg(*a), Call::Exp(*a), Call::Log(*a), Call::Pow(*a, 0), Call::Pow(*a, 3),
-                Call::Derive { root: *a, var: 0 }, Call::SubstituteVar { root: *a, var: 0, value: b },
-                Call::Evaluate(*a, vec![0.5, -3.0]), Call::EvaluateResidue(*a, vec![5, 7]), Call::Print { root: *a, room: 40 },
-                Call::TaylorCoeffs { root: *a, var: 0, order: 2 }, Call::TaylorCoeffsAt { root: *a, var: 0, point: 1, order: 2 },
-            ];
-            calls.into_iter().for_each(|call| {
-                self.call(call);
-            });
+            let (constant, list) = (Series::constant(*a), Series::list(&[*a, b]));
+            self.all(on_shape(*a, b));
+            self.all(vec![
+                Call::TaylorExp(constant), Call::TaylorLog(list), Call::TaylorMul(list, list), Call::TaylorDiv(constant, list),
+                Call::TaylorPow(list, 2), Call::TaylorMax(constant, Series::constant(b)), Call::TaylorDerivative(list, 1),
+                Call::TaylorSubst(list, list), Call::TaylorSub(constant, list),
+            ]);
         }
     }
+
+    /// A pool with no room: what appends nothing is accepted, and 11, 12 and 13 come before 18.
+    fn full_pool(&mut self) {
+        self.clear();
+        let shapes = self.shapes();
+        self.fill(LIMIT as u64);
+        for a in &shapes {
+            let b = shapes[(*a as usize + 5) % shapes.len()];
+            self.all(on_shape(*a, b));
+            self.all(vec![Call::Add(*a, b), Call::Mul(*a, b), Call::Pow(*a, 1), Call::TaylorAdd(Series::constant(*a), Series::list(&[b, *a]))]);
+        }
+        self.all(vec![Call::Lit(1), Call::Var(1), Call::TaylorVar { x: 0, order: 0 }, Call::TaylorCoeff(Series::constant(0), 1)]);
+    }
+
+    /// Nodes nested to depth 201, as a file would bring them in, and calls on the last of them.
+    fn nested(&mut self, kind: u64) {
+        self.clear();
+        let y = self.put(1, 1);
+        let top = self.chain(kind, 201);
+        for a in top - 3..=top {
+            let list = Series::list(&[a, y]);
+            self.all(vec![
+                Call::Mul(a, y), Call::Mul(y, a), Call::Mul(a, a), Call::Add(a, y), Call::Exp(a), Call::Log(a), Call::Div(a, a), Call::Neg(a),
+                Call::SubstituteVar { root: a, var: 0, value: y }, Call::Derive { root: a, var: 1 }, Call::Evaluate(a, vec![1.0]),
+                Call::EvaluateResidue(a, vec![3]), Call::Print { root: a, room: BYTES_MAX }, Call::Write { root: a, room: BYTES_MAX },
+                Call::TaylorExp(list), Call::TaylorLog(list), Call::TaylorMul(list, list), Call::TaylorCoeffs { root: a, var: 1, order: 2 },
+                Call::TaylorNeg(list), Call::TaylorPow(list, 2), Call::TaylorDiv(list, list), Call::TaylorDerivative(list, 1),
+            ]);
+        }
+    }
+}
+
+/// The calls on one node and another.
+fn on_shape(a: u64, b: u64) -> Vec<Call> {
+    vec![
+        Call::Div(a, b), Call::Max(a, b), Call::Neg(a), Call::Exp(a), Call::Log(a), Call::Pow(a, 0), Call::Pow(a, 3),
+        Call::Derive { root: a, var: 0 }, Call::SubstituteVar { root: a, var: 0, value: b }, Call::Evaluate(a, vec![0.5, -3.0]),
+        Call::EvaluateResidue(a, vec![5, 0]), Call::Print { root: a, room: 40 }, Call::TaylorCoeffs { root: a, var: 0, order: 2 },
+        Call::TaylorCoeffsAt { root: a, var: 0, point: 1, order: 2 },
+    ]
 }
 
 /// The random part.
@@ -302,9 +350,6 @@ impl List {
             let room = self.random.below(40);
             self.fill(LIMIT as u64 - room);
         }
-        if self.random.below(8) == 0 {
-            self.nest();
-        }
         for _ in 0..3 {
             let v = self.random.below(3);
             self.call(Call::Var(v));
@@ -313,27 +358,23 @@ impl List {
         }
     }
 
-    /// Nested products or sums near depth 200, as nodes of a file would come in.
-    fn nest(&mut self) {
-        let levels = 197 + self.random.below(5);
-        if self.count() + levels + 4 > LIMIT as u64 {
-            return;
-        }
-        let z = self.random.below(3);
-        let lit = self.put(2, z);
+    /// Nested products, sums or logarithms, one in another, as nodes of a file would come in: the outermost.
+    fn chain(&mut self, kind: u64, levels: u64) -> u64 {
+        let lit = self.put(2, 2 - kind % 3);
         let mut top = self.put(1, 0);
-        let kind = self.random.below(4);
         for _ in 0..levels {
             let (k, w) = match kind {
                 0 => (4, pair(lit, top)),
                 1 => (3, pair(top, lit)),
                 2 => (3, pair(top, top)),
-                _ => (7, top),
+                3 => (7, top),
+                _ => (3, pair(top, lit)),
             };
             top = self.put(k, w);
         }
         let count = self.count();
         self.set_count(count);
+        top
     }
 
     fn building(&mut self, a: u64, b: u64) -> Call {

@@ -42,9 +42,7 @@ pub fn node_is_right(
     let got = of_answer(node(op, text, at, k, w, count));
     let want = expected(text, at);
     let number = want.number;
-    if number == 0 {
-        grow(text, at, kinds, words, counted);
-    }
+    grow(number, text, at, kinds, words, counted);
     same(got, want)
 }
 

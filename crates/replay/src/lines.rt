@@ -29,6 +29,14 @@ fn report(call: u64, op: u64) {
     put(b": differs\n");
 }
 
+fn tell(right: bool, call: u64, op: u64, differing: &mut u64) {
+    if right {
+        return;
+    }
+    one_more(differing);
+    report(call, op);
+}
+
 fn report_all(calls: u64, differing: u64) {
     put_number(calls);
     put(b" calls replayed, ");
@@ -58,10 +66,8 @@ fn line(
         return;
     }
     one_more(calls);
-    if !call_is_right(op, text, at, k, w, count, kinds, words, counted) {
-        one_more(differing);
-        report(*calls, op);
-    }
+    let right = call_is_right(op, text, at, k, w, count, kinds, words, counted);
+    tell(right, *calls, op, differing);
 }
 
 // All lines: there are fewer of them than bytes.

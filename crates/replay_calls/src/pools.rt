@@ -49,8 +49,18 @@ fn append(
     }
 }
 
-// The entries that the list says were appended: how many, and then each.
-pub fn grow(text: &[u8], at: &mut usize, kinds: &mut [u8], words: &mut [u64], count: &mut u64) {
+// The entries that the list says an accepted call appended: how many, and then each. A refused call appends none.
+pub fn grow(
+    number: u64,
+    text: &[u8],
+    at: &mut usize,
+    kinds: &mut [u8],
+    words: &mut [u64],
+    count: &mut u64,
+) {
+    if number != 0 {
+        return;
+    }
     let new = next(text, at);
     append(text, at, kinds, words, count, new);
 }

@@ -42,9 +42,7 @@ pub fn expansion_is_right(
     let got = expanded(op, text, at, k, w, count);
     let number = next(text, at);
     let want = wanted(text, at, number);
-    if number == 0 {
-        grow(text, at, kinds, words, expected);
-    }
+    grow(number, text, at, kinds, words, expected);
     is_right(got, number, want)
 }
 

@@ -1,7 +1,6 @@
 // The calls of the list on expansions: each reads its arguments, asks the engine, and compares the answer with the one listed.
 mod expansions;
 mod given;
-
 mod operations;
 mod reading;
 
