@@ -10,10 +10,12 @@ use std::fmt::Write;
 
 /// No line is longer: a call that would need more is not taken.
 const LINE_MAX: usize = 8_000;
+/// The list comes in blocks of so many bytes, each of whole lines and filled up with spaces: the program reads block by block.
+const BLOCK: usize = 16_384;
 /// The longest text, file or output of the list.
 const BYTES_MAX: usize = 400;
 /// How many calls the list has at least.
-const CALLS: u64 = 4_800;
+const CALLS: u64 = 5_000;
 
 const HEAD: &str = "Calls of the engine and what the Rust answers: see README.md beside this list. A number is a run of digits; the words are for the reader.\n";
 
@@ -30,8 +32,9 @@ pub fn made(seed: u64) -> (String, String) {
     let mut list = List { random: Random(seed | 1), text: HEAD.to_string(), met: Met::default(), kept: Vec::new() };
     list.each_rule();
     list.each_shape();
+    list.each_refusal();
     list.full_pool();
-    (0..4).for_each(|kind| list.nested(kind));
+    (0..5).for_each(|kind| list.nested(kind));
     while list.met.calls_made() < CALLS {
         list.restart();
         let steps = 20 + list.random.below(40);
@@ -41,7 +44,19 @@ pub fn made(seed: u64) -> (String, String) {
         }
     }
     list.complete();
-    (list.text, format!("{} calls replayed, 0 differ\n", list.met.calls_made()))
+    (in_blocks(&list.text), format!("{} calls replayed, 0 differ\n", list.met.calls_made()))
+}
+
+fn in_blocks(text: &str) -> String {
+    let mut list = String::new();
+    for line in text.split_inclusive('\n') {
+        let left = BLOCK - list.len() % BLOCK;
+        if line.len() > left {
+            writeln!(list, "{:1$}", "", left - 1).unwrap();
+        }
+        list += line;
+    }
+    list
 }
 
 /// The number of an operation in the list.
@@ -300,6 +315,32 @@ impl List {
         }
     }
 
+    /// Arguments that are refused before the work: nodes, variables, literals, orders, lengths, indices and values.
+    fn each_refusal(&mut self) {
+        self.clear();
+        self.shapes();
+        // no pool has this node
+        let none = LIMIT as u64;
+        let wrong_order = |order: u64| Series { order, coeffs: [1; TERMS] };
+        let wrong = [Series::list(&[0, none]), Series::constant(none), wrong_order(0), wrong_order(26), wrong_order(ENDLESS - 1)];
+        self.all(damage::each_call(none, 0, wrong[0]));
+        self.all(damage::each_call(0, 65_536, wrong[2]));
+        self.all(damage::each_call(1, u64::MAX, wrong[3]));
+        let good = Series::list(&[0, 1]);
+        for s in wrong {
+            use Call::*;
+            self.all(vec![
+                TaylorFromCoefficients(s), TaylorOrder(s), TaylorCoeff(s, 0), TaylorDerivative(s, 0), TaylorNeg(s), TaylorExp(s), TaylorLog(s),
+                TaylorPow(s, 0), TaylorAdd(s, good), TaylorSub(good, s), TaylorMul(s, good), TaylorDiv(good, s), TaylorMax(s, good), TaylorSubst(good, s),
+            ]);
+        }
+        let long = Series::list(&[1; TERMS]);
+        for index in [0, 17, 18, 19, 24, 25] {
+            self.all(vec![Call::TaylorCoeff(long, index), Call::TaylorDerivative(long, index), Call::TaylorVar { x: 0, order: index }]);
+        }
+        self.all(vec![Call::TaylorSubst(good, long), Call::TaylorAdd(good, long), Call::TaylorMax(good, good)]);
+    }
+
     /// A pool with no room: what appends nothing is accepted, and 11, 12 and 13 come before 18.
     fn full_pool(&mut self) {
         self.clear();
@@ -316,18 +357,24 @@ impl List {
     /// Nodes nested to depth 201, as a file would bring them in, and calls on the last of them.
     fn nested(&mut self, kind: u64) {
         self.clear();
-        let y = self.put(1, 1);
+        let (y, z) = (self.put(1, 1), self.put(1, 2));
         let top = self.chain(kind, 201);
-        for a in top - 3..=top {
+        let products: Vec<u64> = (top - 2..=top).map(|a| self.put(4, pair(a, z))).collect();
+        let count = self.count();
+        self.set_count(count);
+        for (a, product) in (top - 2..=top).zip(products) {
             let list = Series::list(&[a, y]);
             self.all(vec![
+                Call::SubstituteVar { root: product, var: 2, value: y }, Call::Add(y, a), Call::TaylorSubst(list, list),
+                Call::TaylorCoeffs { root: product, var: 2, order: 1 },
                 Call::Mul(a, y), Call::Mul(y, a), Call::Mul(a, a), Call::Add(a, y), Call::Exp(a), Call::Log(a), Call::Div(a, a), Call::Neg(a),
-                Call::SubstituteVar { root: a, var: 0, value: y }, Call::Derive { root: a, var: 1 }, Call::Evaluate(a, vec![1.0]),
+                Call::Evaluate(a, vec![1.0]),
                 Call::EvaluateResidue(a, vec![3]), Call::Print { root: a, room: BYTES_MAX }, Call::Write { root: a, room: BYTES_MAX },
-                Call::TaylorExp(list), Call::TaylorLog(list), Call::TaylorMul(list, list), Call::TaylorCoeffs { root: a, var: 1, order: 2 },
+                Call::TaylorExp(list), Call::TaylorLog(list), Call::TaylorMul(list, list),
                 Call::TaylorNeg(list), Call::TaylorPow(list, 2), Call::TaylorDiv(list, list), Call::TaylorDerivative(list, 1),
             ]);
         }
+        self.all(vec![Call::Derive { root: top, var: 1 }, Call::TaylorCoeffs { root: top, var: 1, order: 2 }]);
     }
 }
 
@@ -358,9 +405,9 @@ impl List {
         }
     }
 
-    /// Nested products, sums or logarithms, one in another, as nodes of a file would come in: the outermost.
+    /// Nested products, sums or logarithms, one in another, as nodes of a file would come in: the outermost. The count is set after it.
     fn chain(&mut self, kind: u64, levels: u64) -> u64 {
-        let lit = self.put(2, 2 - kind % 3);
+        let lit = self.put(2, [2, 0, 1, 1, 1][kind as usize]);
         let mut top = self.put(1, 0);
         for _ in 0..levels {
             let (k, w) = match kind {
@@ -368,12 +415,10 @@ impl List {
                 1 => (3, pair(top, lit)),
                 2 => (3, pair(top, top)),
                 3 => (7, top),
-                _ => (3, pair(top, lit)),
+                _ => (4, pair(lit, top)),
             };
             top = self.put(k, w);
         }
-        let count = self.count();
-        self.set_count(count);
         top
     }
 

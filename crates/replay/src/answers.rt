@@ -54,7 +54,14 @@ fn value(op: u64, text: &[u8], at: &mut usize, k: &[u8], w: &[u64], count: u64) 
 }
 
 // A call that gives bits, a residue or a length.
-pub fn value_is_right(op: u64, text: &[u8], at: &mut usize, k: &[u8], w: &[u64], count: u64) -> bool {
+pub fn value_is_right(
+    op: u64,
+    text: &[u8],
+    at: &mut usize,
+    k: &[u8],
+    w: &[u64],
+    count: u64,
+) -> bool {
     let got = value(op, text, at, k, w, count);
     same(got, expected(text, at))
 }

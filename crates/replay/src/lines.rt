@@ -1,12 +1,18 @@
 // The list from its first line to its last.
 use crate::calls::call_is_right;
 use crate::raw::set_both;
+use libc::STDIN_FILENO;
 use libc::STDOUT_FILENO;
 use number_list::at_end;
 use number_list::next;
 use pool::LIMIT;
 
 const FIRST_CALL: u64 = 10;
+
+// The list comes in blocks of whole lines, and has fewer blocks than this.
+const BLOCK: usize = 16_384;
+
+const BLOCKS: usize = 64;
 
 fn put(bytes: &[u8]) {
     io::write_all(STDOUT_FILENO, bytes);
@@ -70,18 +76,71 @@ fn line(
     tell(right, *calls, op, differing);
 }
 
-// All lines: there are fewer of them than bytes.
-fn run(text: &[u8], k: &mut [u8], w: &mut [u64], kinds: &mut [u8], words: &mut [u64]) {
+// All lines of a block: there are fewer of them than bytes.
+fn run(
+    text: &[u8],
+    k: &mut [u8],
+    w: &mut [u64],
+    count: &mut u64,
+    kinds: &mut [u8],
+    words: &mut [u64],
+    counted: &mut u64,
+    calls: &mut u64,
+    differing: &mut u64,
+) {
     let mut at: usize = 0;
-    let mut count: u64 = 0;
-    let mut counted: u64 = 0;
-    let mut calls: u64 = 0;
-    let mut differing: u64 = 0;
     let mut i: usize = 0;
     while i < text.len() {
         line(
             text,
             &mut at,
+            k,
+            w,
+            count,
+            kinds,
+            words,
+            counted,
+            calls,
+            differing,
+        );
+        i += 1;
+    }
+}
+
+// The next block from standard input.
+fn block(
+    k: &mut [u8],
+    w: &mut [u64],
+    count: &mut u64,
+    kinds: &mut [u8],
+    words: &mut [u64],
+    counted: &mut u64,
+    calls: &mut u64,
+    differing: &mut u64,
+) {
+    let mut text = [0u8; BLOCK];
+    let n = io::read_full(STDIN_FILENO, &mut text);
+    run(
+        &text[..n],
+        k,
+        w,
+        count,
+        kinds,
+        words,
+        counted,
+        calls,
+        differing,
+    );
+}
+
+fn all_blocks(k: &mut [u8], w: &mut [u64], kinds: &mut [u8], words: &mut [u64]) {
+    let mut count: u64 = 0;
+    let mut counted: u64 = 0;
+    let mut calls: u64 = 0;
+    let mut differing: u64 = 0;
+    let mut i: usize = 0;
+    while i < BLOCKS {
+        block(
             k,
             w,
             &mut count,
@@ -97,10 +156,10 @@ fn run(text: &[u8], k: &mut [u8], w: &mut [u64], kinds: &mut [u8], words: &mut [
 }
 
 // The engine's tables, and beside them those that the list's entries go to.
-pub fn replay(text: &[u8]) {
+pub fn replay() {
     let mut k = [0u8; LIMIT];
     let mut w = [0u64; LIMIT];
     let mut kinds = [0u8; LIMIT];
     let mut words = [0u64; LIMIT];
-    run(text, &mut k, &mut w, &mut kinds, &mut words);
+    all_blocks(&mut k, &mut w, &mut kinds, &mut words);
 }

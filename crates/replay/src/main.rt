@@ -5,13 +5,6 @@ mod calls;
 mod lines;
 mod raw;
 
-use libc::STDIN_FILENO;
-
-// More than the list has bytes.
-const LIST_ROOM: usize = 1_048_576;
-
 fn main() {
-    let mut text = [0u8; LIST_ROOM];
-    let n = io::read_full(STDIN_FILENO, &mut text);
-    lines::replay(&text[..n]);
+    lines::replay();
 }

@@ -33,7 +33,14 @@ fn of_divided(answer: Divided) -> Got {
 }
 
 // With the first entries of a table.
-fn with_doubles(k: &[u8], w: &[u64], count: u64, root: u64, table: &[f64], length: usize) -> Valued {
+fn with_doubles(
+    k: &[u8],
+    w: &[u64],
+    count: u64,
+    root: u64,
+    table: &[f64],
+    length: usize,
+) -> Valued {
     if length <= table.len() {
         return engine_values::evaluate(k, w, count, root, &table[..length]);
     }

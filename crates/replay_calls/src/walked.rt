@@ -10,13 +10,7 @@ pub const DERIVE: u64 = 21;
 // The longest file of the list.
 const FILE_MAX: usize = 400;
 
-fn substitute(
-    text: &[u8],
-    at: &mut usize,
-    k: &mut [u8],
-    w: &mut [u64],
-    count: &mut u64,
-) -> Answer {
+fn substitute(text: &[u8], at: &mut usize, k: &mut [u8], w: &mut [u64], count: &mut u64) -> Answer {
     let root = next(text, at);
     let var = next(text, at);
     let value = next(text, at);
