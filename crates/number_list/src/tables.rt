@@ -2,6 +2,17 @@
 use crate::doubles::double_of;
 use crate::numbers::next;
 
+// No table of a list is longer.
+const LENGTH_MAX: u64 = 65_536;
+
+// A length, cut off above all tables, so that a wrong list takes no more turns than a right one.
+pub fn length_of(n: u64) -> usize {
+    if n < LENGTH_MAX {
+        return n as usize;
+    }
+    LENGTH_MAX as usize
+}
+
 fn byte_of(n: u64) -> u8 {
     if n < 256 {
         return n as u8;

@@ -30,6 +30,9 @@ fn fill_both(
     let to = next(text, at);
     let kind = next(text, at);
     let word = next(text, at);
+    if (LIMIT as u64) < to {
+        return;
+    }
     fill(k, w, from, to, kind, word);
     fill(kinds, words, from, to, kind, word);
 }

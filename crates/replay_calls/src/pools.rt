@@ -4,6 +4,7 @@ ghost use Rattle.number_list.specs.Same.{Tells};
 use number_list::next;
 use number_list::same_bytes;
 use number_list::same_words;
+use pool::LIMIT;
 
 fn kind_of(n: u64) -> u8 {
     if n < 256 {
@@ -62,6 +63,9 @@ pub fn grow(
         return;
     }
     let new = next(text, at);
+    if (LIMIT as u64) < new {
+        return;
+    }
     append(text, at, kinds, words, count, new);
 }
 

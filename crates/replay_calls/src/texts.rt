@@ -3,6 +3,7 @@ use crate::got::Got;
 use crate::got::expected;
 use crate::got::of_refusal;
 use crate::got::same;
+use number_list::length_of;
 use number_list::next;
 use number_list::next_bytes;
 use number_list::same_bytes;
@@ -61,7 +62,7 @@ fn compare(text: &[u8], at: &mut usize, got: Got, out: &[u8]) -> bool {
     let want = expected(text, at);
     let length = want.value;
     let mut bytes = [BEFORE; ROOM_MAX];
-    next_bytes(text, at, length as usize, &mut bytes);
+    next_bytes(text, at, length_of(length), &mut bytes);
     if !same(got, want) {
         return false;
     }
@@ -76,7 +77,7 @@ pub fn text_is_right(
     w: &[u64],
     count: u64,
 ) -> bool {
-    let room = next(text, at) as usize;
+    let room = length_of(next(text, at));
     let root = next(text, at);
     let mut out = [BEFORE; ROOM_MAX];
     let got = put(op, k, w, count, root, &mut out, room);

@@ -2,6 +2,7 @@
 use crate::got::Got;
 use crate::got::of_refusal;
 use double::Valued;
+use number_list::length_of;
 use number_list::next;
 use number_list::next_doubles;
 use number_list::next_residues;
@@ -63,7 +64,7 @@ fn with_residues(
 
 fn evaluate(text: &[u8], at: &mut usize, k: &[u8], w: &[u64], count: u64) -> Got {
     let root = next(text, at);
-    let length = next(text, at) as usize;
+    let length = length_of(next(text, at));
     let mut table = [0.0; VALUES_MAX];
     next_doubles(text, at, length, &mut table);
     of_valued(with_doubles(k, w, count, root, &table, length))
@@ -71,7 +72,7 @@ fn evaluate(text: &[u8], at: &mut usize, k: &[u8], w: &[u64], count: u64) -> Got
 
 fn evaluate_residue(text: &[u8], at: &mut usize, k: &[u8], w: &[u64], count: u64) -> Got {
     let root = next(text, at);
-    let length = next(text, at) as usize;
+    let length = length_of(next(text, at));
     let mut table = [0u32; VALUES_MAX];
     next_residues(text, at, length, &mut table);
     of_divided(with_residues(k, w, count, root, &table, length))

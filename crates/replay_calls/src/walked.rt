@@ -1,5 +1,6 @@
 // The calls that work on the pool and are no constructors: substitution, derivation, and reading a file.
 use lent::Answer;
+use number_list::length_of;
 use number_list::next;
 use number_list::next_bytes;
 
@@ -32,7 +33,7 @@ fn read_first(bytes: &[u8], length: usize, k: &mut [u8], w: &mut [u64], count: &
 }
 
 fn read(text: &[u8], at: &mut usize, k: &mut [u8], w: &mut [u64], count: &mut u64) -> Answer {
-    let length = next(text, at) as usize;
+    let length = length_of(next(text, at));
     let mut file = [0u8; FILE_MAX];
     next_bytes(text, at, length, &mut file);
     read_first(&file, length, k, w, count)

@@ -1,6 +1,7 @@
 // Expansions in the list: the order, how many entries are written, and these. The rest of the 25 are 0.
 ghost use Rattle.number_list.specs.Same.{Tells};
 use lent_series::Series;
+use number_list::length_of;
 use number_list::next;
 use number_list::next_words;
 use number_list::same_words;
@@ -8,7 +9,7 @@ use taylor_base::TERMS;
 
 pub fn next_series(text: &[u8], at: &mut usize) -> Series {
     let order = next(text, at);
-    let written = next(text, at) as usize;
+    let written = length_of(next(text, at));
     let mut coeffs = [0u64; TERMS];
     next_words(text, at, written, &mut coeffs);
     Series { order, coeffs }
