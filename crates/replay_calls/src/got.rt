@@ -5,6 +5,9 @@ ghost use Rattle.replay_calls.specs.Answers.{gotOf};
 use lent::Answer;
 use number_list::next;
 
+// A refusal that no call gives: for a table or room that is longer than any of the list.
+pub const UNLISTED: u32 = 99;
+
 // 0 and the answer, or the refusal number and 0.
 pub struct Got {
     pub number: u64,

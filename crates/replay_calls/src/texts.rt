@@ -1,5 +1,6 @@
 // Printing and writing, into an output whose every byte is compared: past the result, and after a refusal, it is as it was.
 use crate::got::Got;
+use crate::got::UNLISTED;
 use crate::got::expected;
 use crate::got::of_refusal;
 use crate::got::same;
@@ -40,14 +41,14 @@ fn print_in(k: &[u8], w: &[u64], count: u64, root: u64, out: &mut [u8], room: us
     if room <= out.len() {
         return of_print(engine_print::print(k, w, count, root, &mut out[..room]));
     }
-    of_refusal(0)
+    of_refusal(UNLISTED)
 }
 
 fn write_in(k: &[u8], w: &[u64], count: u64, root: u64, out: &mut [u8], room: usize) -> Got {
     if room <= out.len() {
         return of_file(engine_file::write(k, w, count, root, &mut out[..room]));
     }
-    of_refusal(0)
+    of_refusal(UNLISTED)
 }
 
 fn put(op: u64, k: &[u8], w: &[u64], count: u64, root: u64, out: &mut [u8], room: usize) -> Got {

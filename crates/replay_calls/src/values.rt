@@ -1,5 +1,6 @@
 // Evaluation, with a table of values from the list.
 use crate::got::Got;
+use crate::got::UNLISTED;
 use crate::got::of_refusal;
 use double::Valued;
 use number_list::length_of;
@@ -45,7 +46,7 @@ fn with_doubles(
     if length <= table.len() {
         return engine_values::evaluate(k, w, count, root, &table[..length]);
     }
-    Valued::Refused(0)
+    Valued::Refused(UNLISTED)
 }
 
 fn with_residues(
@@ -59,7 +60,7 @@ fn with_residues(
     if length <= table.len() {
         return engine_values::evaluate_residue(k, w, count, root, &table[..length]);
     }
-    Divided::Refused(0)
+    Divided::Refused(UNLISTED)
 }
 
 fn evaluate(text: &[u8], at: &mut usize, k: &[u8], w: &[u64], count: u64) -> Got {

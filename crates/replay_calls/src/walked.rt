@@ -1,4 +1,5 @@
 // The calls that work on the pool and are no constructors: substitution, derivation, and reading a file.
+use crate::got::UNLISTED;
 use lent::Answer;
 use number_list::length_of;
 use number_list::next;
@@ -29,7 +30,7 @@ fn read_first(bytes: &[u8], length: usize, k: &mut [u8], w: &mut [u64], count: &
     if length <= bytes.len() {
         return engine_file::read(k, w, count, &bytes[..length]);
     }
-    Answer::Refused(0)
+    Answer::Refused(UNLISTED)
 }
 
 fn read(text: &[u8], at: &mut usize, k: &mut [u8], w: &mut [u64], count: &mut u64) -> Answer {
