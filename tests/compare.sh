@@ -1,5 +1,6 @@
 #!/usr/bin/env bash
-# Comparison with the Rust: both sides through the same random calls, with a fixed seed and a bounded time. Needs the Rust's sources.
+# Comparison with the Rust: both sides through the same calls, on the worst pools, on all small shapes and at random, with a fixed seed and a bounded
+# time; and the program sheet beside document 01's words. Needs the Rust's sources.
 set -eu
 cd "$(dirname "$0")/.."
 if [ ! -e "${BUNLAYOG_RUST:-../shared/docs/src/src}/symbolic.rs" ]; then

@@ -32,6 +32,11 @@ fn renumbered((kind, word): Entry, number: impl Fn(usize) -> usize) -> Entry {
     }
 }
 
+/// A node whose parts come so much later.
+pub fn shifted(node: Entry, by: usize) -> Entry {
+    renumbered(node, |part| part + by)
+}
+
 /// Whether an entry is a node by the table and the literal range, with each part below its own number.
 pub fn is_node((kind, word): Entry, i: usize) -> bool {
     let i = i as u64;
@@ -103,5 +108,5 @@ pub fn read(file: &[u8], count: usize) -> Result<Vec<Entry>, u32> {
     if count + n > LIMIT {
         return Err(18);
     }
-    Ok(entries.iter().map(|entry| renumbered(*entry, |part| part + count)).collect())
+    Ok(entries.iter().map(|entry| shifted(*entry, count)).collect())
 }

@@ -13,6 +13,7 @@ mod engine;
 mod file;
 mod list;
 mod random;
+mod report;
 mod run;
 mod series;
 mod series_engine;
@@ -80,11 +81,9 @@ mod symbolic {
     }
 }
 
-use both::Met;
 use counted::Refusal;
 use run::Run;
 use std::time::Duration;
-use symbolic::oracle;
 
 fn main() {
     std::panic::set_hook(Box::new(|info| {
@@ -101,7 +100,7 @@ fn main() {
     }
     let seed: u64 = args.next().map_or(20_261_115, |s| s.parse().expect("a seed"));
     let seconds: u64 = args.next().map_or(60, |s| s.parse().expect("seconds"));
-    // the Rust's walks need stack, ours as well where they are compared one by one
+    // the Rust's walks recurse with large frames
     let done = std::thread::Builder::new().stack_size(256 << 20).spawn(move || all(seed, seconds)).unwrap().join();
     std::process::exit(if matches!(done, Ok(true)) { 0 } else { 1 });
 }
@@ -120,30 +119,5 @@ fn all(seed: u64, seconds: u64) -> bool {
     let mut run = Run::new(seed);
     run.go(Duration::from_secs(seconds));
     println!("seed {seed}: {} random calls, the Rust and the engine agree on every answer and every lent byte", run.both.met.calls_made());
-    complete(&run.both.met) && sheet
-}
-
-/// Prints how often each call, rule and refusal was met, and says whether none was missed.
-fn complete(met: &Met) -> bool {
-    let mut complete = true;
-    for (name, outcomes) in &met.calls {
-        let accepted = outcomes.get(&0).copied().unwrap_or(0);
-        let refused: Vec<String> = outcomes.iter().filter(|(number, _)| **number > 0).map(|(number, n)| format!("{number}: {n}")).collect();
-        println!("{name}: {accepted} accepted, refused by {}", refused.join(", "));
-        complete &= accepted > 0 && !refused.is_empty();
-    }
-    for rule in oracle::RULES {
-        let n = met.rules.get(rule).copied().unwrap_or(0);
-        println!("rule {rule}: {n}");
-        complete &= n > 0;
-    }
-    for number in 1..=19 {
-        let n = met.refused_by(number);
-        println!("refusal {number}: {n}");
-        complete &= n > 0;
-    }
-    if !complete {
-        println!("a rule, a refusal or an accepted call was never met");
-    }
-    complete
+    report::complete(&run.both.met) && sheet
 }

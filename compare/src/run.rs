@@ -70,13 +70,16 @@ impl Run {
         Call::Read(damage::file(&mut self.random, file))
     }
 
-    /// (b × a^m) × a^n, which random calls seldom come to.
+    /// (b × a^m) × a^n, which random calls seldom come to, also as coefficients.
     fn powers(&mut self, a: u64, b: u64) {
         let (m, n) = (self.random.exponent(), self.random.exponent());
         let Ok(Given::Number(p)) = self.both.call(&Call::Pow(a, m)) else { return };
         let Ok(Given::Number(q)) = self.both.call(&Call::Pow(a, n)) else { return };
         let Ok(Given::Number(product)) = self.both.call(&Call::Mul(b, p)) else { return };
         let _ = self.both.call(&Call::Mul(product, q));
+        let s = if self.random.below(2) == 0 { Series::constant(product) } else { Series::list(&[product, a]) };
+        let t = if self.random.below(2) == 0 { Series::constant(q) } else { Series::list(&[q, q]) };
+        let _ = self.both.call(&Call::TaylorMul(s, t));
     }
 
     /// A call that builds a node.
@@ -129,8 +132,29 @@ impl Run {
         (0..fill).for_each(|i| {
             self.both.raw(1, (i % 3) as u64);
         });
-        if self.random.below(4) == 0 {
-            self.nest();
+        match self.random.below(8) {
+            0 | 1 => self.nest(),
+            2 | 3 => self.as_from_a_file(),
+            _ => {}
+        }
+    }
+
+    /// Nodes of any form, which a file may bring and no constructor makes.
+    fn as_from_a_file(&mut self) {
+        let n = (5 + self.random.below(40)).min(LIMIT as u64 - self.count());
+        for _ in 0..n {
+            let count = self.count();
+            let (a, b) = (self.random.node(count), self.random.node(count));
+            let entry = match 1 + self.random.below(9) as u8 {
+                1 => (1, self.random.variable()),
+                2 => (2, self.random.literal() as u64),
+                8 => (8, (a & 0xffff_ffff) + ((self.random.exponent() as u64) << 32)),
+                kind @ (6 | 7) => (kind, a),
+                kind => (kind, (a & 0xffff_ffff) + (b << 32)),
+            };
+            if file::is_node(entry, count as usize) {
+                self.both.raw(entry.0, entry.1);
+            }
         }
     }
 

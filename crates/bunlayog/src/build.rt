@@ -4,8 +4,8 @@ ghost use mathlib.Core.List.{[], _∷_};
 ghost use Rattle.constructors.specs.Build.{calls, depth};
 ghost use Rattle.lent.specs.Call.{onPool, givenNodes};
 ghost use Rattle.engine.specs.Build.{litWork, varWork};
-ghost use Rattle.bunlayog.specs.Interface.{leftInC, inC};
-use crate::answers::answered;
+ghost use Rattle.c_answers.specs.Interface.{leftInC, inC};
+use c_answers::answered;
 
 #[no_mangle]
 pub extern "C" fn bunlayog_lit(

@@ -3,10 +3,10 @@ ghost use mathlib.Core.Path.{_≡_};
 ghost use Rattle.shape.specs.File.{readFile};
 ghost use Rattle.lent.specs.Call.{onPool};
 ghost use Rattle.engine_file.specs.Write.{writeCall};
-ghost use Rattle.bunlayog.specs.Interface.{leftInC, inC, outputInC};
-ghost use Rattle.bunlayog.specs.Files.{fileInC};
-use crate::answers::answered;
-use crate::answers::file_answered;
+ghost use Rattle.c_answers.specs.Interface.{leftInC, inC, outputInC};
+ghost use Rattle.c_answers.specs.Files.{fileInC};
+use c_answers::answered;
+use c_answers::file_answered;
 
 #[no_mangle]
 pub extern "C" fn bunlayog_write(

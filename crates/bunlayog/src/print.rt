@@ -1,9 +1,9 @@
 // Printing as a C function.
 ghost use mathlib.Core.Path.{_≡_};
 ghost use Rattle.engine_print.specs.Printing.{printCall};
-ghost use Rattle.bunlayog.specs.Interface.{outputInC};
-ghost use Rattle.bunlayog.specs.Printing.{printedInC};
-use crate::answers::text_answered;
+ghost use Rattle.c_answers.specs.Interface.{outputInC};
+ghost use Rattle.c_answers.specs.Printing.{printedInC};
+use c_answers::text_answered;
 
 #[no_mangle]
 pub extern "C" fn bunlayog_print(

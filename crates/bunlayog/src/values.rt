@@ -1,10 +1,26 @@
 // Evaluation as C functions.
 ghost use mathlib.Core.Path.{_≡_};
+ghost use Rattle.residue.specs.Residue.{fixedModulus};
+ghost use Rattle.evaluate_residue.specs.Residues.{Below};
 ghost use Rattle.engine_values.specs.Values.{evaluateCall, evaluateResidueCall};
-ghost use Rattle.bunlayog.specs.Interface.{valueInC};
-ghost use Rattle.bunlayog.specs.Values.{bitsInC, residueInC};
-use crate::answers::bits_answered;
-use crate::answers::residue_answered;
+ghost use Rattle.c_answers.specs.Interface.{valueInC};
+ghost use Rattle.c_answers.specs.Values.{bitsInC, residueInC};
+use c_answers::bits_answered;
+use residue::Divided;
+
+// A residue, or the refusal, in its place. A residue of the modulus fits 32 bits.
+fn residue_answered(answer: Divided, residue: &mut u32) -> u32
+    requires { ⌜ Below fixedModulus answer ⌝ }
+    ensures { λ r. ⌜ valueInC r (now (residue .exit)) ≡ residueInC (now (residue .entry)) answer ⌝ }
+{
+    match answer {
+        Divided::Residue(x) => {
+            *residue = x as u32;
+            0
+        }
+        Divided::Refused(number) => number,
+    }
+}
 
 #[no_mangle]
 pub extern "C" fn bunlayog_evaluate(

@@ -3,17 +3,14 @@ ghost use mathlib.Core.Path.{_≡_};
 ghost use Rattle.pool.specs.Pool.{isPool};
 ghost use Rattle.lent.specs.Call.{onPool};
 ghost use Rattle.engine_walk.specs.Walks.{substituteWork, deriveWork};
-ghost use Rattle.bunlayog.specs.Interface.{leftInC, inC, checkNumber};
-use crate::answers::answered;
-use pool::LIMIT;
+ghost use Rattle.c_answers.specs.Interface.{leftInC, inC, checkNumber};
+use c_answers::answered;
 
 #[no_mangle]
 pub extern "C" fn bunlayog_check(kinds: &[u8], words: &[u64], count: u64) -> u32
     ensures { λ r. ⌜ r ≡ checkNumber (isPool (now (kinds .entry)) (now (words .entry)) count) ⌝ }
 {
-    let mut k = [0u8; LIMIT];
-    let mut w = [0u64; LIMIT];
-    if lent::take_in(kinds, words, count, &mut k, &mut w) {
+    if lent::is_pool(kinds, words, count) {
         return 0;
     }
     refusals::BROKEN_POOL

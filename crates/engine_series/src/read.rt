@@ -3,7 +3,6 @@ ghost use mathlib.Core.Path.{_≡_};
 ghost use Rattle.engine_series.specs.Operations.{countOf, coefficientsOf, firstRefusal};
 use lent_series::Outcome;
 use lent_series::Series;
-use pool::LIMIT;
 
 // A number of coefficients, or the refusal number.
 pub enum Counted {
@@ -15,9 +14,7 @@ pub enum Counted {
 fn refusal_of(kinds: &[u8], words: &[u64], count: u64, s: Series) -> u32
     ensures { λ r. ⌜ r ≡ firstRefusal (now (kinds .entry)) (now (words .entry)) count s ⌝ }
 {
-    let mut k = [0u8; LIMIT];
-    let mut w = [0u64; LIMIT];
-    if !lent::take_in(kinds, words, count, &mut k, &mut w) {
+    if !lent::is_pool(kinds, words, count) {
         return refusals::BROKEN_POOL;
     }
     if !lent_series::nodes_below(count, s) {

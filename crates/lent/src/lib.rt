@@ -4,14 +4,21 @@ ghost use mathlib.Core.Bool.{true};
 ghost use mathlib.Core.List.{[], _∷_};
 ghost use lib.ListN.{length};
 ghost use Prim.Native.Nat.{_≤_};
-ghost use Rattle.pool.specs.Pool.{limit, entryKeeps, isPool};
+ghost use Rattle.pool.specs.Pool.{limit, isPool};
 ghost use Rattle.pool.specs.Made.{made};
 ghost use Rattle.pool.specs.Nodes.{allBelow};
 ghost use Rattle.constructor_laws.specs.Grown.{SameBut, Grows};
 ghost use Rattle.lent.specs.Lent.{TakenIn};
 ghost use Rattle.lent.specs.Call.{left, leaves, lentPool};
+
+mod copies;
+mod rules;
+
+use copies::copy_kinds;
+use copies::copy_words;
 use pool::LIMIT;
 use pool::Made;
+pub use rules::is_pool;
 
 // What a call from outside gives: a node number, or the refusal number.
 pub enum Answer {
@@ -19,20 +26,8 @@ pub enum Answer {
     Refused(u32),
 }
 
-// One entry against the rules: a node with smaller parts below the count, and zeros from the count on.
-fn entry_keeps(count: u64, i: u32, kind: u8, word: u64) -> bool
-    ensures { λ r. ⌜ r ≡ entryKeeps count i kind word ⌝ }
-{
-    if (i as u64) < count {
-        return pool::may_stand_at(i, pool::decode(kind, word));
-    }
-    if kind == 0 {
-        return word == 0;
-    }
-    false
-}
-
-// Whether the tables and the count are a pool. Where they are, both tables are copied, in the one pass that looks at them.
+// Whether the tables and the count are a pool. Where they are, both tables are copied. A test that copies on its way is slower: it stops at
+// the first entry that breaks a rule, and so goes entry by entry through all the zeros from the count on.
 pub fn take_in(
     kinds: &[u8],
     words: &[u64],
@@ -44,26 +39,11 @@ pub fn take_in(
     requires { ⌜ length (now w) ≡ limit ⌝ }
     ensures { λ r. ⌜ TakenIn r (now (kinds .entry)) (now (words .entry)) count (now (k .exit)) (now (w .exit)) ⌝ }
 {
-    if kinds.len() != LIMIT {
+    if !is_pool(kinds, words, count) {
         return false;
     }
-    if words.len() != LIMIT {
-        return false;
-    }
-    if (LIMIT as u64) < count {
-        return false;
-    }
-    let mut i = 0;
-    while i < LIMIT {
-        let kind = kinds[i];
-        let word = words[i];
-        if !entry_keeps(count, i as u32, kind, word) {
-            return false;
-        }
-        k[i] = kind;
-        w[i] = word;
-        i += 1;
-    }
+    copy_kinds(kinds, k);
+    copy_words(words, w);
     true
 }
 

@@ -21,17 +21,17 @@ module _ (node : ℕ → Node) (k parent a : ℕ) where
   -- n is the node that was read and q its precedence
   module _ {n : Node} {q : ℕ} (smaller : a < k) (read : n ≡ node a) (ranked : q ≡ precedence n) where
     pub with-brackets : {at m₁ m₂ to : ℕ} {l l₁ l₂ l′ : List ℕ} → q < parent
-        → Wrote at l opening m₁ l₁ → Wrote m₁ l₁ (nodeText (textBelow node a) n) m₂ l₂ → Wrote m₂ l₂ closing to l′
+        → Wrote at l opening m₁ l₁ → Wrote m₁ l₁ (nodeText (textBelow node a) (node a)) m₂ l₂ → Wrote m₂ l₂ closing to l′
         → Wrote at l (textBelow node k parent a) to l′
     with-brackets less w₁ w₂ w₃ =
         let lower : precedence (node a) < parent = rw (← read, ← ranked) less in
         rw (text-below node k parent a smaller, lt-ltb (precedence (node a)) parent lower)
-        (three-written w₁ (rw read at w₂) w₃)
+        (three-written w₁ w₂ w₃)
 
-    pub without-brackets : {at to : ℕ} {l l′ : List ℕ} → parent ≤ q → Wrote at l (nodeText (textBelow node a) n) to l′ → Wrote at l (textBelow node k parent a) to l′
+    pub without-brackets : {at to : ℕ} {l l′ : List ℕ} → parent ≤ q → Wrote at l (nodeText (textBelow node a) (node a)) to l′ → Wrote at l (textBelow node k parent a) to l′
     without-brackets more w =
         let higher : parent ≤ precedence (node a) = rw (← read, ← ranked) more in
-        rw (text-below node k parent a smaller, le-ltb (precedence (node a)) parent higher) (rw read at w)
+        rw (text-below node k parent a smaller, le-ltb (precedence (node a)) parent higher) w
 
 -- the root is below the bound that is one more
 pub whole-text : (node : ℕ → Node) (root : ℕ) {at to : ℕ} {l l′ : List ℕ} → Wrote at l (textBelow node (root + 1) 0 root) to l′ → Wrote at l (textOf node root) to l′

@@ -48,12 +48,16 @@ fn write_text(out: &mut [u8], at: usize, text: Text) -> usize
     write(out, at, &bytes[start..])
 }
 
-// The three kinds of short text.
+// The three kinds of short text. Most variables are a letter, which takes no text of its own.
 pub fn write_variable(out: &mut [u8], at: usize, v: u32) -> usize
     requires { ⌜ at ≤ pastLongest ⌝ }
     ensures { λ r. ⌜ Wrote at (now (out .entry)) (display v) r (now (out .exit)) ⌝ }
 {
-    write_text(out, at, text::variable_text(v as u64))
+    let number = v as u64;
+    if number < text::LETTERS {
+        return put(out, at, text::letter(number));
+    }
+    write_text(out, at, text::variable_text(number))
 }
 
 pub fn write_literal(out: &mut [u8], at: usize, z: i64) -> usize

@@ -59,28 +59,27 @@ fn node_fmt(
     if TEXT_MAX < at {
         return at;
     }
-    let node = pool::node_at(kinds, words, p.of);
-    if precedence(node) < p.under {
+    if precedence(pool::node_at(kinds, words, p.of)) < p.under {
         let opened = put(out, at, b'(');
-        let inner = inside(kinds, words, out, opened, i, node);
+        let inner = inside(kinds, words, out, opened, i, p.of);
         return put(out, inner, b')');
     }
-    inside(kinds, words, out, at, i, node)
+    inside(kinds, words, out, at, i, p.of)
 }
 
-// A node without the brackets around it; its parts are below its own number.
+// A node without the brackets around it; its parts are below its own number. It is looked up where it is matched: a node that is handed on takes longer.
 fn inside(
     kinds: &[u8; LIMIT],
     words: &[u64; LIMIT],
     out: &mut [u8],
     at: usize,
     i: usize,
-    node: Node,
+    of: u32,
 ) -> usize
     requires { ⌜ at ≤ pastLongest ⌝ }
-    ensures { λ r. ⌜ Wrote at (now (out .entry)) (nodeText (textBelow (nodeIn (now (kinds .entry)) (now (words .entry))) i) node) r (now (out .exit)) ⌝ }
+    ensures { λ r. ⌜ Wrote at (now (out .entry)) (nodeText (textBelow (nodeIn (now (kinds .entry)) (now (words .entry))) i) (nodeIn (now (kinds .entry)) (now (words .entry)) of)) r (now (out .exit)) ⌝ }
 {
-    match node {
+    match pool::node_at(kinds, words, of) {
         Node::Empty => at,
         Node::Variable(v) => write_variable(out, at, v),
         Node::Lit(z) => write_literal(out, at, z),

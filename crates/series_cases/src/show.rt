@@ -1,54 +1,27 @@
 // What a call answered, on a line: coefficients as texts or as residues, or the refusal, and how many nodes the call appended.
-use engine_print::Written;
+use crate::kept;
+use crate::kept::KEPT;
+use case_lines::mark;
+use case_lines::put;
+use case_lines::put_label;
+use case_lines::put_name;
+use case_lines::put_number;
+use case_lines::put_refused;
+use case_pools::put_text;
 use engine_series::Counted;
 use lent::Answer;
 use lent_series::ENDLESS;
 use lent_series::Outcome;
 use lent_series::Series;
-use libc::STDOUT_FILENO;
-use pool::LIMIT;
 use residue::Divided;
 use taylor_base::TERMS;
-
-pub fn put(bytes: &[u8]) {
-    io::write_all(STDOUT_FILENO, bytes);
-}
-
-fn put_number(n: u64) {
-    io::print_decimal(STDOUT_FILENO, n);
-}
-
-fn put_refused(number: u32) {
-    put(b"refused ");
-    put_number(number as u64);
-}
-
-// The first n bytes.
-fn put_first(bytes: &[u8], n: usize) {
-    if n <= bytes.len() {
-        put(&bytes[..n]);
-    }
-}
-
-fn as_length(n: u64) -> usize {
-    n as usize
-}
-
-// The text of a root, or the refusal.
-fn put_text(kinds: &[u8; LIMIT], words: &[u64; LIMIT], count: u64, root: u64) {
-    let mut out = [0u8; 64];
-    match engine_print::print(kinds, words, count, root, &mut out) {
-        Written::Length(n) => put_first(&out, as_length(n)),
-        Written::Refused(number) => put_refused(number),
-    }
-}
 
 fn coeff_at(s: Series, i: usize) -> u64 {
     if i < TERMS { s.coeffs[i] } else { 0 }
 }
 
 // Entry i, if the list has one.
-fn put_coeff(kinds: &[u8; LIMIT], words: &[u64; LIMIT], count: u64, s: Series, i: usize) {
+fn put_coeff(kinds: &[u8], words: &[u64], count: u64, s: Series, i: usize) {
     let order = s.order;
     if (i as u64) < order {
         if 0 < i {
@@ -58,7 +31,7 @@ fn put_coeff(kinds: &[u8; LIMIT], words: &[u64; LIMIT], count: u64, s: Series, i
     }
 }
 
-fn put_list(kinds: &[u8; LIMIT], words: &[u64; LIMIT], count: u64, s: Series) {
+fn put_list(kinds: &[u8], words: &[u64], count: u64, s: Series) {
     let mut i = 0;
     while i < TERMS {
         put_coeff(kinds, words, count, s, i);
@@ -66,7 +39,7 @@ fn put_list(kinds: &[u8; LIMIT], words: &[u64; LIMIT], count: u64, s: Series) {
     }
 }
 
-fn put_series(kinds: &[u8; LIMIT], words: &[u64; LIMIT], count: u64, s: Series) {
+fn put_series(kinds: &[u8], words: &[u64], count: u64, s: Series) {
     let order = s.order;
     if order == ENDLESS {
         put(b"constant ");
@@ -78,54 +51,75 @@ fn put_series(kinds: &[u8; LIMIT], words: &[u64; LIMIT], count: u64, s: Series) 
     }
 }
 
-fn put_new(from: u64, count: u64) {
+fn put_new(before: u64, count: u64) {
     put(b", ");
-    put_number(std::num::wrapping_sub_u64(count, from));
+    put_number(std::num::wrapping_sub_u64(count, before));
     put(b" new\n");
 }
 
-fn put_name(name: &[u8]) {
-    put(name);
-    put(b": ");
-}
-
-pub fn outcome(
-    name: &[u8],
-    kinds: &[u8; LIMIT],
-    words: &[u64; LIMIT],
-    from: u64,
+fn outcome(
+    text: &[u8],
+    at: usize,
+    kinds: &[u8],
+    words: &[u64],
+    before: u64,
     count: u64,
     got: Outcome,
-) -> Series {
-    put_name(name);
+) {
+    put_label(text, at);
     let number = got.number;
     if number == 0 {
         put_series(kinds, words, count, got.series);
     } else {
         put_refused(number);
     }
-    put_new(from, count);
-    got.series
+    put_new(before, count);
+}
+
+// Only how many nodes were appended.
+fn appended(text: &[u8], at: usize, before: u64, count: u64) {
+    put_name(text, at);
+    put_new(before, count);
+}
+
+// An expansion is kept as the last answer, and shown by the mark before the line's name: | for all of it, + for how many nodes are new, none for nothing.
+pub fn answered(
+    text: &[u8],
+    at: usize,
+    kinds: &[u8],
+    words: &[u64],
+    before: u64,
+    count: u64,
+    got: Outcome,
+    table: &mut [u64; KEPT],
+) {
+    match mark(text, at) {
+        b'|' => outcome(text, at, kinds, words, before, count, got),
+        b'+' => appended(text, at, before, count),
+        _ => {}
+    }
+    kept::keep(table, 0, got.series);
 }
 
 pub fn node(
-    name: &[u8],
-    kinds: &[u8; LIMIT],
-    words: &[u64; LIMIT],
-    from: u64,
+    text: &[u8],
+    at: usize,
+    kinds: &[u8],
+    words: &[u64],
+    before: u64,
     count: u64,
     answer: Answer,
 ) {
-    put_name(name);
+    put_label(text, at);
     match answer {
         Answer::Node(i) => put_text(kinds, words, count, i),
         Answer::Refused(number) => put_refused(number),
     }
-    put_new(from, count);
+    put_new(before, count);
 }
 
-pub fn counted(name: &[u8], answer: Counted) {
-    put_name(name);
+pub fn counted(text: &[u8], at: usize, answer: Counted) {
+    put_label(text, at);
     match answer {
         Counted::Count(n) => put_number(n),
         Counted::Refused(number) => put_refused(number),
@@ -133,20 +127,14 @@ pub fn counted(name: &[u8], answer: Counted) {
     put(b"\n");
 }
 
-// Only how many nodes were appended.
-pub fn appended(name: &[u8], from: u64, count: u64) {
-    put(name);
-    put_new(from, count);
-}
-
 // The last entry of the array, which is 0 past a list's end.
-pub fn last(name: &[u8], s: Series) {
-    put_name(name);
+pub fn last(text: &[u8], at: usize, s: Series) {
+    put_label(text, at);
     put_number(s.coeffs[24]);
     put(b"\n");
 }
 
-fn put_residue_of(kinds: &[u8; LIMIT], words: &[u64; LIMIT], count: u64, root: u64) {
+fn put_residue_of(kinds: &[u8], words: &[u64], count: u64, root: u64) {
     let none: [u32; 0] = [];
     match engine_values::evaluate_residue(kinds, words, count, root, &none) {
         Divided::Residue(r) => put_number(r),
@@ -155,7 +143,7 @@ fn put_residue_of(kinds: &[u8; LIMIT], words: &[u64; LIMIT], count: u64, root: u
 }
 
 // Entry i, if the list has one.
-fn put_residue(kinds: &[u8; LIMIT], words: &[u64; LIMIT], count: u64, s: Series, i: usize) {
+fn put_residue(kinds: &[u8], words: &[u64], count: u64, s: Series, i: usize) {
     let order = s.order;
     if (i as u64) < order {
         put(b" ");
@@ -163,7 +151,7 @@ fn put_residue(kinds: &[u8; LIMIT], words: &[u64; LIMIT], count: u64, s: Series,
     }
 }
 
-fn put_residues(kinds: &[u8; LIMIT], words: &[u64; LIMIT], count: u64, s: Series) {
+fn put_residues(kinds: &[u8], words: &[u64], count: u64, s: Series) {
     let mut i = 0;
     while i < TERMS {
         put_residue(kinds, words, count, s, i);
@@ -172,8 +160,8 @@ fn put_residues(kinds: &[u8; LIMIT], words: &[u64; LIMIT], count: u64, s: Series
 }
 
 // A list's coefficients as residues.
-pub fn residues(name: &[u8], kinds: &[u8; LIMIT], words: &[u64; LIMIT], count: u64, s: Series) {
-    put(name);
+pub fn residues(text: &[u8], at: usize, kinds: &[u8], words: &[u64], count: u64, s: Series) {
+    put_name(text, at);
     put(b":");
     put_residues(kinds, words, count, s);
     put(b"\n");

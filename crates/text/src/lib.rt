@@ -1,11 +1,14 @@
 // Numbers and variables as text, byte by byte.
 ghost use mathlib.Core.Path.{_≡_};
 ghost use mathlib.Core.List.{_∷_};
-ghost use Prim.Native.Nat.{_<_};
-ghost use Rattle.text.specs.Text.{Written, content, decimal, signedDecimal, display};
+ghost use Prim.Native.Nat.{_+_, _<_};
+ghost use Rattle.text.specs.Text.{Written, content, decimal, signedDecimal, display, letters, letterA};
 
 // Room for the longest text: `x_` and 20 digits.
 pub const ROOM: usize = 24;
+
+// How many variables have a letter for a name.
+pub const LETTERS: u64 = 26;
 
 // The bytes of a short text stand at the end of the array, from start on.
 pub struct Text {
@@ -50,13 +53,21 @@ pub fn signed_text(z: i64) -> Text
     decimal_text(literal::size(z))
 }
 
+// The letter that a variable has for a name.
+pub fn letter(v: u64) -> u8
+    requires { ⌜ v < letters ⌝ }
+    ensures { λ r. ⌜ r ≡ letterA + v ⌝ }
+{
+    (97 + v) as u8
+}
+
 // `Var`'s Display.
 pub fn variable_text(v: u64) -> Text
     ensures { λ r. ⌜ Written r (display v) ⌝ }
 {
-    if v < 26 {
+    if v < LETTERS {
         let mut bytes = [0u8; ROOM];
-        bytes[ROOM - 1] = (97 + v) as u8;
+        bytes[ROOM - 1] = letter(v);
         return Text {
             bytes,
             start: ROOM - 1,

@@ -13,11 +13,8 @@ use Rattle.text.proofs.Forms.{a-letter, a-number}
 use Rattle.text.proofs.variable_text.Statement.{statement}
 use Rattle.text.proofs.variable_text.Tie as tie
 
-add-bytes : tie.Need-add-bytes
-add-bytes c = search needs
-
-cast-bytes : tie.Need-cast-bytes
-cast-bytes c = search needs
+letter-requires : tie.Need-letter-requires
+letter-requires c κs = search needs
 
 sub-bytes : tie.Need-sub-bytes
 sub-bytes c = search needs
@@ -25,13 +22,13 @@ sub-bytes c = search needs
 array-write-bytes : tie.Need-array-write-bytes
 array-write-bytes c = search needs
 
-sub-t6 : tie.Need-sub-t6
-sub-t6 c = search needs
+sub-t5 : tie.Need-sub-t5
+sub-t5 c = search needs
 
 returns : tie.Need-returns
 returns c =
-    let v = c .before .args .v in
-    written-as _ _ _ (one-byte (replicate room 0) (letterA + v) refl) (a-letter v (c .if1 .taken))
+    let v = c .before .before .args .v in
+    written-as _ _ _ (one-byte (replicate room 0) _ refl) (rw (c .letter .ensures) (a-letter v (c .before .if1 .taken)))
 
 decimal-text-requires : tie.Need-decimal-text-requires
 decimal-text-requires c κs = search needs
@@ -57,11 +54,10 @@ pub variable-text-spec : {M : Type 1} → statement M
 variable-text-spec =
     tie.close
     (tie.spec
-    add-bytes
-    cast-bytes
+    letter-requires
     sub-bytes
     array-write-bytes
-    sub-t6
+    sub-t5
     returns
     decimal-text-requires
     prefixed-requires

@@ -5,7 +5,7 @@ use borrow.Author.Needs.{needs}
 use mir.Syntax.{w64}
 use mir.Val.{toZ, ofZ}
 use mir.ValLaws.{toZ-ofZ}
-use Rattle.bunlayog.proofs.InC.{in-c}
+use Rattle.c_answers.proofs.InC.{in-c}
 use Rattle.bunlayog.proofs.build.bunlayog_lit.Statement.{statement}
 use Rattle.bunlayog.proofs.build.bunlayog_lit.Tie as tie
 

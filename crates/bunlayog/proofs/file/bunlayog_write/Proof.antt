@@ -1,7 +1,7 @@
 -- `bunlayog::file::bunlayog_write` meets its contract: the entry point's outcome in C's terms.
 -- Assumes nothing.
 use borrow.Author.Needs.{needs}
-use Rattle.bunlayog.proofs.InC.{file-in-c}
+use Rattle.c_answers.proofs.InC.{file-in-c}
 use Rattle.bunlayog.proofs.file.bunlayog_write.Statement.{statement}
 use Rattle.bunlayog.proofs.file.bunlayog_write.Tie as tie
 

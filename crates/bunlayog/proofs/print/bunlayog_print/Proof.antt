@@ -1,7 +1,7 @@
 -- `bunlayog::print::bunlayog_print` meets its contract: the entry point's outcome in C's terms.
 -- Assumes nothing.
 use borrow.Author.Needs.{needs}
-use Rattle.bunlayog.proofs.InC.{text-in-c}
+use Rattle.c_answers.proofs.InC.{text-in-c}
 use Rattle.bunlayog.proofs.print.bunlayog_print.Statement.{statement}
 use Rattle.bunlayog.proofs.print.bunlayog_print.Tie as tie
 

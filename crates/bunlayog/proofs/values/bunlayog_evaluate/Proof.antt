@@ -2,7 +2,7 @@
 -- Assumes nothing.
 use mathlib.Core.Path.{_∙_, ap}
 use borrow.Author.Needs.{needs}
-use Rattle.bunlayog.specs.Values.{bitsInC}
+use Rattle.c_answers.specs.Values.{bitsInC}
 use Rattle.bunlayog.proofs.values.bunlayog_evaluate.Statement.{statement}
 use Rattle.bunlayog.proofs.values.bunlayog_evaluate.Tie as tie
 

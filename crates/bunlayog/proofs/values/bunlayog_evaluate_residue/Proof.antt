@@ -2,7 +2,7 @@
 -- Assumes nothing.
 use mathlib.Core.Path.{_∙_, ap}
 use borrow.Author.Needs.{needs}
-use Rattle.bunlayog.specs.Values.{residueInC}
+use Rattle.c_answers.specs.Values.{residueInC}
 use Rattle.bunlayog.proofs.Residues.{call-below}
 use Rattle.bunlayog.proofs.values.bunlayog_evaluate_residue.Statement.{statement}
 use Rattle.bunlayog.proofs.values.bunlayog_evaluate_residue.Tie as tie

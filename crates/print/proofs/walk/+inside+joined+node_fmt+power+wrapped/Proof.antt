@@ -2,7 +2,7 @@
 -- The measure is three times the bound, and for the members in between one or two more. Assumes nothing.
 use borrow.Author.Needs.{needs}
 use native.Mathlib.Omega.{arith}
-use mathlib.Core.Path.{_≡_, _∙_}
+use mathlib.Core.Path.{_≡_, sym, _∙_}
 use mir.Syntax.{w64}
 use mir.ValLaws.{toZ-ofZ}
 use mir.Val.{toZ, ofZ}
@@ -82,7 +82,25 @@ wrapped-at t = and 4 wrapped-kinds.ps (is 4 wrapped-kinds.ps μ-wrapped t) wrapp
 abbrev wrapped-below : ℕ → In 4 wrapped-kinds.ps
 wrapped-below t = and 4 wrapped-kinds.ps (falls 4 wrapped-kinds.ps _<_ μ-wrapped t) wrapped.Pre
 
+inside-node-at-requires : (t : ℕ) → inside-lts.Need-node-at-requires (
+  node-at-reads.Asked,
+  node-at-reads.Learnt,
+  write-variable-reads.Asked,
+  write-variable-reads.Learnt,
+  write-literal-reads.Asked,
+  write-literal-reads.Learnt,
+  joined-below t,
+  joined.Post,
+  wrapped-below t,
+  wrapped.Post,
+  power-below t,
+  power.Post,
+) (inside-at t) inside.Post
+inside-node-at-requires t c κs = tt
+
 inside-enum-told : (t : ℕ) → inside-lts.Need-enum-told (
+  node-at-reads.Asked,
+  node-at-reads.Learnt,
   write-variable-reads.Asked,
   write-variable-reads.Learnt,
   write-literal-reads.Asked,
@@ -96,7 +114,9 @@ inside-enum-told : (t : ℕ) → inside-lts.Need-enum-told (
 ) (inside-at t) inside.Post
 inside-enum-told t c = search needs
 
-inside-enum-known-node : (t : ℕ) → inside-lts.Need-enum-known-node (
+inside-enum-known-v : (t : ℕ) → inside-lts.Need-enum-known-v (
+  node-at-reads.Asked,
+  node-at-reads.Learnt,
   write-variable-reads.Asked,
   write-variable-reads.Learnt,
   write-literal-reads.Asked,
@@ -108,9 +128,11 @@ inside-enum-known-node : (t : ℕ) → inside-lts.Need-enum-known-node (
   power-below t,
   power.Post,
 ) (inside-at t) inside.Post
-inside-enum-known-node t c = search needs
+inside-enum-known-v t c = search needs
 
 inside-write-variable-requires : (t : ℕ) → inside-lts.Need-write-variable-requires (
+  node-at-reads.Asked,
+  node-at-reads.Learnt,
   write-variable-reads.Asked,
   write-variable-reads.Learnt,
   write-literal-reads.Asked,
@@ -122,9 +144,11 @@ inside-write-variable-requires : (t : ℕ) → inside-lts.Need-write-variable-re
   power-below t,
   power.Post,
 ) (inside-at t) inside.Post
-inside-write-variable-requires t c κs = c .before .before .before .before .before .pre .1
+inside-write-variable-requires t c κs = c .before .before .before .before .before .before .pre .1
 
-inside-enum-known-node-2 : (t : ℕ) → inside-lts.Need-enum-known-node-2 (
+inside-enum-known-z : (t : ℕ) → inside-lts.Need-enum-known-z (
+  node-at-reads.Asked,
+  node-at-reads.Learnt,
   write-variable-reads.Asked,
   write-variable-reads.Learnt,
   write-literal-reads.Asked,
@@ -136,9 +160,11 @@ inside-enum-known-node-2 : (t : ℕ) → inside-lts.Need-enum-known-node-2 (
   power-below t,
   power.Post,
 ) (inside-at t) inside.Post
-inside-enum-known-node-2 t c = search needs
+inside-enum-known-z t c = search needs
 
 inside-write-literal-requires : (t : ℕ) → inside-lts.Need-write-literal-requires (
+  node-at-reads.Asked,
+  node-at-reads.Learnt,
   write-variable-reads.Asked,
   write-variable-reads.Learnt,
   write-literal-reads.Asked,
@@ -150,9 +176,11 @@ inside-write-literal-requires : (t : ℕ) → inside-lts.Need-write-literal-requ
   power-below t,
   power.Post,
 ) (inside-at t) inside.Post
-inside-write-literal-requires t c κs = c .before .before .before .before .before .pre .1
+inside-write-literal-requires t c κs = c .before .before .before .before .before .before .pre .1
 
-inside-enum-known-node-3 : (t : ℕ) → inside-lts.Need-enum-known-node-3 (
+inside-enum-known-a : (t : ℕ) → inside-lts.Need-enum-known-a (
+  node-at-reads.Asked,
+  node-at-reads.Learnt,
   write-variable-reads.Asked,
   write-variable-reads.Learnt,
   write-literal-reads.Asked,
@@ -164,9 +192,11 @@ inside-enum-known-node-3 : (t : ℕ) → inside-lts.Need-enum-known-node-3 (
   power-below t,
   power.Post,
 ) (inside-at t) inside.Post
-inside-enum-known-node-3 t c = search needs
+inside-enum-known-a t c = search needs
 
 inside-slice-aggregate-joined : (t : ℕ) → inside-lts.Need-slice-aggregate-joined (
+  node-at-reads.Asked,
+  node-at-reads.Learnt,
   write-variable-reads.Asked,
   write-variable-reads.Learnt,
   write-literal-reads.Asked,
@@ -181,6 +211,8 @@ inside-slice-aggregate-joined : (t : ℕ) → inside-lts.Need-slice-aggregate-jo
 inside-slice-aggregate-joined t c = search needs
 
 inside-joined-requires : (t : ℕ) → inside-lts.Need-joined-requires (
+  node-at-reads.Asked,
+  node-at-reads.Learnt,
   write-variable-reads.Asked,
   write-variable-reads.Learnt,
   write-literal-reads.Asked,
@@ -192,9 +224,11 @@ inside-joined-requires : (t : ℕ) → inside-lts.Need-joined-requires (
   power-below t,
   power.Post,
 ) (inside-at t) inside.Post
-inside-joined-requires t c κs = (omega (arith, c .before .before .before .before .before .before .pre .0), c .before .before .before .before .before .before .pre .1)
+inside-joined-requires t c κs = (omega (arith, c .before .before .before .before .before .before .before .pre .0), c .before .before .before .before .before .before .before .pre .1)
 
-inside-enum-known-node-4 : (t : ℕ) → inside-lts.Need-enum-known-node-4 (
+inside-enum-known-a-2 : (t : ℕ) → inside-lts.Need-enum-known-a-2 (
+  node-at-reads.Asked,
+  node-at-reads.Learnt,
   write-variable-reads.Asked,
   write-variable-reads.Learnt,
   write-literal-reads.Asked,
@@ -206,9 +240,11 @@ inside-enum-known-node-4 : (t : ℕ) → inside-lts.Need-enum-known-node-4 (
   power-below t,
   power.Post,
 ) (inside-at t) inside.Post
-inside-enum-known-node-4 t c = search needs
+inside-enum-known-a-2 t c = search needs
 
 inside-slice-aggregate-joined-2 : (t : ℕ) → inside-lts.Need-slice-aggregate-joined-2 (
+  node-at-reads.Asked,
+  node-at-reads.Learnt,
   write-variable-reads.Asked,
   write-variable-reads.Learnt,
   write-literal-reads.Asked,
@@ -223,6 +259,8 @@ inside-slice-aggregate-joined-2 : (t : ℕ) → inside-lts.Need-slice-aggregate-
 inside-slice-aggregate-joined-2 t c = search needs
 
 inside-joined-requires-2 : (t : ℕ) → inside-lts.Need-joined-requires-2 (
+  node-at-reads.Asked,
+  node-at-reads.Learnt,
   write-variable-reads.Asked,
   write-variable-reads.Learnt,
   write-literal-reads.Asked,
@@ -234,9 +272,11 @@ inside-joined-requires-2 : (t : ℕ) → inside-lts.Need-joined-requires-2 (
   power-below t,
   power.Post,
 ) (inside-at t) inside.Post
-inside-joined-requires-2 t c κs = (omega (arith, c .before .before .before .before .before .before .pre .0), c .before .before .before .before .before .before .pre .1)
+inside-joined-requires-2 t c κs = (omega (arith, c .before .before .before .before .before .before .before .pre .0), c .before .before .before .before .before .before .before .pre .1)
 
-inside-enum-known-node-5 : (t : ℕ) → inside-lts.Need-enum-known-node-5 (
+inside-enum-known-a-3 : (t : ℕ) → inside-lts.Need-enum-known-a-3 (
+  node-at-reads.Asked,
+  node-at-reads.Learnt,
   write-variable-reads.Asked,
   write-variable-reads.Learnt,
   write-literal-reads.Asked,
@@ -248,9 +288,11 @@ inside-enum-known-node-5 : (t : ℕ) → inside-lts.Need-enum-known-node-5 (
   power-below t,
   power.Post,
 ) (inside-at t) inside.Post
-inside-enum-known-node-5 t c = search needs
+inside-enum-known-a-3 t c = search needs
 
 inside-slice-aggregate-joined-3 : (t : ℕ) → inside-lts.Need-slice-aggregate-joined-3 (
+  node-at-reads.Asked,
+  node-at-reads.Learnt,
   write-variable-reads.Asked,
   write-variable-reads.Learnt,
   write-literal-reads.Asked,
@@ -265,6 +307,8 @@ inside-slice-aggregate-joined-3 : (t : ℕ) → inside-lts.Need-slice-aggregate-
 inside-slice-aggregate-joined-3 t c = search needs
 
 inside-joined-requires-3 : (t : ℕ) → inside-lts.Need-joined-requires-3 (
+  node-at-reads.Asked,
+  node-at-reads.Learnt,
   write-variable-reads.Asked,
   write-variable-reads.Learnt,
   write-literal-reads.Asked,
@@ -276,9 +320,11 @@ inside-joined-requires-3 : (t : ℕ) → inside-lts.Need-joined-requires-3 (
   power-below t,
   power.Post,
 ) (inside-at t) inside.Post
-inside-joined-requires-3 t c κs = (omega (arith, c .before .before .before .before .before .before .pre .0), c .before .before .before .before .before .before .pre .1)
+inside-joined-requires-3 t c κs = (omega (arith, c .before .before .before .before .before .before .before .pre .0), c .before .before .before .before .before .before .before .pre .1)
 
-inside-enum-known-node-6 : (t : ℕ) → inside-lts.Need-enum-known-node-6 (
+inside-enum-known-a-4 : (t : ℕ) → inside-lts.Need-enum-known-a-4 (
+  node-at-reads.Asked,
+  node-at-reads.Learnt,
   write-variable-reads.Asked,
   write-variable-reads.Learnt,
   write-literal-reads.Asked,
@@ -290,9 +336,11 @@ inside-enum-known-node-6 : (t : ℕ) → inside-lts.Need-enum-known-node-6 (
   power-below t,
   power.Post,
 ) (inside-at t) inside.Post
-inside-enum-known-node-6 t c = search needs
+inside-enum-known-a-4 t c = search needs
 
 inside-slice-aggregate-wrapped : (t : ℕ) → inside-lts.Need-slice-aggregate-wrapped (
+  node-at-reads.Asked,
+  node-at-reads.Learnt,
   write-variable-reads.Asked,
   write-variable-reads.Learnt,
   write-literal-reads.Asked,
@@ -307,6 +355,8 @@ inside-slice-aggregate-wrapped : (t : ℕ) → inside-lts.Need-slice-aggregate-w
 inside-slice-aggregate-wrapped t c = search needs
 
 inside-wrapped-requires : (t : ℕ) → inside-lts.Need-wrapped-requires (
+  node-at-reads.Asked,
+  node-at-reads.Learnt,
   write-variable-reads.Asked,
   write-variable-reads.Learnt,
   write-literal-reads.Asked,
@@ -318,9 +368,11 @@ inside-wrapped-requires : (t : ℕ) → inside-lts.Need-wrapped-requires (
   power-below t,
   power.Post,
 ) (inside-at t) inside.Post
-inside-wrapped-requires t c κs = (omega (arith, c .before .before .before .before .before .before .pre .0), c .before .before .before .before .before .before .pre .1)
+inside-wrapped-requires t c κs = (omega (arith, c .before .before .before .before .before .before .before .pre .0), c .before .before .before .before .before .before .before .pre .1)
 
-inside-enum-known-node-7 : (t : ℕ) → inside-lts.Need-enum-known-node-7 (
+inside-enum-known-a-5 : (t : ℕ) → inside-lts.Need-enum-known-a-5 (
+  node-at-reads.Asked,
+  node-at-reads.Learnt,
   write-variable-reads.Asked,
   write-variable-reads.Learnt,
   write-literal-reads.Asked,
@@ -332,9 +384,11 @@ inside-enum-known-node-7 : (t : ℕ) → inside-lts.Need-enum-known-node-7 (
   power-below t,
   power.Post,
 ) (inside-at t) inside.Post
-inside-enum-known-node-7 t c = search needs
+inside-enum-known-a-5 t c = search needs
 
 inside-slice-aggregate-wrapped-2 : (t : ℕ) → inside-lts.Need-slice-aggregate-wrapped-2 (
+  node-at-reads.Asked,
+  node-at-reads.Learnt,
   write-variable-reads.Asked,
   write-variable-reads.Learnt,
   write-literal-reads.Asked,
@@ -349,6 +403,8 @@ inside-slice-aggregate-wrapped-2 : (t : ℕ) → inside-lts.Need-slice-aggregate
 inside-slice-aggregate-wrapped-2 t c = search needs
 
 inside-wrapped-requires-2 : (t : ℕ) → inside-lts.Need-wrapped-requires-2 (
+  node-at-reads.Asked,
+  node-at-reads.Learnt,
   write-variable-reads.Asked,
   write-variable-reads.Learnt,
   write-literal-reads.Asked,
@@ -360,9 +416,11 @@ inside-wrapped-requires-2 : (t : ℕ) → inside-lts.Need-wrapped-requires-2 (
   power-below t,
   power.Post,
 ) (inside-at t) inside.Post
-inside-wrapped-requires-2 t c κs = (omega (arith, c .before .before .before .before .before .before .pre .0), c .before .before .before .before .before .before .pre .1)
+inside-wrapped-requires-2 t c κs = (omega (arith, c .before .before .before .before .before .before .before .pre .0), c .before .before .before .before .before .before .before .pre .1)
 
-inside-enum-known-node-8 : (t : ℕ) → inside-lts.Need-enum-known-node-8 (
+inside-enum-known-a-6 : (t : ℕ) → inside-lts.Need-enum-known-a-6 (
+  node-at-reads.Asked,
+  node-at-reads.Learnt,
   write-variable-reads.Asked,
   write-variable-reads.Learnt,
   write-literal-reads.Asked,
@@ -374,9 +432,11 @@ inside-enum-known-node-8 : (t : ℕ) → inside-lts.Need-enum-known-node-8 (
   power-below t,
   power.Post,
 ) (inside-at t) inside.Post
-inside-enum-known-node-8 t c = search needs
+inside-enum-known-a-6 t c = search needs
 
 inside-power-requires : (t : ℕ) → inside-lts.Need-power-requires (
+  node-at-reads.Asked,
+  node-at-reads.Learnt,
   write-variable-reads.Asked,
   write-variable-reads.Learnt,
   write-literal-reads.Asked,
@@ -388,9 +448,11 @@ inside-power-requires : (t : ℕ) → inside-lts.Need-power-requires (
   power-below t,
   power.Post,
 ) (inside-at t) inside.Post
-inside-power-requires t c κs = (omega (arith, c .before .before .before .before .before .pre .0), c .before .before .before .before .before .pre .1)
+inside-power-requires t c κs = (omega (arith, c .before .before .before .before .before .before .pre .0), c .before .before .before .before .before .before .pre .1)
 
 inside-enum-told-2 : (t : ℕ) → inside-lts.Need-enum-told-2 (
+  node-at-reads.Asked,
+  node-at-reads.Learnt,
   write-variable-reads.Asked,
   write-variable-reads.Learnt,
   write-literal-reads.Asked,
@@ -405,6 +467,8 @@ inside-enum-told-2 : (t : ℕ) → inside-lts.Need-enum-told-2 (
 inside-enum-told-2 t c = search needs
 
 inside-returns : (t : ℕ) → inside-lts.Need-returns (
+  node-at-reads.Asked,
+  node-at-reads.Learnt,
   write-variable-reads.Asked,
   write-variable-reads.Learnt,
   write-literal-reads.Asked,
@@ -416,9 +480,11 @@ inside-returns : (t : ℕ) → inside-lts.Need-returns (
   power-below t,
   power.Post,
 ) (inside-at t) inside.Post
-inside-returns t c = for-node _ (c .enum-told .given .1) (none-written _ _ (c .before .before .before .pre .1))
+inside-returns t c = for-node _ (sym (c .before .before .node-at .ensures) ∙ c .enum-told .given .1) (none-written _ _ (c .before .before .before .before .pre .1))
 
 inside-same-length : (t : ℕ) → inside-lts.Need-same-length (
+  node-at-reads.Asked,
+  node-at-reads.Learnt,
   write-variable-reads.Asked,
   write-variable-reads.Learnt,
   write-literal-reads.Asked,
@@ -433,6 +499,8 @@ inside-same-length : (t : ℕ) → inside-lts.Need-same-length (
 inside-same-length t c = c .before .before .write-variable .kept .0
 
 inside-returns-2 : (t : ℕ) → inside-lts.Need-returns-2 (
+  node-at-reads.Asked,
+  node-at-reads.Learnt,
   write-variable-reads.Asked,
   write-variable-reads.Learnt,
   write-literal-reads.Asked,
@@ -444,9 +512,11 @@ inside-returns-2 : (t : ℕ) → inside-lts.Need-returns-2 (
   power-below t,
   power.Post,
 ) (inside-at t) inside.Post
-inside-returns-2 t c = for-node _ (c .before .before .before .before .before .node .given .1) (c .before .before .write-variable .ensures)
+inside-returns-2 t c = for-node _ (sym (c .before .before .before .before .before .before .before .node-at .ensures) ∙ c .before .before .before .before .before .v .given .1) (c .before .before .write-variable .ensures)
 
 inside-same-length-2 : (t : ℕ) → inside-lts.Need-same-length-2 (
+  node-at-reads.Asked,
+  node-at-reads.Learnt,
   write-variable-reads.Asked,
   write-variable-reads.Learnt,
   write-literal-reads.Asked,
@@ -461,6 +531,8 @@ inside-same-length-2 : (t : ℕ) → inside-lts.Need-same-length-2 (
 inside-same-length-2 t c = c .before .before .write-literal .kept .0
 
 inside-returns-3 : (t : ℕ) → inside-lts.Need-returns-3 (
+  node-at-reads.Asked,
+  node-at-reads.Learnt,
   write-variable-reads.Asked,
   write-variable-reads.Learnt,
   write-literal-reads.Asked,
@@ -473,11 +545,13 @@ inside-returns-3 : (t : ℕ) → inside-lts.Need-returns-3 (
   power.Post,
 ) (inside-at t) inside.Post
 inside-returns-3 t c =
-    let z = c .before .before .before .before .before .node2 .given .0 .0 in
+    let z = c .before .before .before .before .before .z .given .0 .0 in
     let e : toZ w64 (ofZ w64 z) ≡ z = toZ-ofZ w64 z (record { sfits = c .before .before .before .before .known-told2 .given .0 .1 }) in
-    for-node _ (c .before .before .before .before .before .node2 .given .1) (rw e at (c .before .before .write-literal .ensures))
+    for-node _ (sym (c .before .before .before .before .before .before .before .node-at .ensures) ∙ c .before .before .before .before .before .z .given .1) (rw e at (c .before .before .write-literal .ensures))
 
 inside-same-length-3 : (t : ℕ) → inside-lts.Need-same-length-3 (
+  node-at-reads.Asked,
+  node-at-reads.Learnt,
   write-variable-reads.Asked,
   write-variable-reads.Learnt,
   write-literal-reads.Asked,
@@ -492,6 +566,8 @@ inside-same-length-3 : (t : ℕ) → inside-lts.Need-same-length-3 (
 inside-same-length-3 t c = c .before .before .joined .kept .1 .1 .0
 
 inside-returns-4 : (t : ℕ) → inside-lts.Need-returns-4 (
+  node-at-reads.Asked,
+  node-at-reads.Learnt,
   write-variable-reads.Asked,
   write-variable-reads.Learnt,
   write-literal-reads.Asked,
@@ -503,9 +579,11 @@ inside-returns-4 : (t : ℕ) → inside-lts.Need-returns-4 (
   power-below t,
   power.Post,
 ) (inside-at t) inside.Post
-inside-returns-4 t c = for-node _ (c .before .before .before .before .before .before .node3 .given .1) (c .before .before .joined .ensures)
+inside-returns-4 t c = for-node _ (sym (c .before .before .before .before .before .before .before .before .node-at .ensures) ∙ c .before .before .before .before .before .before .a .given .1) (c .before .before .joined .ensures)
 
 inside-same-length-4 : (t : ℕ) → inside-lts.Need-same-length-4 (
+  node-at-reads.Asked,
+  node-at-reads.Learnt,
   write-variable-reads.Asked,
   write-variable-reads.Learnt,
   write-literal-reads.Asked,
@@ -520,6 +598,8 @@ inside-same-length-4 : (t : ℕ) → inside-lts.Need-same-length-4 (
 inside-same-length-4 t c = c .before .before .joined2 .kept .1 .1 .0
 
 inside-returns-5 : (t : ℕ) → inside-lts.Need-returns-5 (
+  node-at-reads.Asked,
+  node-at-reads.Learnt,
   write-variable-reads.Asked,
   write-variable-reads.Learnt,
   write-literal-reads.Asked,
@@ -531,9 +611,11 @@ inside-returns-5 : (t : ℕ) → inside-lts.Need-returns-5 (
   power-below t,
   power.Post,
 ) (inside-at t) inside.Post
-inside-returns-5 t c = for-node _ (c .before .before .before .before .before .before .node4 .given .1) (c .before .before .joined2 .ensures)
+inside-returns-5 t c = for-node _ (sym (c .before .before .before .before .before .before .before .before .node-at .ensures) ∙ c .before .before .before .before .before .before .a2 .given .1) (c .before .before .joined2 .ensures)
 
 inside-same-length-5 : (t : ℕ) → inside-lts.Need-same-length-5 (
+  node-at-reads.Asked,
+  node-at-reads.Learnt,
   write-variable-reads.Asked,
   write-variable-reads.Learnt,
   write-literal-reads.Asked,
@@ -548,6 +630,8 @@ inside-same-length-5 : (t : ℕ) → inside-lts.Need-same-length-5 (
 inside-same-length-5 t c = c .before .before .joined3 .kept .1 .1 .0
 
 inside-returns-6 : (t : ℕ) → inside-lts.Need-returns-6 (
+  node-at-reads.Asked,
+  node-at-reads.Learnt,
   write-variable-reads.Asked,
   write-variable-reads.Learnt,
   write-literal-reads.Asked,
@@ -559,9 +643,11 @@ inside-returns-6 : (t : ℕ) → inside-lts.Need-returns-6 (
   power-below t,
   power.Post,
 ) (inside-at t) inside.Post
-inside-returns-6 t c = for-node _ (c .before .before .before .before .before .before .node5 .given .1) (c .before .before .joined3 .ensures)
+inside-returns-6 t c = for-node _ (sym (c .before .before .before .before .before .before .before .before .node-at .ensures) ∙ c .before .before .before .before .before .before .a3 .given .1) (c .before .before .joined3 .ensures)
 
 inside-same-length-6 : (t : ℕ) → inside-lts.Need-same-length-6 (
+  node-at-reads.Asked,
+  node-at-reads.Learnt,
   write-variable-reads.Asked,
   write-variable-reads.Learnt,
   write-literal-reads.Asked,
@@ -576,6 +662,8 @@ inside-same-length-6 : (t : ℕ) → inside-lts.Need-same-length-6 (
 inside-same-length-6 t c = c .before .before .wrapped .kept .1 .1 .0
 
 inside-returns-7 : (t : ℕ) → inside-lts.Need-returns-7 (
+  node-at-reads.Asked,
+  node-at-reads.Learnt,
   write-variable-reads.Asked,
   write-variable-reads.Learnt,
   write-literal-reads.Asked,
@@ -587,9 +675,11 @@ inside-returns-7 : (t : ℕ) → inside-lts.Need-returns-7 (
   power-below t,
   power.Post,
 ) (inside-at t) inside.Post
-inside-returns-7 t c = for-node _ (c .before .before .before .before .before .before .node6 .given .1) (c .before .before .wrapped .ensures)
+inside-returns-7 t c = for-node _ (sym (c .before .before .before .before .before .before .before .before .node-at .ensures) ∙ c .before .before .before .before .before .before .a4 .given .1) (c .before .before .wrapped .ensures)
 
 inside-same-length-7 : (t : ℕ) → inside-lts.Need-same-length-7 (
+  node-at-reads.Asked,
+  node-at-reads.Learnt,
   write-variable-reads.Asked,
   write-variable-reads.Learnt,
   write-literal-reads.Asked,
@@ -604,6 +694,8 @@ inside-same-length-7 : (t : ℕ) → inside-lts.Need-same-length-7 (
 inside-same-length-7 t c = c .before .before .wrapped2 .kept .1 .1 .0
 
 inside-returns-8 : (t : ℕ) → inside-lts.Need-returns-8 (
+  node-at-reads.Asked,
+  node-at-reads.Learnt,
   write-variable-reads.Asked,
   write-variable-reads.Learnt,
   write-literal-reads.Asked,
@@ -615,9 +707,11 @@ inside-returns-8 : (t : ℕ) → inside-lts.Need-returns-8 (
   power-below t,
   power.Post,
 ) (inside-at t) inside.Post
-inside-returns-8 t c = for-node _ (c .before .before .before .before .before .before .node7 .given .1) (c .before .before .wrapped2 .ensures)
+inside-returns-8 t c = for-node _ (sym (c .before .before .before .before .before .before .before .before .node-at .ensures) ∙ c .before .before .before .before .before .before .a5 .given .1) (c .before .before .wrapped2 .ensures)
 
 inside-same-length-8 : (t : ℕ) → inside-lts.Need-same-length-8 (
+  node-at-reads.Asked,
+  node-at-reads.Learnt,
   write-variable-reads.Asked,
   write-variable-reads.Learnt,
   write-literal-reads.Asked,
@@ -632,6 +726,8 @@ inside-same-length-8 : (t : ℕ) → inside-lts.Need-same-length-8 (
 inside-same-length-8 t c = c .before .before .power .kept .1 .1 .0
 
 inside-returns-9 : (t : ℕ) → inside-lts.Need-returns-9 (
+  node-at-reads.Asked,
+  node-at-reads.Learnt,
   write-variable-reads.Asked,
   write-variable-reads.Learnt,
   write-literal-reads.Asked,
@@ -643,9 +739,11 @@ inside-returns-9 : (t : ℕ) → inside-lts.Need-returns-9 (
   power-below t,
   power.Post,
 ) (inside-at t) inside.Post
-inside-returns-9 t c = for-node _ (c .before .before .before .before .before .node8 .given .1) (c .before .before .power .ensures)
+inside-returns-9 t c = for-node _ (sym (c .before .before .before .before .before .before .before .node-at .ensures) ∙ c .before .before .before .before .before .a6 .given .1) (c .before .before .power .ensures)
 
 inside-returns-10 : (t : ℕ) → inside-lts.Need-returns-10 (
+  node-at-reads.Asked,
+  node-at-reads.Learnt,
   write-variable-reads.Asked,
   write-variable-reads.Learnt,
   write-literal-reads.Asked,
@@ -657,7 +755,7 @@ inside-returns-10 : (t : ℕ) → inside-lts.Need-returns-10 (
   power-below t,
   power.Post,
 ) (inside-at t) inside.Post
-inside-returns-10 t c = for-node _ (c .enum-told2 .given .1) (none-written _ _ (c .before .before .before .pre .1))
+inside-returns-10 t c = for-node _ (sym (c .before .before .node-at .ensures) ∙ c .enum-told2 .given .1) (none-written _ _ (c .before .before .before .before .pre .1))
 
 joined-node-fmt-requires : (t : ℕ) → joined-lts.Need-node-fmt-requires (
   node-fmt-below t,
@@ -998,6 +1096,8 @@ wrapped-returns t c =
 pub +inside+joined+node-fmt+power+wrapped-spec : {M : Type 1} → statement M
 +inside+joined+node-fmt+power+wrapped-spec =
     close μ-inside μ-joined μ-node-fmt μ-power μ-wrapped (λ t. inside-lts.spec (
+      node-at-reads.Asked,
+      node-at-reads.Learnt,
       write-variable-reads.Asked,
       write-variable-reads.Learnt,
       write-literal-reads.Asked,
@@ -1011,27 +1111,28 @@ pub +inside+joined+node-fmt+power+wrapped-spec : {M : Type 1} → statement M
     )
     (inside-at t)
     inside.Post
+    (inside-node-at-requires t)
     (inside-enum-told t)
-    (inside-enum-known-node t)
+    (inside-enum-known-v t)
     (inside-write-variable-requires t)
-    (inside-enum-known-node-2 t)
+    (inside-enum-known-z t)
     (inside-write-literal-requires t)
-    (inside-enum-known-node-3 t)
+    (inside-enum-known-a t)
     (inside-slice-aggregate-joined t)
     (inside-joined-requires t)
-    (inside-enum-known-node-4 t)
+    (inside-enum-known-a-2 t)
     (inside-slice-aggregate-joined-2 t)
     (inside-joined-requires-2 t)
-    (inside-enum-known-node-5 t)
+    (inside-enum-known-a-3 t)
     (inside-slice-aggregate-joined-3 t)
     (inside-joined-requires-3 t)
-    (inside-enum-known-node-6 t)
+    (inside-enum-known-a-4 t)
     (inside-slice-aggregate-wrapped t)
     (inside-wrapped-requires t)
-    (inside-enum-known-node-7 t)
+    (inside-enum-known-a-5 t)
     (inside-slice-aggregate-wrapped-2 t)
     (inside-wrapped-requires-2 t)
-    (inside-enum-known-node-8 t)
+    (inside-enum-known-a-6 t)
     (inside-power-requires t)
     (inside-enum-told-2 t)
     (inside-returns t)

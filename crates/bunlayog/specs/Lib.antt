@@ -1,4 +1,0 @@
-pub mod Interface
-pub mod Values
-pub mod Printing
-pub mod Files

@@ -1,0 +1,131 @@
+// The operations on one expansion as C functions.
+ghost use mathlib.Core.Path.{_≡_};
+ghost use Rattle.taylor.specs.Expansion.{negate, exponential, logarithm, power};
+ghost use Rattle.lent_series.specs.Series.{given};
+ghost use Rattle.lent_series.specs.Call.{onPool, givenSeries};
+ghost use Rattle.engine_series.specs.Operations.{varWork};
+ghost use Rattle.c_answers.specs.Expansions.{series, seriesLeftInC, seriesInC};
+use c_answers::outcome_answered;
+use lent_series::Series;
+use taylor_base::TERMS;
+
+// -e
+#[no_mangle]
+pub extern "C" fn bunlayog_taylor_neg(
+    kinds: &mut [u8],
+    words: &mut [u64],
+    count: &mut u64,
+    order: u64,
+    coeffs: &[u64; TERMS],
+    order_out: &mut u64,
+    coeffs_out: &mut [u64; TERMS],
+) -> u32
+    ensures { λ r. ⌜ seriesLeftInC r (now (kinds .exit)) (now (words .exit)) (now (count .exit)) (now («order_out» .exit)) (now («coeffs_out» .exit)) ≡ seriesInC (now («order_out» .entry)) (now («coeffs_out» .entry)) (onPool (givenSeries (series order (now (coeffs .entry))) (negate (given (series order (now (coeffs .entry)))))) (now (kinds .entry)) (now (words .entry)) (now (count .entry))) ⌝ }
+{
+    let given = *coeffs;
+    let s = Series {
+        order,
+        coeffs: given,
+    };
+    outcome_answered(
+        engine_series::neg(kinds, words, count, s),
+        order_out,
+        coeffs_out,
+    )
+}
+
+// exp e
+#[no_mangle]
+pub extern "C" fn bunlayog_taylor_exp(
+    kinds: &mut [u8],
+    words: &mut [u64],
+    count: &mut u64,
+    order: u64,
+    coeffs: &[u64; TERMS],
+    order_out: &mut u64,
+    coeffs_out: &mut [u64; TERMS],
+) -> u32
+    ensures { λ r. ⌜ seriesLeftInC r (now (kinds .exit)) (now (words .exit)) (now (count .exit)) (now («order_out» .exit)) (now («coeffs_out» .exit)) ≡ seriesInC (now («order_out» .entry)) (now («coeffs_out» .entry)) (onPool (givenSeries (series order (now (coeffs .entry))) (exponential (given (series order (now (coeffs .entry)))))) (now (kinds .entry)) (now (words .entry)) (now (count .entry))) ⌝ }
+{
+    let given = *coeffs;
+    let s = Series {
+        order,
+        coeffs: given,
+    };
+    outcome_answered(
+        engine_series::exp(kinds, words, count, s),
+        order_out,
+        coeffs_out,
+    )
+}
+
+// log e
+#[no_mangle]
+pub extern "C" fn bunlayog_taylor_log(
+    kinds: &mut [u8],
+    words: &mut [u64],
+    count: &mut u64,
+    order: u64,
+    coeffs: &[u64; TERMS],
+    order_out: &mut u64,
+    coeffs_out: &mut [u64; TERMS],
+) -> u32
+    ensures { λ r. ⌜ seriesLeftInC r (now (kinds .exit)) (now (words .exit)) (now (count .exit)) (now («order_out» .exit)) (now («coeffs_out» .exit)) ≡ seriesInC (now («order_out» .entry)) (now («coeffs_out» .entry)) (onPool (givenSeries (series order (now (coeffs .entry))) (logarithm (given (series order (now (coeffs .entry)))))) (now (kinds .entry)) (now (words .entry)) (now (count .entry))) ⌝ }
+{
+    let given = *coeffs;
+    let s = Series {
+        order,
+        coeffs: given,
+    };
+    outcome_answered(
+        engine_series::log(kinds, words, count, s),
+        order_out,
+        coeffs_out,
+    )
+}
+
+// e to a power
+#[no_mangle]
+pub extern "C" fn bunlayog_taylor_pow(
+    kinds: &mut [u8],
+    words: &mut [u64],
+    count: &mut u64,
+    order: u64,
+    coeffs: &[u64; TERMS],
+    exp: u32,
+    order_out: &mut u64,
+    coeffs_out: &mut [u64; TERMS],
+) -> u32
+    ensures { λ r. ⌜ seriesLeftInC r (now (kinds .exit)) (now (words .exit)) (now (count .exit)) (now («order_out» .exit)) (now («coeffs_out» .exit)) ≡ seriesInC (now («order_out» .entry)) (now («coeffs_out» .entry)) (onPool (givenSeries (series order (now (coeffs .entry))) (power (given (series order (now (coeffs .entry)))) exp)) (now (kinds .entry)) (now (words .entry)) (now (count .entry))) ⌝ }
+{
+    let given = *coeffs;
+    let s = Series {
+        order,
+        coeffs: given,
+    };
+    outcome_answered(
+        engine_series::pow(kinds, words, count, s, exp),
+        order_out,
+        coeffs_out,
+    )
+}
+
+// The expansion of a variable at a node.
+#[no_mangle]
+pub extern "C" fn bunlayog_taylor_var(
+    kinds: &mut [u8],
+    words: &mut [u64],
+    count: &mut u64,
+    x: u64,
+    order: u64,
+    order_out: &mut u64,
+    coeffs_out: &mut [u64; TERMS],
+) -> u32
+    ensures { λ r. ⌜ seriesLeftInC r (now (kinds .exit)) (now (words .exit)) (now (count .exit)) (now («order_out» .exit)) (now («coeffs_out» .exit)) ≡ seriesInC (now («order_out» .entry)) (now («coeffs_out» .entry)) (onPool (varWork x order) (now (kinds .entry)) (now (words .entry)) (now (count .entry))) ⌝ }
+{
+    outcome_answered(
+        engine_series::var(kinds, words, count, x, order),
+        order_out,
+        coeffs_out,
+    )
+}

@@ -1,0 +1,2 @@
+pub mod InC
+pub mod Expansions

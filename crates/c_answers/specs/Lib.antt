@@ -1,0 +1,5 @@
+pub mod Interface
+pub mod Values
+pub mod Printing
+pub mod Files
+pub mod Expansions

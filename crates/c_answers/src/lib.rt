@@ -1,0 +1,89 @@
+// An entry point's answer in C's terms: what it gives goes to its place, and a refusal leaves the place as it was. The number is 0 or the refusal.
+ghost use mathlib.Core.Path.{_≡_};
+ghost use Rattle.c_answers.specs.Interface.{numberOf, nodeOr, valueInC};
+ghost use Rattle.c_answers.specs.Values.{bitsInC};
+ghost use Rattle.c_answers.specs.Printing.{textNumber, textLengthOr};
+ghost use Rattle.c_answers.specs.Files.{fileNumber, fileLengthOr};
+ghost use Rattle.c_answers.specs.Expansions.{countInC, outcomeLeftInC, outcomeInC};
+use double::Valued;
+use engine_series::Counted;
+use lent::Answer;
+use lent_series::Outcome;
+use taylor_base::TERMS;
+
+pub fn answered(answer: Answer, node: &mut u64) -> u32
+    ensures { λ r. ⌜ r ≡ numberOf answer ⌝ }
+    ensures { λ r. ⌜ now (node .exit) ≡ nodeOr answer (now (node .entry)) ⌝ }
+{
+    match answer {
+        Answer::Node(i) => {
+            *node = i;
+            0
+        }
+        Answer::Refused(number) => number,
+    }
+}
+
+pub fn bits_answered(answer: Valued, bits: &mut u64) -> u32
+    ensures { λ r. ⌜ valueInC r (now (bits .exit)) ≡ bitsInC (now (bits .entry)) answer ⌝ }
+{
+    match answer {
+        Valued::Double(x) => {
+            *bits = double::bits(x);
+            0
+        }
+        Valued::Refused(number) => number,
+    }
+}
+
+pub fn text_answered(answer: engine_print::Written, written: &mut u64) -> u32
+    ensures { λ r. ⌜ r ≡ textNumber answer ⌝ }
+    ensures { λ r. ⌜ now (written .exit) ≡ textLengthOr answer (now (written .entry)) ⌝ }
+{
+    match answer {
+        engine_print::Written::Length(n) => {
+            *written = n;
+            0
+        }
+        engine_print::Written::Refused(number) => number,
+    }
+}
+
+pub fn file_answered(answer: engine_file::Written, written: &mut u64) -> u32
+    ensures { λ r. ⌜ r ≡ fileNumber answer ⌝ }
+    ensures { λ r. ⌜ now (written .exit) ≡ fileLengthOr answer (now (written .entry)) ⌝ }
+{
+    match answer {
+        engine_file::Written::Length(n) => {
+            *written = n;
+            0
+        }
+        engine_file::Written::Refused(number) => number,
+    }
+}
+
+pub fn count_answered(answer: Counted, order: &mut u64) -> u32
+    ensures { λ r. ⌜ valueInC r (now (order .exit)) ≡ countInC (now (order .entry)) answer ⌝ }
+{
+    match answer {
+        Counted::Count(n) => {
+            *order = n;
+            0
+        }
+        Counted::Refused(number) => number,
+    }
+}
+
+pub fn outcome_answered(outcome: Outcome, order: &mut u64, coeffs: &mut [u64; TERMS]) -> u32
+    ensures { λ r. ⌜ outcomeLeftInC r (now (order .exit)) (now (coeffs .exit)) ≡ outcomeInC (now (order .entry)) (now (coeffs .entry)) outcome ⌝ }
+{
+    let number = outcome.number;
+    if number != 0 {
+        return number;
+    }
+    let series = outcome.series;
+    let entries = series.coeffs;
+    *order = series.order;
+    *coeffs = entries;
+    0
+}

@@ -1,0 +1,48 @@
+-- `case_lines::scan::behind` is behind where it begins: each turn counts up to the length, and a turn is made where there is a byte.
+-- Assumes nothing.
+use Prim.Native.Nat.{_-_, _≤_}
+use borrow.Author.Needs.{needs}
+use lib.ListN.{length}
+use Rattle.case_lines.proofs.scan.behind.Statement.{statement}
+use Rattle.case_lines.proofs.scan.behind.Tie as tie
+
+abbrev Inv-loop : tie.InvT-loop
+Inv-loop text from stop i₀ i = from ≤ i
+
+abbrev μ-loop : tie.MeasureT-loop
+μ-loop text from stop i₀ i = length text - i
+
+loop-holds : tie.Need-loop-holds Inv-loop μ-loop
+loop-holds c = search needs
+
+shared-slice-read-byte : tie.Need-shared-slice-read-byte Inv-loop μ-loop
+shared-slice-read-byte c = search needs
+
+add-i : tie.Need-add-i Inv-loop μ-loop
+add-i c = search needs
+
+returns : tie.Need-returns Inv-loop μ-loop
+returns c = search needs
+
+loop-less : tie.Need-loop-less Inv-loop μ-loop
+loop-less c = search needs
+
+loop-again : tie.Need-loop-again Inv-loop μ-loop
+loop-again c = search needs
+
+returns-2 : tie.Need-returns-2 Inv-loop μ-loop
+returns-2 c = search needs
+
+pub behind-spec : {M : Type 1} → statement M
+behind-spec =
+    tie.close
+    (tie.spec
+    Inv-loop
+    μ-loop
+    loop-holds
+    shared-slice-read-byte
+    add-i
+    returns
+    loop-less
+    loop-again
+    returns-2)

@@ -1,0 +1,58 @@
+-- `case_pools::entries::set_run` returns: each turn counts up to the last entry.
+-- Assumes nothing.
+use Prim.Native.Nat.{_-_}
+use mathlib.Core.Path.{_≡_}
+use lib.ListN.{length}
+use borrow.Author.Needs.{needs}
+use Rattle.case_pools.proofs.entries.set_run.Statement.{statement}
+use Rattle.case_pools.proofs.entries.set_run.Tie as tie
+
+abbrev Inv-loop : tie.InvT-loop
+Inv-loop kinds₀ words₀ from to kind first step i₀ word₀ kinds words i word =
+    (length kinds ≡ length kinds₀) × (length words ≡ length words₀)
+
+abbrev μ-loop : tie.MeasureT-loop
+μ-loop kinds₀ words₀ from to kind first step i₀ word₀ kinds words i word = to - i
+
+loop-holds : tie.Need-loop-holds Inv-loop μ-loop
+loop-holds c = search needs
+
+set-requires : tie.Need-set-requires Inv-loop μ-loop
+set-requires c κs = search needs
+
+wrapping-add-u64-requires : tie.Need-wrapping-add-u64-requires Inv-loop μ-loop
+wrapping-add-u64-requires c κs = search needs
+
+add-i : tie.Need-add-i Inv-loop μ-loop
+add-i c = search needs
+
+loop-less : tie.Need-loop-less Inv-loop μ-loop
+loop-less c = search needs
+
+loop-again : tie.Need-loop-again Inv-loop μ-loop
+loop-again c = search needs
+
+same-length : tie.Need-same-length Inv-loop μ-loop
+same-length c = search needs
+
+same-length-2 : tie.Need-same-length-2 Inv-loop μ-loop
+same-length-2 c = search needs
+
+returns : tie.Need-returns Inv-loop μ-loop
+returns c = search needs
+
+pub set-run-spec : {M : Type 1} → statement M
+set-run-spec =
+    tie.close
+    (tie.spec
+    Inv-loop
+    μ-loop
+    loop-holds
+    set-requires
+    wrapping-add-u64-requires
+    add-i
+    loop-less
+    loop-again
+    same-length
+    same-length-2
+    returns)

@@ -1,0 +1,65 @@
+-- `walk_cases::values::evaluate_residue` is safe: the part lies within the table.
+-- Assumes nothing.
+use native.Mathlib.Omega.{arith}
+use mathlib.Core.Path.{sym}
+use lib.Seq.{length-take-le}
+use borrow.Author.Needs.{needs}
+use Rattle.walk_cases.proofs.values.evaluate_residue.Statement.{statement}
+use Rattle.walk_cases.proofs.values.evaluate_residue.Tie as tie
+
+number-requires : tie.Need-number-requires
+number-requires c κs = search needs
+
+size-requires : tie.Need-size-requires
+size-requires c κs = search needs
+
+returns : tie.Need-returns
+returns c = search needs
+
+put-label-requires : tie.Need-put-label-requires
+put-label-requires c κs = search needs
+
+slice-aggregate-evaluate-residue : tie.Need-slice-aggregate-evaluate-residue
+slice-aggregate-evaluate-residue c = sym (length-take-le _ _ (omega arith))
+
+evaluate-residue-requires : tie.Need-evaluate-residue-requires
+evaluate-residue-requires c κs = search needs
+
+enum-known-r : tie.Need-enum-known-r
+enum-known-r c = search needs
+
+put-number-requires : tie.Need-put-number-requires
+put-number-requires c κs = search needs
+
+enum-known-number : tie.Need-enum-known-number
+enum-known-number c = search needs
+
+put-refused-requires : tie.Need-put-refused-requires
+put-refused-requires c κs = search needs
+
+slice-aggregate-put : tie.Need-slice-aggregate-put
+slice-aggregate-put c = search needs
+
+put-requires : tie.Need-put-requires
+put-requires c κs = search needs
+
+returns-2 : tie.Need-returns-2
+returns-2 c = search needs
+
+pub evaluate-residue-spec : {M : Type 1} → statement M
+evaluate-residue-spec =
+    tie.close
+    (tie.spec
+    number-requires
+    size-requires
+    returns
+    put-label-requires
+    slice-aggregate-evaluate-residue
+    evaluate-residue-requires
+    enum-known-r
+    put-number-requires
+    enum-known-number
+    put-refused-requires
+    slice-aggregate-put
+    put-requires
+    returns-2)
