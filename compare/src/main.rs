@@ -1,6 +1,7 @@
 //! Drives the Rust and the engine through the same calls and compares every answer and every lent byte.
 //! Usage: bunlayog-compare [SEED [SECONDS]]
 //! The seconds are those of the random calls.
+//! Or: bunlayog-compare list FOLDER, which writes the files stdin and stdout of the program `replay`, by the Rust alone.
 #![feature(arbitrary_self_types)]
 #![allow(dead_code, unused_imports, clippy::all)]
 
@@ -10,6 +11,7 @@ mod counted;
 mod damage;
 mod engine;
 mod file;
+mod list;
 mod random;
 mod report;
 mod run;
@@ -92,12 +94,22 @@ fn main() {
             }
         }
     }));
-    let mut args = std::env::args().skip(1);
+    let mut args = std::env::args().skip(1).peekable();
+    if args.next_if_eq("list").is_some() {
+        return write_list(&args.next().expect("a folder"));
+    }
     let seed: u64 = args.next().map_or(20_261_115, |s| s.parse().expect("a seed"));
     let seconds: u64 = args.next().map_or(60, |s| s.parse().expect("seconds"));
     // the Rust's walks recurse with large frames
     let done = std::thread::Builder::new().stack_size(256 << 20).spawn(move || all(seed, seconds)).unwrap().join();
     std::process::exit(if matches!(done, Ok(true)) { 0 } else { 1 });
+}
+
+/// The fixed list of answers, with a seed of its own.
+fn write_list(folder: &str) {
+    let (list, last) = std::thread::Builder::new().stack_size(256 << 20).spawn(|| list::made(20_261_116)).unwrap().join().unwrap();
+    std::fs::write(format!("{folder}/stdin"), list).expect("the list");
+    std::fs::write(format!("{folder}/stdout"), last).expect("its last line");
 }
 
 fn all(seed: u64, seconds: u64) -> bool {

@@ -1,0 +1,4 @@
+pub mod Equal
+pub mod Room
+pub mod Runs
+pub mod Values

@@ -1,0 +1,54 @@
+-- `number_list::tables::next_words` returns: each turn counts up to n. A table keeps its length.
+-- Assumes nothing.
+use mathlib.Core.Path.{_≡_, refl}
+use Prim.Native.Nat.{_-_}
+use native.Mathlib.Omega.{arith}
+use lib.ListN.{length}
+use borrow.Author.Needs.{needs}
+use Rattle.number_list.proofs.tables.next_words.Statement.{statement}
+use Rattle.number_list.proofs.tables.next_words.Tie as tie
+
+abbrev Inv-loop : tie.InvT-loop
+Inv-loop text at₀ n out₀ i₀ at out i = length out ≡ length out₀
+
+abbrev μ-loop : tie.MeasureT-loop
+μ-loop text at₀ n out₀ i₀ at out i = n - i
+
+loop-holds : tie.Need-loop-holds Inv-loop μ-loop
+loop-holds c = refl
+
+next-requires : tie.Need-next-requires Inv-loop μ-loop
+next-requires c κs = tt
+
+set-word-requires : tie.Need-set-word-requires Inv-loop μ-loop
+set-word-requires c κs = tt
+
+add-i : tie.Need-add-i Inv-loop μ-loop
+add-i c = omega arith
+
+loop-less : tie.Need-loop-less Inv-loop μ-loop
+loop-less c = omega arith
+
+loop-again : tie.Need-loop-again Inv-loop μ-loop
+loop-again c = search needs
+
+same-length : tie.Need-same-length Inv-loop μ-loop
+same-length c = c .before .loop .inv
+
+returns : tie.Need-returns Inv-loop μ-loop
+returns c = tt
+
+pub next-words-spec : {M : Type 1} → statement M
+next-words-spec =
+    tie.close
+    (tie.spec
+    Inv-loop
+    μ-loop
+    loop-holds
+    next-requires
+    set-word-requires
+    add-i
+    loop-less
+    loop-again
+    same-length
+    returns)
