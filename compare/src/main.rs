@@ -5,6 +5,7 @@
 #![feature(arbitrary_self_types)]
 #![allow(dead_code, unused_imports, clippy::all)]
 
+mod around;
 mod both;
 mod call;
 mod counted;
@@ -23,51 +24,10 @@ mod values;
 mod whole;
 mod worst;
 
+use around::{generating_function, ppl, semantics};
+
 mod number {
     include!(concat!(env!("OUT_DIR"), "/number.rs"));
-}
-mod ppl {
-    //! `Var` of src/ppl.rs: its number and its Display.
-    #[derive(Clone, Copy, Debug, PartialEq, Eq, Hash, PartialOrd, Ord)]
-    pub struct Var(pub usize);
-    impl Var {
-        pub fn id(&self) -> usize {
-            self.0
-        }
-    }
-    impl std::fmt::Display for Var {
-        fn fmt(&self, f: &mut std::fmt::Formatter<'_>) -> std::fmt::Result {
-            let i = self.0;
-            if i < 26 {
-                let var = ('a' as usize + i) as u8 as char;
-                write!(f, "{var}")
-            } else {
-                write!(f, "x_{i}")
-            }
-        }
-    }
-}
-mod generating_function {
-    pub fn factorial_moments_to_moments<T>(_: &[T]) -> (T, Vec<T>) {
-        unimplemented!()
-    }
-}
-mod semantics {
-    pub mod support {
-        pub struct Support;
-        impl Support {
-            pub fn is_discrete(&self) -> bool {
-                unimplemented!()
-            }
-        }
-        pub struct VarSupport;
-        impl std::ops::Index<crate::ppl::Var> for VarSupport {
-            type Output = Support;
-            fn index(&self, _: crate::ppl::Var) -> &Support {
-                unimplemented!()
-            }
-        }
-    }
 }
 mod univariate_taylor {
     include!(concat!(env!("OUT_DIR"), "/univariate_taylor.rs"));

@@ -10,29 +10,30 @@ pub const MAX: i64 = (1 << 53) - 1;
 #[derive(Clone, Copy, Debug, PartialEq)]
 pub struct Whole(pub i64);
 
-fn folded(z: i128) -> Whole {
-    if z.abs() > MAX as i128 {
-        refuse(12);
+#[inline]
+fn folded(z: Option<i64>) -> Whole {
+    match z {
+        Some(z) if z.unsigned_abs() <= MAX as u64 => Whole(z),
+        _ => refuse(12),
     }
-    Whole(z as i64)
 }
 
 impl Add for Whole {
     type Output = Self;
     fn add(self, o: Self) -> Self {
-        folded(self.0 as i128 + o.0 as i128)
+        folded(self.0.checked_add(o.0))
     }
 }
 impl Mul for Whole {
     type Output = Self;
     fn mul(self, o: Self) -> Self {
-        folded(self.0 as i128 * o.0 as i128)
+        folded(self.0.checked_mul(o.0))
     }
 }
 impl Neg for Whole {
     type Output = Self;
     fn neg(self) -> Self {
-        folded(-(self.0 as i128))
+        folded(self.0.checked_neg())
     }
 }
 impl Sub for Whole {
@@ -78,7 +79,7 @@ impl From<u32> for Whole {
 }
 impl fmt::Display for Whole {
     fn fmt(&self, f: &mut fmt::Formatter<'_>) -> fmt::Result {
-        write!(f, "{}", self.0)
+        fmt::Display::fmt(&self.0, f)
     }
 }
 impl Number for Whole {

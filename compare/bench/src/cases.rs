@@ -1,5 +1,5 @@
 //! The cases: each is run by the engine and by the Rust on the same input.
-use crate::double::Double;
+use crate::values::Double;
 use crate::engine::{Expansion, Pool, FILE_MAX, LIST, TEXT_MAX};
 use crate::number::Number;
 use crate::ppl::Var;

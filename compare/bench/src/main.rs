@@ -2,16 +2,28 @@
 //! Usage: bunlayog-bench [MILLISECONDS] | once SIDE OPERATION SIZE [RUNS] | cases | stack
 #![allow(dead_code, unused_imports, clippy::all)]
 
+#[path = "../../src/around.rs"]
+mod around;
 mod cases;
 mod checks;
-mod double;
 mod engine;
 mod original;
 mod stack;
 mod timing;
+#[path = "../../src/values.rs"]
+mod values;
+#[path = "../../src/whole.rs"]
 mod whole;
 
-use original::{generating_function, number, ppl, semantics, symbolic, univariate_taylor};
+/// A refusal: no case of the bench meets one.
+mod counted {
+    pub fn refuse(number: u32) -> ! {
+        panic!("refused by {number}")
+    }
+}
+
+use around::{generating_function, ppl, semantics};
+use original::{number, symbolic, univariate_taylor};
 
 use cases::{Side, OPERATIONS};
 use std::time::Duration;
