@@ -1,4 +1,4 @@
--- `engine::build::lit` meets its contract.
+-- `engine::leaf::lit` meets its contract.
 -- Assumes nothing.
 use borrow.Author.Needs.{needs}
 use mathlib.Core.Path.{_≡_, sym, ap, _∙_}
@@ -14,8 +14,8 @@ use Rattle.constructor_laws.proofs.Growth.{append-grows}
 use Rattle.engine.specs.Build.{litWork}
 use Rattle.lent.proofs.Calling.{met, broken, demanded, is-pool, sizes, on-lent, worked, appends}
 use Rattle.refusals.specs.Refusals.{notLiteral}
-use Rattle.engine.proofs.build.lit.Statement.{statement}
-use Rattle.engine.proofs.build.lit.Tie as tie
+use Rattle.engine.proofs.leaf.lit.Statement.{statement}
+use Rattle.engine.proofs.leaf.lit.Tie as tie
 
 take-in-requires : tie.Need-take-in-requires
 take-in-requires c κs = search needs

@@ -1,4 +1,4 @@
--- `engine::build::var` meets its contract: the pool and the number are looked at first, then one node is appended to the copies.
+-- `engine::leaf::var` meets its contract: the pool and the number are looked at first, then one node is appended to the copies.
 -- Assumes nothing.
 use borrow.Author.Needs.{needs}
 use mathlib.Core.Path.{_≡_, sym, ap, _∙_}
@@ -12,8 +12,8 @@ use Rattle.pool.specs.Pool.{append}
 use Rattle.constructor_laws.proofs.Growth.{append-grows}
 use Rattle.engine.specs.Build.{varWork}
 use Rattle.lent.proofs.Calling.{met, broken, demanded, is-pool, sizes, on-lent, worked, appends}
-use Rattle.engine.proofs.build.var.Statement.{statement}
-use Rattle.engine.proofs.build.var.Tie as tie
+use Rattle.engine.proofs.leaf.var.Statement.{statement}
+use Rattle.engine.proofs.leaf.var.Tie as tie
 
 take-in-requires : tie.Need-take-in-requires
 take-in-requires c κs = search needs
