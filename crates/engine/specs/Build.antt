@@ -1,11 +1,13 @@
 -- The constructors as calls from outside: what each demands of its arguments, and the work that it then does.
 -- Assumes nothing.
+use mathlib.Core.Bool.{Bool}
 use mathlib.Core.List.{[], _∷_}
 use Prim.Native.Nat.{ℕ}
 use lib.Dec.{leb}
 use lib.IntN.{ℤ}
 use Rattle.refusals.specs.Refusals.{unknownVariable, notLiteral}
 use Rattle.literal.specs.Literal.{isLiteral}
+use Rattle.pool.specs.declared.node.Node.{Node}
 use Rattle.pool.specs.declared.node.Node.the-variants.{Lit, Variable}
 use Rattle.pool.specs.Nodes.{greatestVariable}
 use Rattle.pool.specs.Pool.{Run, append}
@@ -16,13 +18,17 @@ use Rattle.engine.specs.declared.two.Two.the-variants as two
 use Rattle.engine.specs.declared.one.One.{One}
 use Rattle.engine.specs.declared.one.One.the-variants as one
 
--- a literal: 4, then the node
-abbrev pub litWork : ℤ → Run
-litWork z P = demand (isLiteral z) notLiteral (append (Lit z) P)
+-- a leaf: its own refusal, then the node
+abbrev pub leafWork : Bool → ℕ → Node → Run
+leafWork allowed k n P = demand allowed k (append n P)
 
--- a variable: 3, then the node
+-- a literal: 4
+abbrev pub litWork : ℤ → Run
+litWork z = leafWork (isLiteral z) notLiteral (Lit z)
+
+-- a variable: 3
 abbrev pub varWork : ℕ → Run
-varWork v P = demand (leb v greatestVariable) unknownVariable (append (Variable v) P)
+varWork v = leafWork (leb v greatestVariable) unknownVariable (Variable v)
 
 -- the constructors of two nodes
 abbrev pub twoWork : Two → ℕ → ℕ → Run

@@ -1,7 +1,7 @@
 -- `engine::one::on_one` meets its contract: the pool and the given numbers are looked at first, then the constructor works on the copies.
 -- Assumes nothing.
 use borrow.Author.Needs.{needs}
-use mathlib.Core.Path.{_≡_, sym, ap, _∙_}
+use mathlib.Core.Path.{sym, _∙_}
 use native.Mathlib.Omega.{arith}
 use borrow.Author.Tests.{not-true, not-false}
 use Rattle.refusals.specs.Refusals.{unknownNode}
@@ -55,7 +55,6 @@ cast-t20 c = search needs
 
 cast-one-in-2 : tie.Need-cast-one-in-2
 cast-one-in-2 c =
-    let op = c .before .before .before .before .before .before .before .before .before .before .before .before .before .args .op in
     let arg = c .before .before .before .before .before .before .before .before .before .before .before .before .before .args .arg in
     let taken = c .before .before .before .before .before .take-in .ensures in
     let pool-taken = not-false _ (c .before .before .before .before .if1 .left) in

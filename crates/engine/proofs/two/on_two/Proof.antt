@@ -1,7 +1,7 @@
 -- `engine::two::on_two` meets its contract: the pool and the given numbers are looked at first, then the constructor works on the copies.
 -- Assumes nothing.
 use borrow.Author.Needs.{needs}
-use mathlib.Core.Path.{_≡_, sym, ap, _∙_}
+use mathlib.Core.Path.{sym, _∙_}
 use native.Mathlib.Omega.{arith}
 use borrow.Author.Tests.{not-true, not-false}
 use Rattle.refusals.specs.Refusals.{unknownNode}
@@ -57,7 +57,6 @@ cast-two-in-2 c = search needs
 
 cast-two-in-3 : tie.Need-cast-two-in-3
 cast-two-in-3 c =
-    let op = c .before .before .before .before .before .before .before .before .before .before .before .before .before .args .op in
     let lhs = c .before .before .before .before .before .before .before .before .before .before .before .before .before .args .lhs in
     let rhs = c .before .before .before .before .before .before .before .before .before .before .before .before .before .args .rhs in
     let taken = c .before .before .before .before .before .take-in .ensures in
@@ -67,7 +66,6 @@ cast-two-in-3 c =
 
 cast-two-in-4 : tie.Need-cast-two-in-4
 cast-two-in-4 c =
-    let op = c .before .before .before .before .before .before .before .before .before .before .before .before .before .args .op in
     let lhs = c .before .before .before .before .before .before .before .before .before .before .before .before .before .args .lhs in
     let rhs = c .before .before .before .before .before .before .before .before .before .before .before .before .before .args .rhs in
     let taken = c .before .before .before .before .before .take-in .ensures in
