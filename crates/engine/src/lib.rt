@@ -1,13 +1,15 @@
 // The entry points: every operation of document 01, checked. These are the functions that other programs call.
-mod build;
+mod leaf;
+mod one;
+mod two;
 
-pub use build::add;
-pub use build::div;
-pub use build::exp;
-pub use build::lit;
-pub use build::log;
-pub use build::max;
-pub use build::mul;
-pub use build::neg;
-pub use build::pow;
-pub use build::var;
+pub use leaf::lit;
+pub use leaf::var;
+pub use one::exp;
+pub use one::log;
+pub use one::neg;
+pub use one::pow;
+pub use two::add;
+pub use two::div;
+pub use two::max;
+pub use two::mul;

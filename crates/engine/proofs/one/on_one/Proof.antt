@@ -1,18 +1,16 @@
--- `engine::build::exp` meets its contract: the pool and the given numbers are looked at first, then the constructor works on the copies.
+-- `engine::one::on_one` meets its contract: the pool and the given numbers are looked at first, then the constructor works on the copies.
 -- Assumes nothing.
 use borrow.Author.Needs.{needs}
-use mathlib.Core.Path.{_≡_, sym, ap, _∙_}
+use mathlib.Core.Path.{sym, _∙_}
 use native.Mathlib.Omega.{arith}
 use borrow.Author.Tests.{not-true, not-false}
-use mathlib.Core.List.{[], _∷_}
 use Rattle.refusals.specs.Refusals.{unknownNode}
-use Rattle.constructors.specs.Build.{calls, depth}
-use Rattle.constructor_laws.proofs.Growth.{calls-grow}
-use Rattle.lent.specs.Call.{givenNodes}
 use Rattle.lent.proofs.Finishing.{one-is-below}
 use Rattle.lent.proofs.Calling.{met, broken, demanded, is-pool, sizes, on-lent, worked, appends}
-use Rattle.engine.proofs.build.exp.Statement.{statement}
-use Rattle.engine.proofs.build.exp.Tie as tie
+use Rattle.engine.specs.Build.{oneWork, onOne}
+use Rattle.engine.proofs.Growing.{one-grows}
+use Rattle.engine.proofs.one.on_one.Statement.{statement}
+use Rattle.engine.proofs.one.on_one.Tie as tie
 
 take-in-requires : tie.Need-take-in-requires
 take-in-requires c κs = search needs
@@ -25,8 +23,9 @@ same-length-2 c = search needs
 
 returns : tie.Need-returns
 returns c =
+    let op = c .before .before .before .before .before .before .before .before .before .args .op in
     let arg = c .before .before .before .before .before .before .before .before .before .args .arg in
-    broken (c .before .take-in .ensures) (givenNodes (arg ∷ []) (calls depth .exp-at arg)) (not-true _ (c .if1 .taken))
+    broken (c .before .take-in .ensures) (onOne op arg) (not-true _ (c .if1 .taken))
 
 one-given-requires : tie.Need-one-given-requires
 one-given-requires c κs = search needs
@@ -39,38 +38,40 @@ same-length-4 c = search needs
 
 returns-2 : tie.Need-returns-2
 returns-2 c =
+    let op = c .before .before .before .before .before .before .before .before .before .before .before .args .op in
     let arg = c .before .before .before .before .before .before .before .before .before .before .before .args .arg in
     let taken = c .before .before .before .take-in .ensures in
     let pool-taken = not-false _ (c .before .before .if1 .left) in
-    demanded taken (givenNodes (arg ∷ []) (calls depth .exp-at arg)) pool-taken (rw (sym (c .before .one-given .ensures) ∙ not-true _ (c .if2 .taken)))
+    demanded taken (onOne op arg) pool-taken (rw (sym (c .before .one-given .ensures) ∙ not-true _ (c .if2 .taken)))
 
-cast-exp-in : tie.Need-cast-exp-in
-cast-exp-in c =
+cast-one-in : tie.Need-cast-one-in
+cast-one-in c =
     let taken = c .before .before .before .take-in .ensures in
     let pool-taken = not-false _ (c .before .before .if1 .left) in
     record { fits = omega (arith, sizes taken pool-taken .small) }
 
-cast-t19 : tie.Need-cast-t19
-cast-t19 c = search needs
+cast-t20 : tie.Need-cast-t20
+cast-t20 c = search needs
 
-cast-exp-in-2 : tie.Need-cast-exp-in-2
-cast-exp-in-2 c =
+cast-one-in-2 : tie.Need-cast-one-in-2
+cast-one-in-2 c =
     let arg = c .before .before .before .before .before .before .before .before .before .before .before .before .before .args .arg in
     let taken = c .before .before .before .before .before .take-in .ensures in
     let pool-taken = not-false _ (c .before .before .before .before .if1 .left) in
     let given = one-is-below (c .before .before .before .before .before .before .before .before .before .before .before .before .before .args .count .now) arg (sym (c .before .before .before .one-given .ensures) ∙ not-false _ (c .before .before .if2 .left)) in
     record { fits = omega (arith, given, sizes taken pool-taken .small) }
 
-exp-in-requires : tie.Need-exp-in-requires
-exp-in-requires c κs = search needs
+one-in-requires : tie.Need-one-in-requires
+one-in-requires c κs = search needs
 
 finish-requires : tie.Need-finish-requires
 finish-requires c κs =
+    let op = c .before .before .before .before .before .before .before .before .before .before .before .before .before .before .before .before .before .before .before .args .op in
     let arg = c .before .before .before .before .before .before .before .before .before .before .before .before .before .before .before .before .before .before .before .args .arg in
     let taken = c .before .before .before .before .before .before .before .before .before .before .before .take-in .ensures in
     let pool-taken = not-false _ (c .before .before .before .before .before .before .before .before .before .before .if1 .left) in
-    let run = calls depth .exp-at arg in
-    (is-pool taken pool-taken, appends (calls-grow depth .exp-at arg) (on-lent taken run pool-taken (c .before .before .before .before .before .exp-in .ensures)))
+    let run = oneWork op arg in
+    (is-pool taken pool-taken, appends (one-grows op arg) (on-lent taken run pool-taken (c .before .before .before .before .before .one-in .ensures)))
 
 same-length-5 : tie.Need-same-length-5
 same-length-5 c = search needs
@@ -80,15 +81,16 @@ same-length-6 c = search needs
 
 returns-3 : tie.Need-returns-3
 returns-3 c =
+    let op = c .before .before .before .before .before .before .before .before .before .before .before .before .before .before .before .before .before .before .before .before .before .before .before .before .args .op in
     let arg = c .before .before .before .before .before .before .before .before .before .before .before .before .before .before .before .before .before .before .before .before .before .before .before .before .args .arg in
     let taken = c .before .before .before .before .before .before .before .before .before .before .before .before .before .before .before .before .take-in .ensures in
     let pool-taken = not-false _ (c .before .before .before .before .before .before .before .before .before .before .before .before .before .before .before .if1 .left) in
-    let run = calls depth .exp-at arg in
+    let run = oneWork op arg in
     let given = sym (c .before .before .before .before .before .before .before .before .before .before .before .before .before .before .one-given .ensures) ∙ not-false _ (c .before .before .before .before .before .before .before .before .before .before .before .before .before .if2 .left) in
-    worked taken (givenNodes (arg ∷ []) run) pool-taken (c .before .before .before .before .finish .ensures) (on-lent taken run pool-taken (c .before .before .before .before .before .before .before .before .before .before .exp-in .ensures) ∙ met unknownNode given)
+    worked taken (onOne op arg) pool-taken (c .before .before .before .before .finish .ensures) (on-lent taken run pool-taken (c .before .before .before .before .before .before .before .before .before .before .one-in .ensures) ∙ met unknownNode given)
 
-pub exp-spec : {M : Type 1} → statement M
-exp-spec =
+pub on-one-spec : {M : Type 1} → statement M
+on-one-spec =
     tie.close
     (tie.spec
     take-in-requires
@@ -99,10 +101,10 @@ exp-spec =
     same-length-3
     same-length-4
     returns-2
-    cast-exp-in
-    cast-t19
-    cast-exp-in-2
-    exp-in-requires
+    cast-one-in
+    cast-t20
+    cast-one-in-2
+    one-in-requires
     finish-requires
     same-length-5
     same-length-6
