@@ -3,11 +3,11 @@
 use Prim.Native.Nat.{ℕ}
 use Rattle.constructors.specs.Build.{depth}
 use Rattle.constructor_laws.proofs.Growth.{Growing, calls-grow}
-use Rattle.engine.specs.Build.{twoWork, oneWork}
-use Rattle.engine.specs.declared.two.Two.{Two}
-use Rattle.engine.specs.declared.two.Two.the-variants as two
-use Rattle.engine.specs.declared.one.One.{One}
-use Rattle.engine.specs.declared.one.One.the-variants as one
+use Rattle.constructor_calls.specs.Calls.{twoWork, oneWork}
+use Rattle.constructor_calls.specs.declared.two.Two.{Two}
+use Rattle.constructor_calls.specs.declared.two.Two.the-variants as two
+use Rattle.constructor_calls.specs.declared.one.One.{One}
+use Rattle.constructor_calls.specs.declared.one.One.the-variants as one
 
 pub two-grows : (op : Two) (a b : ℕ) → Growing (twoWork op a b)
 two-grows two.Add a b = calls-grow depth .add-at a b

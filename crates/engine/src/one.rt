@@ -1,33 +1,14 @@
 // The constructors of one node.
 ghost use mathlib.Core.Path.{_≡_};
 ghost use mathlib.Core.List.{[], _∷_};
-ghost use Rattle.pool.specs.Made.{made, poolOf};
 ghost use Rattle.constructors.specs.Build.{calls, depth};
 ghost use Rattle.lent.specs.Call.{left, onPool, givenNodes};
-ghost use Rattle.engine.specs.Build.{oneWork, onOne};
-use constructors::DEPTH;
+ghost use Rattle.engine.specs.Build.{onOne};
+use constructor_calls::One;
+use constructor_calls::one_in;
 use lent::Answer;
 use pool::LIMIT;
-use pool::Made;
 use pool::Room;
-
-pub enum One {
-    Neg,
-    Exp,
-    Log,
-    Pow(u32),
-}
-
-fn one_in(kinds: &mut [u8; LIMIT], words: &mut [u64; LIMIT], room: Room, op: One, arg: u32) -> Made
-    ensures { λ r. ⌜ made r (now (kinds .exit)) (now (words .exit)) ≡ oneWork op arg (poolOf (now (kinds .entry)) (now (words .entry)) room) ⌝ }
-{
-    match op {
-        One::Neg => muls::neg_in(kinds, words, room, DEPTH, arg),
-        One::Exp => muls::exp_in(kinds, words, room, DEPTH, arg),
-        One::Log => logs::log_in(kinds, words, room, DEPTH, arg),
-        One::Pow(exponent) => muls::pow_in(kinds, words, room, DEPTH, arg, exponent),
-    }
-}
 
 // 1 and 2, then the work.
 fn on_one(kinds: &mut [u8], words: &mut [u64], count: &mut u64, op: One, arg: u64) -> Answer

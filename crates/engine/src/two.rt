@@ -1,40 +1,14 @@
 // The constructors of two nodes.
 ghost use mathlib.Core.Path.{_≡_};
 ghost use mathlib.Core.List.{[], _∷_};
-ghost use Rattle.pool.specs.Made.{made, poolOf};
 ghost use Rattle.constructors.specs.Build.{calls, depth};
 ghost use Rattle.lent.specs.Call.{left, onPool, givenNodes};
-ghost use Rattle.engine.specs.Build.{twoWork, onTwo};
-use constructors::DEPTH;
+ghost use Rattle.engine.specs.Build.{onTwo};
+use constructor_calls::Two;
+use constructor_calls::two_in;
 use lent::Answer;
 use pool::LIMIT;
-use pool::Made;
 use pool::Room;
-
-pub enum Two {
-    Add,
-    Mul,
-    Div,
-    Max,
-}
-
-fn two_in(
-    kinds: &mut [u8; LIMIT],
-    words: &mut [u64; LIMIT],
-    room: Room,
-    op: Two,
-    lhs: u32,
-    rhs: u32,
-) -> Made
-    ensures { λ r. ⌜ made r (now (kinds .exit)) (now (words .exit)) ≡ twoWork op lhs rhs (poolOf (now (kinds .entry)) (now (words .entry)) room) ⌝ }
-{
-    match op {
-        Two::Add => adds::add_in(kinds, words, room, DEPTH, lhs, rhs),
-        Two::Mul => muls::mul_in(kinds, words, room, DEPTH, lhs, rhs),
-        Two::Div => logs::div_in(kinds, words, room, DEPTH, lhs, rhs),
-        Two::Max => logs::max_in(kinds, words, room, DEPTH, lhs, rhs),
-    }
-}
 
 // 1 and 2, then the work.
 fn on_two(

@@ -6,62 +6,14 @@ ghost use Prim.Native.Nat.{ℕ};
 ghost use lib.Dec.{eqb};
 ghost use Rattle.pool.specs.Made.{made, poolOf};
 ghost use Rattle.walks.specs.Walk.{state, lifted};
-ghost use Rattle.substitute.specs.Rebuild.{callTwo, callOne, rebuildTwo, rebuildOne};
-use constructors::DEPTH;
+ghost use Rattle.substitute.specs.Rebuild.{rebuildTwo, rebuildOne};
+use constructor_calls::One;
+use constructor_calls::Two;
+use constructor_calls::one_in;
+use constructor_calls::two_in;
 use pool::LIMIT;
 use pool::Made;
 use pool::Room;
-
-// The kinds of nodes with two parts.
-pub enum Two {
-    Add,
-    Mul,
-    Div,
-    Max,
-}
-
-// The kinds of nodes with one part.
-pub enum One {
-    Exp,
-    Log,
-    Pow(u32),
-}
-
-// The constructor of two nodes.
-fn call_two(
-    kinds: &mut [u8; LIMIT],
-    words: &mut [u64; LIMIT],
-    room: Room,
-    op: Two,
-    lhs: u32,
-    rhs: u32,
-) -> Made
-    ensures { λ r. ⌜ made r (now (kinds .exit)) (now (words .exit)) ≡ callTwo op lhs rhs (poolOf (now (kinds .entry)) (now (words .entry)) room) ⌝ }
-{
-    match op {
-        Two::Add => adds::add_in(kinds, words, room, DEPTH, lhs, rhs),
-        Two::Mul => muls::mul_in(kinds, words, room, DEPTH, lhs, rhs),
-        Two::Div => logs::div_in(kinds, words, room, DEPTH, lhs, rhs),
-        Two::Max => logs::max_in(kinds, words, room, DEPTH, lhs, rhs),
-    }
-}
-
-// The constructor of one node.
-fn call_one(
-    kinds: &mut [u8; LIMIT],
-    words: &mut [u64; LIMIT],
-    room: Room,
-    op: One,
-    arg: u32,
-) -> Made
-    ensures { λ r. ⌜ made r (now (kinds .exit)) (now (words .exit)) ≡ callOne op arg (poolOf (now (kinds .entry)) (now (words .entry)) room) ⌝ }
-{
-    match op {
-        One::Exp => muls::exp_in(kinds, words, room, DEPTH, arg),
-        One::Log => logs::log_in(kinds, words, room, DEPTH, arg),
-        One::Pow(e) => muls::pow_in(kinds, words, room, DEPTH, arg, e),
-    }
-}
 
 // same_ref(a, a2) && same_ref(b, b2)
 fn same_parts(a: u32, b: u32, a2: u32, b2: u32) -> bool
@@ -90,7 +42,7 @@ pub fn rebuild_two(
     if same_parts(a, b, a2, b2) {
         return Made::Node { node: term, room };
     }
-    call_two(kinds, words, room, op, a2, b2)
+    two_in(kinds, words, room, op, a2, b2)
 }
 
 // A node of the part a, for which a2 is put.
@@ -108,5 +60,5 @@ pub fn rebuild_one(
     if a == a2 {
         return Made::Node { node: term, room };
     }
-    call_one(kinds, words, room, op, a2)
+    one_in(kinds, words, room, op, a2)
 }

@@ -7,7 +7,8 @@ use borrow.Author.Tests.{not-true, not-false}
 use Rattle.refusals.specs.Refusals.{unknownNode}
 use Rattle.lent.proofs.Finishing.{one-is-below}
 use Rattle.lent.proofs.Calling.{met, broken, demanded, is-pool, sizes, on-lent, worked, appends}
-use Rattle.engine.specs.Build.{oneWork, onOne}
+use Rattle.constructor_calls.specs.Calls.{oneWork}
+use Rattle.engine.specs.Build.{onOne}
 use Rattle.engine.proofs.Growing.{one-grows}
 use Rattle.engine.proofs.one.on_one.Statement.{statement}
 use Rattle.engine.proofs.one.on_one.Tie as tie

@@ -7,7 +7,8 @@ use borrow.Author.Tests.{not-true, not-false}
 use Rattle.refusals.specs.Refusals.{unknownNode}
 use Rattle.lent.proofs.Finishing.{both-are-below}
 use Rattle.lent.proofs.Calling.{met, broken, demanded, is-pool, sizes, on-lent, worked, appends}
-use Rattle.engine.specs.Build.{twoWork, onTwo}
+use Rattle.constructor_calls.specs.Calls.{twoWork}
+use Rattle.engine.specs.Build.{onTwo}
 use Rattle.engine.proofs.Growing.{two-grows}
 use Rattle.engine.proofs.two.on_two.Statement.{statement}
 use Rattle.engine.proofs.two.on_two.Tie as tie

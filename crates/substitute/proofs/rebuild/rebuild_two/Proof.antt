@@ -13,11 +13,11 @@ same-parts-requires c κs = search needs
 returns : tie.Need-returns
 returns c kept = unchanged _ _ _ (sym (c .before .same-parts .ensures) ∙ c .if1 .taken)
 
-call-two-requires : tie.Need-call-two-requires
-call-two-requires c κs = search needs
+two-in-requires : tie.Need-two-in-requires
+two-in-requires c κs = search needs
 
 returns-2 : tie.Need-returns-2
-returns-2 c kept = changed _ _ _ (sym (c .before .before .before .before .same-parts .ensures) ∙ c .before .before .before .if1 .left) (called kept (c .call-two .ensures))
+returns-2 c kept = changed _ _ _ (sym (c .before .before .before .before .same-parts .ensures) ∙ c .before .before .before .if1 .left) (called kept (c .two-in .ensures))
 
 pub rebuild-two-spec : {M : Type 1} → statement M
-rebuild-two-spec = tie.close (tie.spec same-parts-requires returns call-two-requires returns-2)
+rebuild-two-spec = tie.close (tie.spec same-parts-requires returns two-in-requires returns-2)

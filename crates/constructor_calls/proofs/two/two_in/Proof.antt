@@ -1,9 +1,8 @@
--- `call_two` calls the constructor of the kind, arm by arm.
+-- `constructor_calls::two::two_in` meets its contract: each arm is the clause of the definition.
 -- Assumes nothing.
 use borrow.Author.Needs.{needs}
-use Rattle.substitute.proofs.Rebuilt.{by-two}
-use Rattle.substitute.proofs.rebuild.call_two.Statement.{statement}
-use Rattle.substitute.proofs.rebuild.call_two.Tie as tie
+use Rattle.constructor_calls.proofs.two.two_in.Statement.{statement}
+use Rattle.constructor_calls.proofs.two.two_in.Tie as tie
 
 enum-told : tie.Need-enum-told
 enum-told c = search needs
@@ -30,19 +29,19 @@ max-in-requires : tie.Need-max-in-requires
 max-in-requires c κs = search needs
 
 returns : tie.Need-returns
-returns c = by-two _ _ _ (c .before .before .before .enum-told .given .1) (c .add-in .ensures)
+returns c = rw (c .before .before .before .enum-told .given .1) (c .add-in .ensures)
 
 returns-2 : tie.Need-returns-2
-returns-2 c = by-two _ _ _ (c .before .before .before .enum-told2 .given .1) (c .mul-in .ensures)
+returns-2 c = rw (c .before .before .before .enum-told2 .given .1) (c .mul-in .ensures)
 
 returns-3 : tie.Need-returns-3
-returns-3 c = by-two _ _ _ (c .before .before .before .enum-told3 .given .1) (c .div-in .ensures)
+returns-3 c = rw (c .before .before .before .enum-told3 .given .1) (c .div-in .ensures)
 
 returns-4 : tie.Need-returns-4
-returns-4 c = by-two _ _ _ (c .before .before .before .enum-told4 .given .1) (c .max-in .ensures)
+returns-4 c = rw (c .before .before .before .enum-told4 .given .1) (c .max-in .ensures)
 
-pub call-two-spec : {M : Type 1} → statement M
-call-two-spec =
+pub two-in-spec : {M : Type 1} → statement M
+two-in-spec =
     tie.close
     (tie.spec
     enum-told

@@ -1,8 +1,8 @@
--- `engine::one::one_in` meets its contract: each arm is the clause of the definition.
+-- `constructor_calls::one::one_in` meets its contract: each arm is the clause of the definition.
 -- Assumes nothing.
 use borrow.Author.Needs.{needs}
-use Rattle.engine.proofs.one.one_in.Statement.{statement}
-use Rattle.engine.proofs.one.one_in.Tie as tie
+use Rattle.constructor_calls.proofs.one.one_in.Statement.{statement}
+use Rattle.constructor_calls.proofs.one.one_in.Tie as tie
 
 enum-told : tie.Need-enum-told
 enum-told c = search needs
