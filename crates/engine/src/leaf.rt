@@ -1,10 +1,9 @@
 // The leaves: a literal and a variable.
 ghost use mathlib.Core.Path.{_≡_};
-ghost use lib.Dec.{leb};
-ghost use Rattle.pool.specs.Nodes.{greatestVariable};
 ghost use Rattle.lent.specs.Call.{left, onPool};
 ghost use Rattle.engine.specs.Build.{leafWork, litWork, varWork};
 use lent::Answer;
+use lent::is_variable;
 use pool::LIMIT;
 use pool::Node;
 use pool::Room;
@@ -44,13 +43,6 @@ pub fn lit(kinds: &mut [u8], words: &mut [u64], count: &mut u64, value: i64) -> 
     let allowed = literal::is_literal(value);
     let node = Node::Lit(value);
     on_leaf(kinds, words, count, allowed, refusals::NOT_LITERAL, node)
-}
-
-// Whether a variable number is given.
-fn is_variable(number: u64) -> bool
-    ensures { λ r. ⌜ r ≡ leb number greatestVariable ⌝ }
-{
-    number <= pool::VARIABLE_MAX
 }
 
 // A variable becomes a node. No node is made of a number that is refused: it may be too large for one.

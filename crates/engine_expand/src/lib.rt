@@ -1,33 +1,16 @@
 // `taylor_coeffs` and `taylor_coeffs_at` as calls from outside.
 ghost use mathlib.Core.Path.{_≡_};
-ghost use lib.Dec.{leb};
-ghost use Rattle.pool.specs.Nodes.{greatestVariable};
 ghost use Rattle.taylor.specs.Expand.{none, point};
 ghost use Rattle.expand.specs.Points.{pointOf};
 ghost use Rattle.lent_series.specs.Call.{left, onPool};
-ghost use Rattle.engine_expand.specs.Expressions.{isPoint, expandWork};
+ghost use Rattle.engine_expand.specs.Expressions.{expandWork};
 use expand::Point;
+use expand::is_point;
+use lent::is_variable;
 use lent_series::Outcome;
 use pool::LIMIT;
 use pool::Room;
 use taylor_base::TERMS;
-
-// Whether a variable number is one.
-fn is_variable(var: u64) -> bool
-    ensures { λ r. ⌜ r ≡ leb var greatestVariable ⌝ }
-{
-    var <= pool::VARIABLE_MAX
-}
-
-// Whether the point is a literal, if there is one.
-fn is_point(x: Point) -> bool
-    ensures { λ r. ⌜ r ≡ isPoint (pointOf x) ⌝ }
-{
-    match x {
-        Point::None => true,
-        Point::At(z) => literal::is_literal(z),
-    }
-}
 
 // 1 to 5, then the walk.
 fn on_expression(

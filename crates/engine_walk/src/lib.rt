@@ -1,19 +1,11 @@
 // Substitution and derivation as calls from outside.
 ghost use mathlib.Core.Path.{_≡_};
-ghost use lib.Dec.{leb};
-ghost use Rattle.pool.specs.Nodes.{greatestVariable};
 ghost use Rattle.lent.specs.Call.{left, onPool};
 ghost use Rattle.engine_walk.specs.Walks.{substituteWork, deriveWork};
 use lent::Answer;
+use lent::is_variable;
 use pool::LIMIT;
 use pool::Room;
-
-// Whether a variable number is one.
-fn is_variable(var: u64) -> bool
-    ensures { λ r. ⌜ r ≡ leb var greatestVariable ⌝ }
-{
-    var <= pool::VARIABLE_MAX
-}
 
 // `substitute_var`: the variable is replaced by a node.
 pub fn substitute_var(

@@ -2,7 +2,7 @@
 ghost use mathlib.Core.Path.{_≡_};
 ghost use Prim.Native.Nat.{_<_};
 ghost use Rattle.pool.specs.Made.{poolOf};
-ghost use Rattle.taylor.specs.Expand.{pointNode};
+ghost use Rattle.taylor.specs.Expand.{pointNode, isPoint};
 ghost use Rattle.taylor_base.specs.Answers.{terms, Answers, worked};
 ghost use Rattle.expand.specs.Points.{pointOf, variableWork};
 use pool::LIMIT;
@@ -16,6 +16,16 @@ use taylor_base::answer_of;
 pub enum Point {
     None,
     At(i64),
+}
+
+// Whether the point is a literal, if there is one.
+pub fn is_point(x: Point) -> bool
+    ensures { λ r. ⌜ r ≡ isPoint (pointOf x) ⌝ }
+{
+    match x {
+        Point::None => true,
+        Point::At(z) => literal::is_literal(z),
+    }
 }
 
 // What is asked of each node: its expansion in a variable, at a point, of an order.

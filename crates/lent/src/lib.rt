@@ -2,11 +2,12 @@
 ghost use mathlib.Core.Path.{_≡_};
 ghost use mathlib.Core.Bool.{true};
 ghost use mathlib.Core.List.{[], _∷_};
+ghost use lib.Dec.{leb};
 ghost use lib.ListN.{length};
 ghost use Prim.Native.Nat.{_≤_};
 ghost use Rattle.pool.specs.Pool.{limit, isPool};
 ghost use Rattle.pool.specs.Made.{made};
-ghost use Rattle.pool.specs.Nodes.{allBelow};
+ghost use Rattle.pool.specs.Nodes.{allBelow, greatestVariable};
 ghost use Rattle.constructor_laws.specs.Grown.{SameBut, Grows};
 ghost use Rattle.lent.specs.Lent.{TakenIn};
 ghost use Rattle.lent.specs.Call.{left, leaves, lentPool};
@@ -110,4 +111,11 @@ pub fn both_given(count: u64, lhs: u64, rhs: u64) -> bool
         return rhs < count;
     }
     false
+}
+
+// Whether a variable number is one.
+pub fn is_variable(var: u64) -> bool
+    ensures { λ r. ⌜ r ≡ leb var greatestVariable ⌝ }
+{
+    var <= pool::VARIABLE_MAX
 }

@@ -10,9 +10,8 @@ use borrow.Author.Tests.{le-leb, lt-leb, leb-true, leb-false}
 use Rattle.literal.specs.Literal.{greatest, isLiteral}
 use Rattle.literal.proofs.Sizes.{size-negation}
 use Rattle.pool.specs.Nodes.{greatestVariable}
-use Rattle.taylor.specs.Expand.{Point, none, point}
+use Rattle.taylor.specs.Expand.{Point, none, point, isPoint}
 use Rattle.taylor.specs.Expansion.{greatestOrder}
-use Rattle.sheet_text.specs.Sheet.{isPoint}
 use Rattle.sheet_line.specs.Cut.{cutAt, cut, cutSize, cutPlace, pointIn}
 
 pub cut-within : (n : ℕ) → cut n ≤ cutAt

@@ -8,10 +8,10 @@ use lib.Dec.{leb}
 use Rattle.refusals.specs.Refusals.{unknownVariable, notLiteral, wrongOrder}
 use Rattle.pool.specs.Nodes.{greatestVariable}
 use Rattle.shape.specs.File.{readFile}
-use Rattle.taylor.specs.Expand.{Point}
+use Rattle.taylor.specs.Expand.{Point, isPoint}
 use Rattle.sheet_text.specs.Line.{Line, usage, asks, parse}
 use Rattle.taylor.specs.Expansion.{greatestOrder}
-use Rattle.sheet_text.specs.Sheet.{demand, empty, expandRoot, isPoint, coefficients, sheetText, answerTo, sheet}
+use Rattle.sheet_text.specs.Sheet.{demand, empty, expandRoot, coefficients, sheetText, answerTo, sheet}
 use Rattle.sheet_line.specs.Cut.{cut, cutPlace, cutLine, pointIn, lineIn}
 use Rattle.sheet_line.proofs.Cutting.{same-variable-test, whole-variable, same-order-test, whole-order, same-point-test, whole-point}
 

@@ -24,14 +24,14 @@ use Rattle.lent.proofs.Finishing.{and-left, and-right}
 use Rattle.walks.specs.Print.{textOf, longestText}
 use Rattle.taylor.specs.Work.{Result, gives, refused-work, at}
 use Rattle.taylor.specs.Expansion.{Expansion, Constant, Polynomial, greatestOrder}
-use Rattle.taylor.specs.Expand.{Point, expand}
+use Rattle.taylor.specs.Expand.{Point, expand, isPoint}
 use Rattle.taylor_base.specs.Answers.{terms, listOf, shape, expansionOf, statusOf, Answers, Tidy}
 use Rattle.taylor_base.specs.declared.answer.Expanded.{Expanded}
 use Rattle.taylor_base.specs.declared.answer.Status.the-variants as status
 use Rattle.taylor_base.specs.declared.answer.Expansion as coded
 use Rattle.expand.specs.Points.{pointOf}
 use Rattle.expand.specs.declared.point.Point as place
-use Rattle.sheet_text.specs.Sheet.{Coefficients, texts, refusal, printed, printAll, coefficientsOf, coefficients, empty, expandRoot, isPoint, sheetText, linesFrom}
+use Rattle.sheet_text.specs.Sheet.{Coefficients, texts, refusal, printed, printAll, coefficientsOf, coefficients, empty, expandRoot, sheetText, linesFrom}
 use Rattle.sheet_page.specs.declared.first.Page.{Page}
 use Rattle.sheet_page.specs.declared.first.Verdict.{Verdict}
 use Rattle.sheet_page.specs.declared.first.Verdict.the-variants.{Usage, Refused, Lines}

@@ -6,9 +6,10 @@ ghost use Rattle.pool.specs.Pool.{nodeIn};
 ghost use Rattle.taylor_base.specs.Answers.{terms, Answers, Tidy};
 ghost use Rattle.expand.specs.Points.{pointOf};
 ghost use Rattle.shape.specs.File.{readFile};
-ghost use Rattle.sheet_text.specs.Sheet.{sheetText, coefficients, expandRoot, isPoint};
+ghost use Rattle.sheet_text.specs.Sheet.{sheetText, coefficients, expandRoot};
 ghost use Rattle.sheet_lines.specs.Prepared.{Blank, allShort, onlyPage, expandFile, fileCoefficients, Prepared};
 use expand::Point;
+use expand::is_point;
 use pool::LIMIT;
 use pool::Made;
 use pool::Room;
@@ -109,16 +110,6 @@ fn lines_of(
             }
         }
         Status::Refused(number) => only(Verdict::Refused(number)),
-    }
-}
-
-// Whether the point is a literal, if there is one.
-fn is_point(x: Point) -> bool
-    ensures { λ r. ⌜ r ≡ isPoint (pointOf x) ⌝ }
-{
-    match x {
-        Point::None => true,
-        Point::At(z) => literal::is_literal(z),
     }
 }
 

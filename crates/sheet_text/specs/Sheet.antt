@@ -7,7 +7,6 @@ use lib.Dec.{leb}
 use lib.IntN.{ℤ}
 use lib.ListN.{length, replicate}
 use Rattle.refusals.specs.Refusals.{unknownVariable, notLiteral, wrongOrder, noRoom}
-use Rattle.literal.specs.Literal.{isLiteral}
 use Rattle.text.specs.Text.{decimal, signedDecimal}
 use Rattle.pool.specs.Nodes.{greatestVariable}
 use Rattle.pool.specs.Pool.{Pool, pool, Out, done, refused, limit, nodeAt}
@@ -15,7 +14,7 @@ use Rattle.shape.specs.File.{readFile}
 use Rattle.walks.specs.Print.{textOf, longestText}
 use Rattle.taylor.specs.Work.{Result, gives, refused-work}
 use Rattle.taylor.specs.Expansion.{Expansion, Constant, Polynomial, greatestOrder}
-use Rattle.taylor.specs.Expand.{Point, none, point, expand}
+use Rattle.taylor.specs.Expand.{Point, none, point, isPoint, expand}
 use Rattle.sheet_text.specs.Line.{Line, usage, asks, parse}
 
 -- the texts of the coefficients, or a refusal number
@@ -49,10 +48,6 @@ empty = pool (replicate limit 0) (replicate limit 0) 0 limit
 abbrev pub expandRoot : ℕ → ℕ → Point → Out → Coefficients
 expandRoot v order x (done root P) = coefficientsOf (expand root v x order P)
 expandRoot v order x (refused k) = refusal k
-
-abbrev pub isPoint : Point → Bool
-isPoint none = true
-isPoint (point z) = isLiteral z
 
 -- "File and line then count as the arguments of one call, smallest number first": 3, 4, 5 of the line, 7, 8, 9 of the file, then the work
 unfoldable pub coefficients : List ℕ → ℕ → ℕ → Point → Coefficients

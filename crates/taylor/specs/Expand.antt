@@ -7,6 +7,7 @@ use lib.Dec.{eqb}
 use lib.IntN.{ℤ}
 use lib.ListN.{getD, set, replicate}
 use Rattle.refusals.specs.Refusals.{brokenPool, maxReached}
+use Rattle.literal.specs.Literal.{isLiteral}
 use Rattle.pool.specs.declared.node.Node.{Node}
 use Rattle.pool.specs.declared.node.Node.the-variants.{Empty, Variable, Lit, Add, Mul, Div, Exp, Log, Pow, Max}
 use Rattle.pool.specs.Pool.{Pool, limit, append, nodeAt}
@@ -69,6 +70,11 @@ choose false a b = b
 pub data Point : Type 0 where
   none : Point
   point : ℤ → Point
+
+-- 4. "A .. point is outside the literal range."
+abbrev pub isPoint : Point → Bool
+isPoint none = true
+isPoint (point z) = isLiteral z
 
 -- Some(x) => lit(x), None => var(var)
 abbrev pub pointNode : ℕ → Point → Work ℕ

@@ -1,12 +1,12 @@
--- `sheet_lines::answer::is_point` meets its contract: no point, or one that is a literal.
+-- `expand::point::is_point` meets its contract: no point, or one that is a literal.
 -- Assumes nothing.
 use mathlib.Core.Path.{ap, _∙_}
 use mir.Syntax.{w64}
 use mir.ValLaws.{toZ-ofZ}
 use borrow.Author.Needs.{needs}
 use Rattle.literal.specs.Literal.{isLiteral}
-use Rattle.sheet_lines.proofs.answer.is_point.Statement.{statement}
-use Rattle.sheet_lines.proofs.answer.is_point.Tie as tie
+use Rattle.expand.proofs.point.is_point.Statement.{statement}
+use Rattle.expand.proofs.point.is_point.Tie as tie
 
 enum-told : tie.Need-enum-told
 enum-told c = search needs
