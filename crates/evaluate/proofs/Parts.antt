@@ -5,14 +5,14 @@ use mathlib.Core.List.{List}
 use Prim.Native.Nat.{ℕ, _<_, _≤_}
 use lib.Ieee.{Float}
 use lib.ListN.{set}
-use borrow.Author.Tests.{eq-eqb, ne-eqb}
 use Rattle.refusals.specs.Refusals.{brokenPool}
 use Rattle.double.specs.declared.Valued.{Valued}
 use Rattle.double.specs.declared.Valued.the-variants.{Double, Refused}
 use Rattle.pool.specs.Pool.{limit, nodeIn}
 use Rattle.pool.specs.declared.node.Node.{Node}
 use Rattle.walks.specs.Evaluate.{one, evaluateNode, evaluateBelow, evaluate}
-use Rattle.walks.proofs.Bounded.{Bounded, below, above}
+use Rattle.walks.proofs.Bounded.{below, above}
+use Rattle.walks.proofs.Instances.{evaluation-is-bounded}
 use Rattle.walks.proofs.Tables.{limit-is-enough}
 use Rattle.walks.proofs.Keeping.{one-more-kept}
 use Rattle.evaluate.specs.Keeps.{Keeps}
@@ -30,22 +30,17 @@ pub with-part : {r p v : Valued} (next : Float → Valued) → r ≡ one p next 
 with-part next h e = h ∙ ap (λ (q : Valued). one q next) e
 
 module _ (at : ℕ → Node) (values : List Float) where
-  pub evaluation-is-bounded : Bounded (Refused brokenPool) (λ down k. evaluateNode values down (at k)) (evaluateBelow at values)
-  unfolding evaluateBelow
-  evaluation-is-bounded =
-      record { ends = λ i. refl; visits = λ k. rw (eq-eqb k k refl); passes = λ k i n. rw (ne-eqb i k n) }
-
   -- the value of a node is its value under any bound above it
   pub under-the-bound : {r : Valued} (k i : ℕ) → i < k → r ≡ evaluate at values i → r ≡ evaluateBelow at values k i
-  under-the-bound k i h e = e ∙ below evaluation-is-bounded k i h
+  under-the-bound k i h e = e ∙ below (evaluation-is-bounded at values) k i h
 
   pub past-the-bound : (k i : ℕ) → k ≤ i → Refused brokenPool ≡ evaluateBelow at values k i
-  past-the-bound k i h = above evaluation-is-bounded k i h
+  past-the-bound k i h = above (evaluation-is-bounded at values) k i h
 
   -- the node at i was read as n, which is the arm's
   pub visited : {r : Valued} {n arm : Node} (i : ℕ) → n ≡ at i → n ≡ arm → r ≡ evaluateNode values (evaluateBelow at values i) arm → r ≡ evaluate at values i
   visited i read told h =
-      h ∙ ap (evaluateNode values (evaluateBelow at values i)) (sym told ∙ read) ∙ sym (evaluation-is-bounded .visits i)
+      h ∙ ap (evaluateNode values (evaluateBelow at values i)) (sym told ∙ read) ∙ sym (evaluation-is-bounded at values .visits i)
 
   -- the value of a node that was visited: it is the one asked for, and may be kept
   pub newly-kept :

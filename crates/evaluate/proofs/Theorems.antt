@@ -10,7 +10,7 @@ use Rattle.pool.specs.declared.node.Node.{Node}
 use Rattle.pool.specs.declared.node.Node.the-variants.{Empty, Variable, Lit, Add, Mul, Div, Exp, Log, Pow, Max}
 use Rattle.walks.specs.Evaluate.{evaluateNode, evaluate}
 use Rattle.walks.proofs.Reached.{Reached, GoesByParts, agrees-on, agrees-on-reached, agrees-up-to}
-use Rattle.evaluate.proofs.Parts.{evaluation-is-bounded}
+use Rattle.walks.proofs.Instances.{evaluation-is-bounded}
 
 module _ (values : List Float) where
   pub goes-by-parts : GoesByParts (evaluateNode values)

@@ -21,7 +21,7 @@ use Rattle.pool.specs.declared.node.Node.the-variants.{Empty, Variable, Lit, Ad
 use Rattle.walks.specs.EvaluateResidue.{one, both, pick, residueNode, residueBelow}
 use Rattle.walks.proofs.Bounded.{throughout}
 use Rattle.evaluate_residue.specs.Residues.{Residues, Below}
-use Rattle.evaluate_residue.proofs.Parts.{residues-are-bounded}
+use Rattle.walks.proofs.Instances.{residues-are-bounded}
 
 module _ (m : ℕ) where
   one-below : (r : Divided) (next : ℕ → Divided) → ((x : ℕ) → Below m (next x)) → Below m (one r next)

@@ -4,14 +4,14 @@ use mathlib.Core.Path.{_≡_, refl, sym, ap, _∙_}
 use mathlib.Core.List.{List}
 use Prim.Native.Nat.{ℕ, _<_, _≤_}
 use lib.ListN.{set}
-use borrow.Author.Tests.{eq-eqb, ne-eqb}
 use Rattle.refusals.specs.Refusals.{brokenPool}
 use Rattle.residue.specs.declared.Divided.{Divided}
 use Rattle.residue.specs.declared.Divided.the-variants.{Residue, Refused}
 use Rattle.pool.specs.Pool.{limit, nodeIn}
 use Rattle.pool.specs.declared.node.Node.{Node}
 use Rattle.walks.specs.EvaluateResidue.{one, residueNode, residueBelow, evaluateResidue}
-use Rattle.walks.proofs.Bounded.{Bounded, below, above}
+use Rattle.walks.proofs.Bounded.{below, above}
+use Rattle.walks.proofs.Instances.{residues-are-bounded}
 use Rattle.walks.proofs.Tables.{limit-is-enough}
 use Rattle.walks.proofs.Keeping.{one-more-kept}
 use Rattle.evaluate_residue.specs.Residues.{Keeps}
@@ -29,22 +29,17 @@ pub with-part : {r p v : Divided} (next : ℕ → Divided) → r ≡ one p next 
 with-part next h e = h ∙ ap (λ (q : Divided). one q next) e
 
 module _ (m : ℕ) (at : ℕ → Node) (values : List ℕ) where
-  pub residues-are-bounded : Bounded (Refused brokenPool) (λ down k. residueNode m values down (at k)) (residueBelow m at values)
-  unfolding residueBelow
-  residues-are-bounded =
-      record { ends = λ i. refl; visits = λ k. rw (eq-eqb k k refl); passes = λ k i n. rw (ne-eqb i k n) }
-
   -- the residue of a node is its residue under any bound above it
   pub under-the-bound : {r : Divided} (k i : ℕ) → i < k → r ≡ evaluateResidue m at values i → r ≡ residueBelow m at values k i
-  under-the-bound k i h e = e ∙ below residues-are-bounded k i h
+  under-the-bound k i h e = e ∙ below (residues-are-bounded m at values) k i h
 
   pub past-the-bound : (k i : ℕ) → k ≤ i → Refused brokenPool ≡ residueBelow m at values k i
-  past-the-bound k i h = above residues-are-bounded k i h
+  past-the-bound k i h = above (residues-are-bounded m at values) k i h
 
   -- the node at i was read as n, which is the arm's
   pub visited : {r : Divided} {n arm : Node} (i : ℕ) → n ≡ at i → n ≡ arm → r ≡ residueNode m values (residueBelow m at values i) arm → r ≡ evaluateResidue m at values i
   visited i read told h =
-      h ∙ ap (residueNode m values (residueBelow m at values i)) (sym told ∙ read) ∙ sym (residues-are-bounded .visits i)
+      h ∙ ap (residueNode m values (residueBelow m at values i)) (sym told ∙ read) ∙ sym (residues-are-bounded m at values .visits i)
 
   -- the residue of a node that was visited: it is the one asked for, and may be kept
   pub newly-kept :

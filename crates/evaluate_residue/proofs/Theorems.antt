@@ -9,7 +9,7 @@ use Rattle.pool.specs.declared.node.Node.{Node}
 use Rattle.pool.specs.declared.node.Node.the-variants.{Empty, Variable, Lit, Add, Mul, Div, Exp, Log, Pow, Max}
 use Rattle.walks.specs.EvaluateResidue.{residueNode, evaluateResidue}
 use Rattle.walks.proofs.Reached.{Reached, GoesByParts, agrees-on, agrees-on-reached, agrees-up-to}
-use Rattle.evaluate_residue.proofs.Parts.{residues-are-bounded}
+use Rattle.walks.proofs.Instances.{residues-are-bounded}
 
 module _ (m : ℕ) (values : List ℕ) where
   pub goes-by-parts : GoesByParts (residueNode m values)

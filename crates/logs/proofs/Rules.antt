@@ -15,7 +15,8 @@ use Rattle.views.specs.Shapes.{shapeOf}
 use Rattle.views.specs.declared.Shape.{Shape}
 use Rattle.views.specs.declared.Shape.the-variants as shape
 use Rattle.views.proofs.Patterns.{litOf, lit-seen}
-use Rattle.adds.proofs.Parts.{kind, lit-missed, mul-missed}
+use Rattle.adds.proofs.Parts.{kind}
+use Rattle.views.proofs.Missed.{lit-missed, mul-missed}
 use Rattle.logs.specs.Rule.{guarded}
 
 -- every kind but Lit and Mul

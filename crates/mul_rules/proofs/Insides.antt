@@ -1,7 +1,7 @@
 -- The insides of the table's arms, at each of the code's answers.
 -- Assumes nothing.
-use mathlib.Core.Path.{_≡_, refl, sym, ap, _∙_}
-use mathlib.Core.Bool.{Bool, true, false}
+use mathlib.Core.Path.{_≡_, refl}
+use mathlib.Core.Bool.{true, false}
 use Prim.Native.Nat.{ℕ, _+_}
 use lib.Dec.{eqb}
 use lib.IntN.{ℤ, pos, _*ℤ_}
@@ -13,10 +13,6 @@ use Rattle.views.specs.Shapes.{shapeOf}
 use Rattle.views.specs.declared.Shape.the-variants as shape
 use Rattle.views.proofs.Patterns.{mul-seen, pow-seen}
 use Rattle.mul_rules.specs.Rules.{twoLits, oneLit, oneExp, twoExps, litsAhead, litAhead, twoPows}
-
--- a test that a function of the code makes
-pub tested : (test : ℤ → Bool) {r t : Bool} {x y : ℤ} → r ≡ test y → y ≡ x → r ≡ t → test x ≡ t
-tested test e i h = sym (ap test i) ∙ sym e ∙ h
 
 module _ (a b : ℤ) (lhs rhs : ℕ) where
   pub left-zero : isZero a ≡ true → return (lit (pos 0)) ≡ inside (twoLits a b lhs rhs)

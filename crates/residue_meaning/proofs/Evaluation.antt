@@ -8,8 +8,8 @@ use native.Mathlib.Nat.{mod-eq-of-lt, pow-zero, pow-suc}
 use native.Mathlib.Omega.{arith}
 use lib.Dec.{ltb}
 use lib.ListN.{length, getD}
-use borrow.Author.Tests.{eq-eqb, ne-eqb, ltb-true}
-use Rattle.refusals.specs.Refusals.{brokenPool, noValue, notEvaluated}
+use borrow.Author.Tests.{ltb-true}
+use Rattle.refusals.specs.Refusals.{noValue, notEvaluated}
 use Rattle.residue.specs.Residue.{residue, sumOf, productOf, powerOf, quotientOf}
 use Rattle.residue.specs.declared.Divided.{Divided}
 use Rattle.residue.specs.declared.Divided.the-variants.{Residue, Refused}
@@ -21,7 +21,8 @@ use Rattle.pool.specs.Nodes.{parts}
 use Rattle.pool.specs.Pool.{Pool, nodeAt}
 use Rattle.constructor_laws.specs.Keeps.{Keeps}
 use Rattle.walks.specs.EvaluateResidue.{one, both, pick, valueOfVariable, residueNode, residueBelow, evaluateResidue}
-use Rattle.walks.proofs.Bounded.{Bounded, below}
+use Rattle.walks.proofs.Bounded.{below}
+use Rattle.walks.proofs.Instances.{residues-are-bounded}
 use Rattle.meaning.specs.Model.{power}
 use Rattle.meaning.specs.Value.{Values, valueNode, value}
 use Rattle.meaning.proofs.Values.{Each, each-below, Falling, falling, value-law}
@@ -114,10 +115,6 @@ module _ (m : ℕ) (some : 2 ≤ m) (values : List ℕ) (small : (v : ℕ) → g
       power-number (f a) n ∙ ap (λ k. powerOf m k n) (h .0 (c .only) (c .came)) ∙ residue-inside (c .last)
   node-agrees down f (Max a b) h r e = not-refused (both-came (down a) (down b) (λ x y. Refused notEvaluated) r e .last)
 
-  bounded : (at : ℕ → Node) → Bounded (Refused brokenPool) (λ down k. residueNode m values down (at k)) (residueBelow m at values)
-  unfolding residueBelow
-  bounded at = record { ends = λ i. refl; visits = λ k. rw (eq-eqb k k refl); passes = λ k i n. rw (ne-eqb i k n) }
-
   agrees-below : (at : ℕ → Node) → Falling at → (k i : ℕ) → i < k → (r : ℕ) → evaluateResidue m at values i ≡ Residue r → value (residues m some) env at i .0 ≡ r
   agrees-below at falls zero i h r e = absurd (never i h)
     where
@@ -126,9 +123,9 @@ module _ (m : ℕ) (some : 2 ≤ m) (values : List ℕ) (small : (v : ℕ) → g
   agrees-below at falls (suc k) i h r e =
       ap (λ (a : Residues m). a .0) (value-law (residues m some) env at falls i)
       ∙ node-agrees (residueBelow m at values i) (value (residues m some) env at) (at i)
-      (each-below (parts (at i)) (falls i) (λ a l s q. agrees-below at falls k a (omega arith) s (below (bounded at) i a l ∙ q)))
+      (each-below (parts (at i)) (falls i) (λ a l s q. agrees-below at falls k a (omega arith) s (below (residues-are-bounded m at values) i a l ∙ q)))
       r
-      (sym (bounded at .visits i) ∙ e)
+      (sym (residues-are-bounded m at values .visits i) ∙ e)
 
   -- an accepted evaluation by residues gives the value in the algebra of residues
   pub residue-is-value : {P : Pool} → Keeps P → (root r : ℕ) → evaluateResidue m (nodeAt P) values root ≡ Residue r → value (residues m some) (fromTable m some values) (nodeAt P) root .0 ≡ r

@@ -1,26 +1,22 @@
 -- Values and texts go by the shape of an expression alone: a bounded walk gives one answer at paired nodes of two tables, by induction on the node's number, because parts fall on both sides.
 -- Assumes nothing.
 use mathlib.Core.Path.{_≡_, refl, sym, ap, _∙_, subst⁻¹, fun-ext}
-use mathlib.Core.Bool.{true, false}
+use mathlib.Core.Bool.{true}
 use mathlib.Core.List.{List, [], _∷_}
 use Prim.Native.Nat.{ℕ, zero, suc, _<_}
 use native.Mathlib.Nat.{not-suc-le-zero}
 use native.Mathlib.Omega.{arith}
-use lib.Dec.{ltb}
 use lib.Ieee.{Float}
 use lib.ListN.{getD}
-use borrow.Author.Tests.{eq-eqb, ne-eqb}
-use Rattle.refusals.specs.Refusals.{brokenPool}
-use Rattle.double.specs.declared.Valued.the-variants as valued
-use Rattle.residue.specs.declared.Divided.the-variants as divided
 use Rattle.pool.specs.Nodes.{parts}
 use Rattle.pool.specs.Pool.{Pool, nodeAt}
 use Rattle.pool.specs.declared.node.Node.{Node}
 use Rattle.pool.specs.declared.node.Node.the-variants.{Empty, Variable, Lit, Add, Mul, Div, Exp, Log, Pow, Max}
-use Rattle.walks.specs.Evaluate.{evaluateNode, evaluateBelow, evaluate}
-use Rattle.walks.specs.EvaluateResidue.{residueNode, residueBelow, evaluateResidue}
-use Rattle.walks.specs.Print.{precedence, bracketed, nodeText, textBelow, textOf, nodeHasMax, hasMaxBelow, hasMax}
+use Rattle.walks.specs.Evaluate.{evaluateNode, evaluate}
+use Rattle.walks.specs.EvaluateResidue.{residueNode, evaluateResidue}
+use Rattle.walks.specs.Print.{textOf, nodeHasMax, hasMax}
 use Rattle.walks.proofs.Bounded.{Bounded, below}
+use Rattle.walks.proofs.Instances.{textNode, evaluation-is-bounded, residues-are-bounded, text-is-bounded, max-is-bounded}
 use Rattle.shape.specs.Shape.{rename, has, Reach, root, part, OneShape}
 use Rattle.shape.specs.Walked.{Falls}
 use Rattle.shape.specs.Demand.{KeepsRules, SameShape}
@@ -93,10 +89,6 @@ module _ (values : List Float) where
   value-by-shape f down down′ (Pow a e) same = rw (first a [] same)
   value-by-shape f down down′ (Max a b) same = rw (first a (b ∷ []) same, second a b same)
 
-  value-bounded : (at : ℕ → Node) → Bounded (valued.Refused brokenPool) (λ down k. evaluateNode values down (at k)) (evaluateBelow at values)
-  unfolding evaluateBelow
-  value-bounded at = record { ends = λ i. refl; visits = λ k. rw (eq-eqb k k refl); passes = λ k i n. rw (ne-eqb i k n) }
-
 module _ (m : ℕ) (values : List ℕ) where
   residue-by-shape : GoesByShape (residueNode m values)
   residue-by-shape f down down′ Empty same = refl
@@ -110,14 +102,6 @@ module _ (m : ℕ) (values : List ℕ) where
   residue-by-shape f down down′ (Pow a e) same = rw (first a [] same)
   residue-by-shape f down down′ (Max a b) same = rw (first a (b ∷ []) same, second a b same)
 
-  residue-bounded : (at : ℕ → Node) → Bounded (divided.Refused brokenPool) (λ down k. residueNode m values down (at k)) (residueBelow m at values)
-  unfolding residueBelow
-  residue-bounded at = record { ends = λ i. refl; visits = λ k. rw (eq-eqb k k refl); passes = λ k i n. rw (ne-eqb i k n) }
-
--- a text is a walk whose answer waits for the precedence around it
-abbrev textNode : (ℕ → ℕ → List ℕ) → Node → ℕ → List ℕ
-textNode down n parent = bracketed (ltb (precedence n) parent) (nodeText (λ around a. down a around) n)
-
 text-by-shape : GoesByShape textNode
 text-by-shape f down down′ Empty same = refl
 text-by-shape f down down′ (Variable v) same = refl
@@ -129,15 +113,6 @@ text-by-shape f down down′ (Exp a) same = fun-ext (λ parent. rw (first a [] s
 text-by-shape f down down′ (Log a) same = fun-ext (λ parent. rw (first a [] same))
 text-by-shape f down down′ (Pow a e) same = fun-ext (λ parent. rw (first a [] same))
 text-by-shape f down down′ (Max a b) same = refl
-
-text-bounded : (at : ℕ → Node) → Bounded (λ parent. []) (λ down k. textNode down (at k)) (λ k i parent. textBelow at k parent i)
-unfolding textBelow
-text-bounded at =
-    record {
-      ends = λ i. refl;
-      visits = λ k. fun-ext (λ parent. rw (eq-eqb k k refl));
-      passes = λ k i n. fun-ext (λ parent. rw (ne-eqb i k n));
-    }
 
 max-by-shape : GoesByShape nodeHasMax
 max-by-shape f down down′ Empty same = refl
@@ -151,26 +126,22 @@ max-by-shape f down down′ (Log a) same = first a [] same
 max-by-shape f down down′ (Pow a e) same = first a [] same
 max-by-shape f down down′ (Max a b) same = refl
 
-max-bounded : (at : ℕ → Node) → Bounded false (λ down k. nodeHasMax down (at k)) (hasMaxBelow at)
-unfolding hasMaxBelow
-max-bounded at = record { ends = λ i. refl; visits = λ k. rw (eq-eqb k k refl); passes = λ k i n. rw (ne-eqb i k n) }
-
 -- two tables whose parts fall, and two roots of one shape
 module _ (p q : ℕ → Node) (falls : Falls p) (falls′ : Falls q) (r s : ℕ) (shape : OneShape p (r ∷ []) q (s ∷ [])) where
   pub one-shape-one-value : (values : List Float) → evaluate p values r ≡ evaluate q values s
   one-shape-one-value values =
-      at-the-root (value-by-shape values) (value-bounded values p) (value-bounded values q) falls falls′ r s shape
+      at-the-root (value-by-shape values) (evaluation-is-bounded p values) (evaluation-is-bounded q values) falls falls′ r s shape
 
   pub one-shape-one-residue : (m : ℕ) (values : List ℕ) → evaluateResidue m p values r ≡ evaluateResidue m q values s
   one-shape-one-residue m values =
-      at-the-root (residue-by-shape m values) (residue-bounded m values p) (residue-bounded m values q) falls falls′ r s shape
+      at-the-root (residue-by-shape m values) (residues-are-bounded m p values) (residues-are-bounded m q values) falls falls′ r s shape
 
   pub one-shape-one-text : textOf p r ≡ textOf q s
   one-shape-one-text =
-      ap (λ text. text 0) (at-the-root text-by-shape (text-bounded p) (text-bounded q) falls falls′ r s shape)
+      ap (λ text. text 0) (at-the-root text-by-shape (text-is-bounded p) (text-is-bounded q) falls falls′ r s shape)
 
   pub one-shape-one-max : hasMax p r ≡ hasMax q s
-  one-shape-one-max = at-the-root max-by-shape (max-bounded p) (max-bounded q) falls falls′ r s shape
+  one-shape-one-max = at-the-root max-by-shape (max-is-bounded p) (max-is-bounded q) falls falls′ r s shape
 
 -- two pools that keep the rules: there parts fall
 module _ (P Q : Pool) (keeps : KeepsRules P) (keeps′ : KeepsRules Q) (r s : ℕ) (shape : SameShape P r Q s) where

@@ -1,10 +1,11 @@
--- What a `_` arm over the shapes tells: the patterns of the arms before it do not match. A list of keys stands for the shapes that are left.
+-- What a `_` arm over the shapes tells, and a test of a literal: the patterns of the arms before it do not match. A list of keys stands for the shapes that are left.
 -- Assumes nothing.
 use mathlib.Core.Path.{_≡_, refl, sym, ap, _∙_}
-use mathlib.Core.Bool.{not}
+use mathlib.Core.Bool.{Bool, not}
 use mathlib.Core.List.{List}
 use Prim.Native.Nat.{ℕ}
 use lib.Dec.{T}
+use lib.IntN.{ℤ}
 use mir.Val.{hasKey}
 use types.Run.{OneOf, miss}
 use denote.Enum.Declared.{tagOf}
@@ -72,3 +73,7 @@ module _ (n : Node) {s : Shape} (e : s ≡ shapeOf n) (keys : List ℕ) where
 
   pub pow-missed : T (not (hasKey keys 4)) → OneOf keys (tagOf the-type s) → powIn n ≡ skip
   pow-missed h k = pow-seen n ∙ ap powOf (sym e) ∙ no-pow s keys h k
+
+-- a test of the number y, which is z, gave r, and r came out as b
+pub tested : (test : ℤ → Bool) {y z : ℤ} {r b : Bool} → y ≡ z → r ≡ test y → r ≡ b → test z ≡ b
+tested test e h k = sym (ap test e) ∙ sym h ∙ k

@@ -1,4 +1,5 @@
 pub mod Bounded
+pub mod Instances
 pub mod Reached
 pub mod Tables
 pub mod Keeping

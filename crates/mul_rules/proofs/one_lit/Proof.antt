@@ -10,8 +10,8 @@ use mir.ValLaws.{toZ-ofZ}
 use Rattle.pool.specs.Pool.{nodeIn}
 use Rattle.literal.specs.Literal.{isZero, isOne}
 use Rattle.mul_rules.specs.Rules.{litArm}
-use Rattle.views.proofs.Missed.{mul-missed}
-use Rattle.mul_rules.proofs.Insides.{tested, is-zero, is-one, no-product, no-factor, scaled}
+use Rattle.views.proofs.Missed.{mul-missed, tested}
+use Rattle.mul_rules.proofs.Insides.{is-zero, is-one, no-product, no-factor, scaled}
 use Rattle.mul_rules.proofs.one_lit.Statement.{statement}
 use Rattle.mul_rules.proofs.one_lit.Tie as tie
 
@@ -24,7 +24,7 @@ returns c =
     let at = nodeIn (now (start .args .kinds)) (now (start .args .words)) in
     let a = start .args .a in
     let ea : toZ w64 (ofZ w64 a) ≡ a = toZ-ofZ w64 a (start .fits .a) in
-    is-zero at a (start .args .other) (tested isZero (c .before .is-zero .ensures) ea (c .if1 .taken))
+    is-zero at a (start .args .other) (tested isZero ea (c .before .is-zero .ensures) (c .if1 .taken))
 
 is-one-requires : tie.Need-is-one-requires
 is-one-requires c κs = search needs
@@ -36,8 +36,8 @@ returns-2 c =
     let a = start .args .a in
     let ea : toZ w64 (ofZ w64 a) ≡ a = toZ-ofZ w64 a (start .fits .a) in
     is-one at a (start .args .other)
-    (tested isZero (c .before .before .before .is-zero .ensures) ea (c .before .before .if1 .left))
-    (tested isOne (c .before .is-one .ensures) ea (c .if2 .taken))
+    (tested isZero ea (c .before .before .before .is-zero .ensures) (c .before .before .if1 .left))
+    (tested isOne ea (c .before .is-one .ensures) (c .if2 .taken))
 
 shape-at-requires : tie.Need-shape-at-requires
 shape-at-requires c κs = search needs
@@ -53,8 +53,8 @@ returns-3 c =
     let ea : toZ w64 (ofZ w64 a) ≡ a = toZ-ofZ w64 a (start .fits .a) in
     let other = start .args .other in
     no-product at a other
-    (tested isZero (c .before .before .before .before .before .is-zero .ensures) ea (c .before .before .before .before .if1 .left))
-    (tested isOne (c .before .before .before .is-one .ensures) ea (c .before .before .if2 .left))
+    (tested isZero ea (c .before .before .before .before .before .is-zero .ensures) (c .before .before .before .before .if1 .left))
+    (tested isOne ea (c .before .before .before .is-one .ensures) (c .before .before .if2 .left))
     (mul-missed (at other) (c .before .shape-at .ensures) (0 ∷ 1 ∷ 3 ∷ 4 ∷ 5 ∷ []) tt (c .match .keys2))
 
 lit-at-requires : tie.Need-lit-at-requires
@@ -73,8 +73,8 @@ returns-4 c =
     let a = start .args .a in
     let ea : toZ w64 (ofZ w64 a) ≡ a = toZ-ofZ w64 a (start .fits .a) in
     no-factor at a (start .args .other)
-    (tested isZero (c .before .before .before .before .before .before .before .before .before .before .is-zero .ensures) ea (c .before .before .before .before .before .before .before .before .before .if1 .left))
-    (tested isOne (c .before .before .before .before .before .before .before .before .is-one .ensures) ea (c .before .before .before .before .before .before .before .if2 .left))
+    (tested isZero ea (c .before .before .before .before .before .before .before .before .before .before .is-zero .ensures) (c .before .before .before .before .before .before .before .before .before .if1 .left))
+    (tested isOne ea (c .before .before .before .before .before .before .before .before .is-one .ensures) (c .before .before .before .before .before .before .before .if2 .left))
     (sym (c .before .before .before .before .before .before .shape-at .ensures) ∙ c .before .before .before .before .b1 .given .1)
     (sym (c .before .before .lit-at .ensures) ∙ ap litArm (c .enum-told .given .1))
 
@@ -87,7 +87,7 @@ returns-5 c =
     let b = c .before .b .given .0 .0 in
     let eb : toZ w64 (ofZ w64 b) ≡ b = toZ-ofZ w64 b (record { sfits = c .known-told2 .given .0 .1 }) in
     rw (ea, eb)
-    (scaled at a (start .args .other) (tested isZero (c .before .before .before .before .before .before .before .before .before .before .before .is-zero .ensures) ea (c .before .before .before .before .before .before .before .before .before .before .if1 .left)) (tested isOne (c .before .before .before .before .before .before .before .before .before .is-one .ensures) ea (c .before .before .before .before .before .before .before .before .if2 .left)) (sym (c .before .before .before .before .before .before .before .shape-at .ensures) ∙ c .before .before .before .before .before .b1 .given .1) (sym (c .before .before .before .lit-at .ensures) ∙ ap litArm (c .before .b .given .1)))
+    (scaled at a (start .args .other) (tested isZero ea (c .before .before .before .before .before .before .before .before .before .before .before .is-zero .ensures) (c .before .before .before .before .before .before .before .before .before .before .if1 .left)) (tested isOne ea (c .before .before .before .before .before .before .before .before .before .is-one .ensures) (c .before .before .before .before .before .before .before .before .if2 .left)) (sym (c .before .before .before .before .before .before .before .shape-at .ensures) ∙ c .before .before .before .before .before .b1 .given .1) (sym (c .before .before .before .lit-at .ensures) ∙ ap litArm (c .before .b .given .1)))
 
 pub one-lit-spec : {M : Type 1} → statement M
 one-lit-spec =

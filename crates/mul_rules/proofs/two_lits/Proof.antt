@@ -6,7 +6,8 @@ use mir.Syntax.{w64}
 use mir.Val.{toZ, ofZ}
 use mir.ValLaws.{toZ-ofZ}
 use Rattle.literal.specs.Literal.{isZero, isOne}
-use Rattle.mul_rules.proofs.Insides.{tested, left-zero, right-zero, left-one, right-one, both-others}
+use Rattle.views.proofs.Missed.{tested}
+use Rattle.mul_rules.proofs.Insides.{left-zero, right-zero, left-one, right-one, both-others}
 use Rattle.mul_rules.proofs.two_lits.Statement.{statement}
 use Rattle.mul_rules.proofs.two_lits.Tie as tie
 
@@ -20,7 +21,7 @@ returns c =
     let ea : toZ w64 (ofZ w64 a) ≡ a = toZ-ofZ w64 a (start .fits .a) in
     let b = start .args .b in
     let eb : toZ w64 (ofZ w64 b) ≡ b = toZ-ofZ w64 b (start .fits .b) in
-    left-zero a b _ _ (tested isZero (c .before .is-zero .ensures) ea (c .if1 .taken))
+    left-zero a b _ _ (tested isZero ea (c .before .is-zero .ensures) (c .if1 .taken))
 
 is-zero-requires-2 : tie.Need-is-zero-requires-2
 is-zero-requires-2 c κs = search needs
@@ -33,8 +34,8 @@ returns-2 c =
     let b = start .args .b in
     let eb : toZ w64 (ofZ w64 b) ≡ b = toZ-ofZ w64 b (start .fits .b) in
     right-zero a b _ _
-    (tested isZero (c .before .before .before .is-zero .ensures) ea (c .before .before .if1 .left))
-    (tested isZero (c .before .is-zero2 .ensures) eb (c .if2 .taken))
+    (tested isZero ea (c .before .before .before .is-zero .ensures) (c .before .before .if1 .left))
+    (tested isZero eb (c .before .is-zero2 .ensures) (c .if2 .taken))
 
 is-one-requires : tie.Need-is-one-requires
 is-one-requires c κs = search needs
@@ -47,9 +48,9 @@ returns-3 c =
     let b = start .args .b in
     let eb : toZ w64 (ofZ w64 b) ≡ b = toZ-ofZ w64 b (start .fits .b) in
     left-one a b _ _
-    (tested isZero (c .before .before .before .before .before .is-zero .ensures) ea (c .before .before .before .before .if1 .left))
-    (tested isZero (c .before .before .before .is-zero2 .ensures) eb (c .before .before .if2 .left))
-    (tested isOne (c .before .is-one .ensures) ea (c .if3 .taken))
+    (tested isZero ea (c .before .before .before .before .before .is-zero .ensures) (c .before .before .before .before .if1 .left))
+    (tested isZero eb (c .before .before .before .is-zero2 .ensures) (c .before .before .if2 .left))
+    (tested isOne ea (c .before .is-one .ensures) (c .if3 .taken))
 
 is-one-requires-2 : tie.Need-is-one-requires-2
 is-one-requires-2 c κs = search needs
@@ -62,10 +63,10 @@ returns-4 c =
     let b = start .args .b in
     let eb : toZ w64 (ofZ w64 b) ≡ b = toZ-ofZ w64 b (start .fits .b) in
     right-one a b _ _
-    (tested isZero (c .before .before .before .before .before .before .before .is-zero .ensures) ea (c .before .before .before .before .before .before .if1 .left))
-    (tested isZero (c .before .before .before .before .before .is-zero2 .ensures) eb (c .before .before .before .before .if2 .left))
-    (tested isOne (c .before .before .before .is-one .ensures) ea (c .before .before .if3 .left))
-    (tested isOne (c .before .is-one2 .ensures) eb (c .if4 .taken))
+    (tested isZero ea (c .before .before .before .before .before .before .before .is-zero .ensures) (c .before .before .before .before .before .before .if1 .left))
+    (tested isZero eb (c .before .before .before .before .before .is-zero2 .ensures) (c .before .before .before .before .if2 .left))
+    (tested isOne ea (c .before .before .before .is-one .ensures) (c .before .before .if3 .left))
+    (tested isOne eb (c .before .is-one2 .ensures) (c .if4 .taken))
 
 returns-5 : tie.Need-returns-5
 returns-5 c =
@@ -75,7 +76,7 @@ returns-5 c =
     let b = start .args .b in
     let eb : toZ w64 (ofZ w64 b) ≡ b = toZ-ofZ w64 b (start .fits .b) in
     rw (ea, eb)
-    (both-others a b _ _ (tested isZero (c .before .before .before .before .before .before .before .is-zero .ensures) ea (c .before .before .before .before .before .before .if1 .left)) (tested isZero (c .before .before .before .before .before .is-zero2 .ensures) eb (c .before .before .before .before .if2 .left)) (tested isOne (c .before .before .before .is-one .ensures) ea (c .before .before .if3 .left)) (tested isOne (c .before .is-one2 .ensures) eb (c .if4 .left)))
+    (both-others a b _ _ (tested isZero ea (c .before .before .before .before .before .before .before .is-zero .ensures) (c .before .before .before .before .before .before .if1 .left)) (tested isZero eb (c .before .before .before .before .before .is-zero2 .ensures) (c .before .before .before .before .if2 .left)) (tested isOne ea (c .before .before .before .is-one .ensures) (c .before .before .if3 .left)) (tested isOne eb (c .before .is-one2 .ensures) (c .if4 .left)))
 
 pub two-lits-spec : {M : Type 1} → statement M
 two-lits-spec =

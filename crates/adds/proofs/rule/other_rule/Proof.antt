@@ -8,7 +8,8 @@ use mir.ValLaws.{toZ-ofZ}
 use denote.Ref.{now}
 use Rattle.literal.specs.Literal.{isZero}
 use Rattle.pool.specs.Pool.{nodeIn}
-use Rattle.adds.proofs.Parts.{lit-found, no-lit-found, tested}
+use Rattle.adds.proofs.Parts.{lit-found, no-lit-found}
+use Rattle.views.proofs.Missed.{tested}
 use Rattle.adds.proofs.Rules.{zero-on-right, beside-lit, beside}
 use Rattle.adds.proofs.rule.other_rule.Statement.{statement}
 use Rattle.adds.proofs.rule.other_rule.Tie as tie

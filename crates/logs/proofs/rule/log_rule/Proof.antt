@@ -8,7 +8,8 @@ use mir.ValLaws.{toZ-ofZ}
 use denote.Ref.{now}
 use Rattle.literal.specs.Literal.{isOne}
 use Rattle.pool.specs.Pool.{nodeIn}
-use Rattle.adds.proofs.Parts.{lit-found, mul-found, no-lit-found, tested}
+use Rattle.adds.proofs.Parts.{lit-found, mul-found, no-lit-found}
+use Rattle.views.proofs.Missed.{tested}
 use Rattle.logs.proofs.Rules.{neither-found, log-of-one, log-of-lit, log-of-product, log-beside-product, log-beside}
 use Rattle.logs.proofs.rule.log_rule.Statement.{statement}
 use Rattle.logs.proofs.rule.log_rule.Tie as tie

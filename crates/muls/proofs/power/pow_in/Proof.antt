@@ -11,9 +11,9 @@ use borrow.Author.Tests.{eq-eqb, ne-eqb}
 use Rattle.pool.specs.Pool.{nodeIn}
 use Rattle.literal.specs.Literal.{isZero, isOne}
 use Rattle.constructors.specs.Build.{build}
-use Rattle.views.proofs.Missed.{lit-missed}
+use Rattle.views.proofs.Missed.{lit-missed, tested}
 use Rattle.views.proofs.Steps.{runs-deeper}
-use Rattle.adds.proofs.Parts.{lit-found, tested}
+use Rattle.adds.proofs.Parts.{lit-found}
 use Rattle.adds.proofs.Runs.{none-left, literal-made}
 use Rattle.muls.proofs.Runs.{built}
 use Rattle.muls.proofs.Tables.{power-zero, power-one, power-of-other, power-of-zero, power-of-one, power-of-lit}

@@ -10,8 +10,7 @@ use mir.ValLaws.{toZ-ofZ}
 use Rattle.pool.specs.Pool.{nodeIn}
 use Rattle.literal.specs.Literal.{isZero}
 use Rattle.constructors.specs.Terms.{lit-exp, mul, exp, #}
-use Rattle.views.proofs.Missed.{lit-missed, add-missed}
-use Rattle.adds.proofs.Parts.{tested}
+use Rattle.views.proofs.Missed.{lit-missed, add-missed, tested}
 use Rattle.muls.proofs.Tables.{exp-of-zero, exp-of-lit, exp-of-shifted, exp-of-sum, exp-of-other}
 use Rattle.muls.proofs.rule.exp_rule.Statement.{statement}
 use Rattle.muls.proofs.rule.exp_rule.Tie as tie
