@@ -127,7 +127,7 @@ uint32_t bunlayog_taylor_log(BUNLAYOG_POOL, BUNLAYOG_ONE, BUNLAYOG_OUT);
 uint32_t bunlayog_taylor_neg(BUNLAYOG_POOL, BUNLAYOG_ONE, BUNLAYOG_OUT);
 uint32_t bunlayog_taylor_pow(BUNLAYOG_POOL, BUNLAYOG_ONE, uint32_t exp, BUNLAYOG_OUT);
 
-/* The four operations; the greater of two constants (10 where one is a list); and the expansion lhs with rhs put for its variable. */
+/* The four operations; a Max node of two constants (10 where one is a list); and the expansion lhs with rhs put for its variable. */
 uint32_t bunlayog_taylor_add(BUNLAYOG_POOL, BUNLAYOG_TWO, BUNLAYOG_OUT);
 uint32_t bunlayog_taylor_sub(BUNLAYOG_POOL, BUNLAYOG_TWO, BUNLAYOG_OUT);
 uint32_t bunlayog_taylor_mul(BUNLAYOG_POOL, BUNLAYOG_TWO, BUNLAYOG_OUT);
