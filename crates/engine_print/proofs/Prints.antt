@@ -4,12 +4,14 @@ use mathlib.Core.Path.{_≡_, refl, sym, ap, _∙_}
 use mathlib.Core.Bool.{Bool, true, false, not, _&&_}
 use mathlib.Core.List.{List, [], _∷_, _++_}
 use Prim.Native.Nat.{ℕ, _≤_, _<_}
+use native.Mathlib.Omega.{arith}
 use lib.ListN.{length, drop}
 use borrow.Author.Tests.{le-leb, lt-leb}
 use Rattle.refusals.specs.Refusals.{brokenPool, unknownNode, maxReached, noRoom}
 use Rattle.pool.specs.Nodes.{allBelow}
 use Rattle.pool.specs.Pool.{nodeIn, isPool}
 use Rattle.walks.specs.Print.{textOf, hasMax, longestText}
+use Rattle.print.specs.Output.{Printed}
 use Rattle.engine_print.specs.Printing.{Put, put, printCall}
 use Rattle.engine_print.specs.declared.Written.the-variants.{Length, Refused}
 
@@ -28,18 +30,28 @@ module _ (ks ws : List ℕ) (n root : ℕ) (out : List ℕ) where
       unfolding printCall
       has-a-max e = rw (p, g, e)
 
-      module _ (m : hasMax (nodeIn ks ws) root ≡ false) where
-        pub too-long : longestText < length (textOf (nodeIn ks ws) root) → put (Refused noRoom) out ≡ printCall ks ws n root out
+      module _ (m : hasMax (nodeIn ks ws) root ≡ false) {len : ℕ} {out′ : List ℕ} (w : Printed (textOf (nodeIn ks ws) root) out len out′) where
+        pub too-long : longestText < len → put (Refused noRoom) out′ ≡ printCall ks ws n root out
         unfolding printCall
-        too-long h = rw (p, g, m, lt-leb (length (textOf (nodeIn ks ws) root)) longestText h)
+        too-long past =
+            let long : longestText < length (textOf (nodeIn ks ws) root) = omega (arith, w .counted) in
+            rw (p, g, m, lt-leb (length (textOf (nodeIn ks ws) root)) longestText long, w .too-long long)
 
-        module _ (s : length (textOf (nodeIn ks ws) root) ≤ longestText) where
-          pub no-room-for-it : length out < length (textOf (nodeIn ks ws) root) → put (Refused noRoom) out ≡ printCall ks ws n root out
+        module _ (few : len ≤ longestText) where
+          whole : length (textOf (nodeIn ks ws) root) ≡ len
+          whole = omega (arith, w .counted)
+
+          short : length (textOf (nodeIn ks ws) root) ≤ longestText
+          short = omega (arith, whole)
+
+          pub no-room-for-it : length out < len → put (Refused noRoom) out′ ≡ printCall ks ws n root out
           unfolding printCall
           no-room-for-it h =
-              rw (p, g, m, le-leb (length (textOf (nodeIn ks ws) root)) longestText s, lt-leb (length (textOf (nodeIn ks ws) root)) (length out) h)
+              let little : length out < length (textOf (nodeIn ks ws) root) = omega (arith, whole) in
+              rw (p, g, m, le-leb (length (textOf (nodeIn ks ws) root)) longestText short, lt-leb (length (textOf (nodeIn ks ws) root)) (length out) little, w .no-room little)
 
-          pub printed : {len : ℕ} {out′ : List ℕ} → length (textOf (nodeIn ks ws) root) ≤ length out → len ≡ length (textOf (nodeIn ks ws) root) → out′ ≡ textOf (nodeIn ks ws) root ++ drop (length (textOf (nodeIn ks ws) root)) out → put (Length len) out′ ≡ printCall ks ws n root out
+          pub printed : len ≤ length out → put (Length len) out′ ≡ printCall ks ws n root out
           unfolding printCall
-          printed h e o =
-              rw (p, g, m, le-leb (length (textOf (nodeIn ks ws) root)) longestText s, le-leb (length (textOf (nodeIn ks ws) root)) (length out) h, e, o)
+          printed h =
+              let room : length (textOf (nodeIn ks ws) root) ≤ length out = omega (arith, whole) in
+              rw (p, g, m, le-leb (length (textOf (nodeIn ks ws) root)) longestText short, le-leb (length (textOf (nodeIn ks ws) root)) (length out) room, w .in-place short room, ← whole)

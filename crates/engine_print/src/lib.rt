@@ -9,7 +9,7 @@ pub enum Written {
     Refused(u32),
 }
 
-// The text of an expression, into a lent output.
+// The text of an expression, into a lent output; `print_into` leaves the output as it is where the text is too long or has no room there.
 pub fn print(kinds: &[u8], words: &[u64], count: u64, root: u64, out: &mut [u8]) -> Written
     ensures { λ r. ⌜ put r (now (out .exit)) ≡ printCall (now (kinds .entry)) (now (words .entry)) count root (now (out .entry)) ⌝ }
 {
@@ -25,13 +25,12 @@ pub fn print(kinds: &[u8], words: &[u64], count: u64, root: u64, out: &mut [u8])
     if print::has_max(&k, &w, node) {
         return Written::Refused(refusals::MAX_REACHED);
     }
-    let length = print::text_length(&k, &w, node) as usize;
+    let length = print::print_into(&k, &w, node, out) as usize;
     if print::TEXT_MAX < length {
         return Written::Refused(refusals::NO_ROOM);
     }
     if out.len() < length {
         return Written::Refused(refusals::NO_ROOM);
     }
-    print::print_into(&k, &w, node, out);
     Written::Length(length as u64)
 }

@@ -2,11 +2,12 @@
 mod max;
 mod output;
 mod walk;
+mod whole;
 
 pub use max::has_max;
 pub use output::TEXT_MAX;
 pub use output::write;
 pub use output::write_exponent;
 pub use output::write_literal;
-pub use walk::print_into;
-pub use walk::text_length;
+pub use whole::print_into;
+pub use whole::text_length;

@@ -1,11 +1,10 @@
 // `node_fmt` of src/symbolic.rs: a node's own signs, and its parts by calls on smaller numbers. A text that is only counted is written to an empty output.
 ghost use mathlib.Core.Path.{_≡_};
 ghost use mathlib.Core.List.{_++_};
-ghost use Prim.Native.Nat.{_+_, _≤_, min};
-ghost use lib.ListN.{length, drop};
+ghost use Prim.Native.Nat.{_≤_};
 ghost use Rattle.pool.specs.Pool.{nodeIn};
 ghost use Rattle.text.specs.Text.{decimal};
-ghost use Rattle.walks.specs.Print.{precedence, nodeText, textBelow, textOf, hat, closing, longestText};
+ghost use Rattle.walks.specs.Print.{precedence, nodeText, textBelow, textOf, hat, closing};
 ghost use Rattle.print.specs.Output.{Wrote, pastLongest};
 use crate::output::TEXT_MAX;
 use crate::output::put;
@@ -175,26 +174,9 @@ fn power(
     write_exponent(out, hat, e)
 }
 
-// The length of the text, or one past the most that a text has.
-pub fn text_length(kinds: &[u8; LIMIT], words: &[u64; LIMIT], root: u32) -> u32
-    ensures { λ r. ⌜ r ≡ min (length (textOf (nodeIn (now (kinds .entry)) (now (words .entry))) root)) (longestText + 1) ⌝ }
-{
-    let mut none = [0u8; 0];
-    node_fmt(
-        kinds,
-        words,
-        &mut none,
-        0,
-        root as usize + 1,
-        Part { of: root, under: 0 },
-    ) as u32
-}
-
-// The text, from the front of the output on.
-pub fn print_into(kinds: &[u8; LIMIT], words: &[u64; LIMIT], root: u32, out: &mut [u8])
-    requires { ⌜ length (textOf (nodeIn (now kinds) (now words)) root) ≤ length (now out) ⌝ }
-    requires { ⌜ length (textOf (nodeIn (now kinds) (now words)) root) ≤ longestText ⌝ }
-    ensures { λ _. ⌜ now (out .exit) ≡ textOf (nodeIn (now (kinds .entry)) (now (words .entry))) root ++ drop (length (textOf (nodeIn (now (kinds .entry)) (now (words .entry))) root)) (now (out .entry)) ⌝ }
+// The whole text of a root, from the front of the output on.
+pub fn text_in(kinds: &[u8; LIMIT], words: &[u64; LIMIT], root: u32, out: &mut [u8]) -> usize
+    ensures { λ r. ⌜ Wrote 0 (now (out .entry)) (textOf (nodeIn (now (kinds .entry)) (now (words .entry))) root) r (now (out .exit)) ⌝ }
 {
     node_fmt(
         kinds,
@@ -203,5 +185,5 @@ pub fn print_into(kinds: &[u8; LIMIT], words: &[u64; LIMIT], root: u32, out: &mu
         0,
         root as usize + 1,
         Part { of: root, under: 0 },
-    );
+    )
 }

@@ -14,7 +14,7 @@ use borrow.Author.Tests.{lt-ltb, le-ltb, ltb-true, le-leb, lt-leb}
 use Rattle.text.specs.Text.{mostDigits, decimal, signedDecimal}
 use Rattle.text.proofs.Digits.{decimal-is-short}
 use Rattle.walks.specs.Print.{longestText}
-use Rattle.print.specs.Output.{Wrote}
+use Rattle.print.specs.Output.{Wrote, Printed}
 use Rattle.print.proofs.Writing.{counted, in-place}
 use Rattle.taylor.specs.Expand.{Point, none, point}
 use Rattle.taylor_base.specs.Answers.{terms}
@@ -48,14 +48,18 @@ module _ (text : List ℕ) {n : ℕ} (length-counted : n ≡ min (length text) (
   pub is-short : n ≤ longestText → length text ≤ longestText
   is-short h = omega (arith, length-counted)
 
-  pub long-is-none : longestText < n → [] ≡ short text
-  long-is-none h = rw (lt-leb (length text) longestText (is-long h)) refl
+-- a text that was printed into an output with room for the longest
+module _ (text : List ℕ) {before after : List ℕ} {n : ℕ} (w : Printed text before n after) where
+  pub long-not-put : longestText < n → Put (short text) before 0 after
+  long-not-put h =
+      let long : longestText < length text = is-long text (w .counted) h in
+      rw (lt-leb (length text) longestText long, w .too-long long) (record { long = refl; bytes = refl })
 
-  pub short-put : {before after : List ℕ} → n ≤ longestText → after ≡ text ++ drop (length text) before → Put (short text) before n after
-  short-put h e =
-      let few : length text ≤ longestText = is-short h in
-      let same : n ≡ length text = omega (arith, length-counted, few) in
-      put-short {text = text} few (record { long = same; bytes = e })
+  pub short-put : n ≤ longestText → longestText ≤ length before → Put (short text) before n after
+  short-put h room =
+      let few : length text ≤ longestText = is-short text (w .counted) h in
+      let same : n ≡ length text = omega (arith, w .counted, few) in
+      put-short {text = text} few (record { long = same; bytes = w .in-place few (omega arith) })
 
 -- ---- lengths
 joined-length : (xs ys : List ℕ) (m n : ℕ) → length xs ≤ m → length ys ≤ n → length (xs ++ ys) ≤ m + n

@@ -20,12 +20,11 @@ fn text_of(kinds: &[u8; LIMIT], words: &[u64; LIMIT], node: u32, out: &mut [u8])
     requires { ⌜ longestText ≤ length (now out) ⌝ }
     ensures { λ r. ⌜ Put (short (textOf (nodeIn (now (kinds .entry)) (now (words .entry))) node)) (now (out .entry)) r (now (out .exit)) ⌝ }
 {
-    let n = print::text_length(kinds, words, node);
-    if (n as usize) > print::TEXT_MAX {
+    let n = print::print_into(kinds, words, node, out) as usize;
+    if n > print::TEXT_MAX {
         return 0;
     }
-    print::print_into(kinds, words, node, out);
-    n as usize
+    n
 }
 
 // A piece of a page with no more lines than an expansion has entries, where there is room for the longest text.
