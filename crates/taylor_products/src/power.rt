@@ -1,5 +1,4 @@
 // Powers of an expansion, by the binary digits of the exponent.
-ghost use mathlib.Core.Path.{_≡_};
 ghost use Rattle.pool.specs.Made.{poolOf};
 ghost use Rattle.taylor.specs.Expansion.{Constant, powFrom, power, digits};
 ghost use Rattle.taylor_base.specs.Answers.{expansionOf, Given, Tidy, Answers};

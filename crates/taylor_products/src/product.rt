@@ -1,5 +1,4 @@
 // The product of two expansions.
-ghost use mathlib.Core.Path.{_≡_};
 ghost use mathlib.Core.List.{[]};
 ghost use Prim.Native.Nat.{_≤_};
 ghost use Rattle.pool.specs.Made.{poolOf};

@@ -1,5 +1,4 @@
 // One expansion substituted into another, by Horner's method.
-ghost use mathlib.Core.Path.{_≡_};
 ghost use mathlib.Core.List.{reverse};
 ghost use Prim.Native.Nat.{_≤_};
 ghost use Rattle.pool.specs.Made.{poolOf};

@@ -115,7 +115,8 @@ fn term_in(
     }
 }
 
-// The sum of so many terms from the first on, the one list read at j and the other at k - j.
+// The sum of so many terms from the first on, the one list read at j and the other at k - j. The entries are read in place: `at` would copy both lists for
+// each term.
 pub fn fold_in(
     kinds: &mut [u8; LIMIT],
     words: &mut [u64; LIMIT],
@@ -136,8 +137,8 @@ pub fn fold_in(
     let end = first + todo;
     let mut j = first;
     while j < end {
-        let x = taylor_base::at(xs, j);
-        let y = taylor_base::at(ys, k - j);
+        let x = xs.coeffs[j as usize];
+        let y = ys.coeffs[(k - j) as usize];
         let term = term_in(kinds, words, left, rule, x, y, j, sum);
         let Made::Node { node, room: rest } = term else {
             return term;

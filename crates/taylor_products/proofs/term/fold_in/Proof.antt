@@ -1,8 +1,10 @@
 -- `taylor_products::term::fold_in` meets its contract: it is `fold`, one term a turn.
 -- Assumes nothing.
+use mathlib.Core.Path.{sym}
 use native.Mathlib.Omega.{arith}
 use borrow.Author.Needs.{needs}
 use Prim.Native.Nat.{_-_}
+use lib.Seq.{getD-take}
 use Rattle.pool.specs.Made.{poolOf}
 use Rattle.taylor.specs.Work.{fold}
 use Rattle.taylor_base.specs.Answers.{listOf}
@@ -13,11 +15,11 @@ use Rattle.taylor_products.proofs.term.fold_in.Statement.{statement}
 use Rattle.taylor_products.proofs.term.fold_in.Tie as tie
 
 abbrev Inv-loop : tie.InvT-loop
-Inv-loop kinds₀ words₀ rule xs ys k first todo start left₀ sum₀ end j₀ kinds words left sum j =
+Inv-loop kinds₀ words₀ rule k first todo start xs ys left₀ sum₀ end j₀ kinds words left sum j =
     Folding (termAt rule (listOf xs) (listOf ys) k) first end (fold (termAt rule (listOf xs) (listOf ys) k) first todo start (poolOf kinds₀ words₀ left₀)) j sum (poolOf kinds words left)
 
 abbrev μ-loop : tie.MeasureT-loop
-μ-loop kinds₀ words₀ rule xs ys k first todo start left₀ sum₀ end j₀ kinds words left sum j = end - j
+μ-loop kinds₀ words₀ rule k first todo start xs ys left₀ sum₀ end j₀ kinds words left sum j = end - j
 
 add-end : tie.Need-add-end Inv-loop μ-loop
 add-end c = omega (arith, c .pre .rising, c .pre .rising-most)
@@ -25,14 +27,26 @@ add-end c = omega (arith, c .pre .rising, c .pre .rising-most)
 loop-holds : tie.Need-loop-holds Inv-loop μ-loop
 loop-holds c = fold-starts _ (c .args .first) (c .args .todo) (c .args .start) _
 
-at-requires : tie.Need-at-requires Inv-loop μ-loop
-at-requires c κs = (omega (arith, c .loop-test .taken, c .before .before .pre .rising), c .before .before .pre .rising-most)
+cast-x : tie.Need-cast-x Inv-loop μ-loop
+cast-x c = search needs
 
-sub-at : tie.Need-sub-at Inv-loop μ-loop
-sub-at c = omega (arith, c .before .loop-test .taken, c .before .before .before .pre .within)
+mul-x : tie.Need-mul-x Inv-loop μ-loop
+mul-x c = record { fits = omega (arith, c .loop-test .taken, c .before .before .pre .rising, c .before .before .pre .rising-most) }
 
-at-requires-2 : tie.Need-at-requires-2 Inv-loop μ-loop
-at-requires-2 c κs = (omega (arith, c .before .loop-test .taken, c .before .before .before .pre .within, c .before .before .before .pre .falling, c .before .before .loop .inv .least), c .before .before .before .pre .falling-most)
+element-copy-out-x : tie.Need-element-copy-out-x Inv-loop μ-loop
+element-copy-out-x c = omega (arith, c .loop-test .taken, c .before .before .pre .rising, c .before .before .pre .rising-most)
+
+sub-y : tie.Need-sub-y Inv-loop μ-loop
+sub-y c = omega (arith, c .before .loop-test .taken, c .before .before .before .pre .within)
+
+cast-y : tie.Need-cast-y Inv-loop μ-loop
+cast-y c = search needs
+
+mul-y : tie.Need-mul-y Inv-loop μ-loop
+mul-y c = record { fits = omega (arith, c .before .before .loop .inv .least, c .before .before .before .pre .falling, c .before .before .before .pre .falling-most) }
+
+element-copy-out-y : tie.Need-element-copy-out-y Inv-loop μ-loop
+element-copy-out-y c = omega (arith, c .before .before .loop .inv .least, c .before .before .before .pre .falling, c .before .before .before .pre .falling-most)
 
 term-in-requires : tie.Need-term-in-requires Inv-loop μ-loop
 term-in-requires c κs = search needs
@@ -46,7 +60,7 @@ enum-told c = search needs
 returns : tie.Need-returns Inv-loop μ-loop
 returns c =
     let term = c .before .before .term-in in
-    fold-stopped (c .before .before .before .before .before .before .before .before .loop .inv) (c .before .before .before .before .before .before .before .loop-test .taken) (term .last .0) (term .last .1 .0) (with-those (λ x y. termWork (c .before .before .before .before .before .before .before .before .before .args .rule) x y (c .before .before .before .before .before .before .before .before .loop .j) (c .before .before .before .before .before .before .before .before .loop .sum) (poolOf (c .before .before .before .before .before .before .before .before .loop .kinds) (c .before .before .before .before .before .before .before .before .loop .words) (c .before .before .before .before .before .before .before .before .loop .left))) (c .before .before .before .before .before .before .at .ensures) (c .before .before .before .before .before .at2 .ensures) (term .ensures)) _ _ (c .enum-told .given .1)
+    fold-stopped (c .before .before .before .before .before .before .before .before .loop .inv) (c .before .before .before .before .before .before .before .loop-test .taken) (term .last .0) (term .last .1 .0) (with-those (λ x y. termWork (c .before .before .before .before .before .before .before .before .before .args .rule) x y (c .before .before .before .before .before .before .before .before .loop .j) (c .before .before .before .before .before .before .before .before .loop .sum) (poolOf (c .before .before .before .before .before .before .before .before .loop .kinds) (c .before .before .before .before .before .before .before .before .loop .words) (c .before .before .before .before .before .before .before .before .loop .left))) (sym (getD-take (c .before .before .before .before .before .before .before .before .before .args .t5 .len) (c .before .before .before .before .before .before .before .before .before .args .t5 .coeffs) (c .before .before .before .before .before .before .before .before .loop .j) 0 (omega (arith, c .before .before .before .before .before .before .before .loop-test .taken, c .before .before .before .before .before .before .before .before .before .pre .rising)))) (sym (getD-take (c .before .before .before .before .before .before .before .before .before .args .t6 .len) (c .before .before .before .before .before .before .before .before .before .args .t6 .coeffs) (c .before .before .before .before .before .before .before .before .before .args .k - c .before .before .before .before .before .before .before .before .loop .j) 0 (omega (arith, c .before .before .before .before .before .before .before .loop-test .taken, c .before .before .before .before .before .before .before .before .before .pre .within, c .before .before .before .before .before .before .before .before .before .pre .falling, c .before .before .before .before .before .before .before .before .loop .inv .least)))) (term .ensures)) _ _ (c .enum-told .given .1)
 
 add-j : tie.Need-add-j Inv-loop μ-loop
 add-j c = omega (arith, c .before .before .before .before .before .before .before .before .loop-test .taken, c .before .before .before .before .before .before .before .before .before .before .pre .within, c .before .before .before .before .before .before .before .before .before .before .pre .rising, c .before .before .before .before .before .before .before .before .before .before .pre .rising-most)
@@ -57,7 +71,7 @@ loop-less c = omega (arith, c .before .before .before .before .before .before .b
 loop-again : tie.Need-loop-again Inv-loop μ-loop
 loop-again c =
     let term = c .before .before .before .term-in in
-    fold-onward (c .before .before .before .before .before .before .before .before .before .loop .inv) (c .before .before .before .before .before .before .before .before .loop-test .taken) (term .last .0) (term .last .1 .0) (with-those (λ x y. termWork (c .before .before .before .before .before .before .before .before .before .before .args .rule) x y (c .before .before .before .before .before .before .before .before .before .loop .j) (c .before .before .before .before .before .before .before .before .before .loop .sum) (poolOf (c .before .before .before .before .before .before .before .before .before .loop .kinds) (c .before .before .before .before .before .before .before .before .before .loop .words) (c .before .before .before .before .before .before .before .before .before .loop .left))) (c .before .before .before .before .before .before .before .at .ensures) (c .before .before .before .before .before .before .at2 .ensures) (term .ensures)) (c .before .term .given .1)
+    fold-onward (c .before .before .before .before .before .before .before .before .before .loop .inv) (c .before .before .before .before .before .before .before .before .loop-test .taken) (term .last .0) (term .last .1 .0) (with-those (λ x y. termWork (c .before .before .before .before .before .before .before .before .before .before .args .rule) x y (c .before .before .before .before .before .before .before .before .before .loop .j) (c .before .before .before .before .before .before .before .before .before .loop .sum) (poolOf (c .before .before .before .before .before .before .before .before .before .loop .kinds) (c .before .before .before .before .before .before .before .before .before .loop .words) (c .before .before .before .before .before .before .before .before .before .loop .left))) (sym (getD-take (c .before .before .before .before .before .before .before .before .before .before .args .t5 .len) (c .before .before .before .before .before .before .before .before .before .before .args .t5 .coeffs) (c .before .before .before .before .before .before .before .before .before .loop .j) 0 (omega (arith, c .before .before .before .before .before .before .before .before .loop-test .taken, c .before .before .before .before .before .before .before .before .before .before .pre .rising)))) (sym (getD-take (c .before .before .before .before .before .before .before .before .before .before .args .t6 .len) (c .before .before .before .before .before .before .before .before .before .before .args .t6 .coeffs) (c .before .before .before .before .before .before .before .before .before .before .args .k - c .before .before .before .before .before .before .before .before .before .loop .j) 0 (omega (arith, c .before .before .before .before .before .before .before .before .loop-test .taken, c .before .before .before .before .before .before .before .before .before .before .pre .within, c .before .before .before .before .before .before .before .before .before .before .pre .falling, c .before .before .before .before .before .before .before .before .before .loop .inv .least)))) (term .ensures)) (c .before .term .given .1)
 
 returns-2 : tie.Need-returns-2 Inv-loop μ-loop
 returns-2 c = fold-done (c .before .loop .inv) (c .loop-test .left)
@@ -70,9 +84,13 @@ fold-in-spec =
     μ-loop
     add-end
     loop-holds
-    at-requires
-    sub-at
-    at-requires-2
+    cast-x
+    mul-x
+    element-copy-out-x
+    sub-y
+    cast-y
+    mul-y
+    element-copy-out-y
     term-in-requires
     enum-known-term
     enum-told
