@@ -2,11 +2,7 @@
 # The C interface: builds the archive and the C programs over the header, and runs them.
 set -eu
 cd "$(dirname "$0")/.."
-# The archive is built once: proving it again takes longer than the test.
-archive=target/staticlib/libbunlayog.a
-if [ ! -e "$archive" ] || [ -n "$(find crates crates.txt -newer "$archive" -print -quit)" ]; then
-  rt staticlib bunlayog > /dev/null
-fi
+. tests/parts/archive.sh
 out=$(mktemp -d)
 trap 'rm -rf "$out"' EXIT
 for source in tests/c/*.c; do
