@@ -1,11 +1,11 @@
 -- The lengths of two expansions, whatever the operation.
 -- Assumes nothing.
 use mathlib.Core.Path.{_≡_, refl}
-use mathlib.Core.Bool.{Bool, true, false, _&&_}
+use mathlib.Core.Bool.{true, false, _&&_}
 use Rattle.lent.proofs.Finishing.{and-left, and-right}
 use Rattle.lent_series.specs.declared.series.Series.{Series}
 use Rattle.lent_series.specs.Series.{lengthOk}
-use Rattle.engine_pairs.specs.Pairs.{agree, lengthsOk}
+use Rattle.engine_pairs.specs.Pairs.{lengthsOk}
 use Rattle.engine_pairs.specs.declared.binary.Binary.{Binary}
 use Rattle.engine_pairs.specs.declared.binary.Binary.the-variants as binary
 

@@ -1,18 +1,18 @@
 -- The ways in which a call that prints ends, in the order of their refusals.
 -- Assumes nothing.
-use mathlib.Core.Path.{_≡_, refl, sym, ap, _∙_}
-use mathlib.Core.Bool.{Bool, true, false, not, _&&_}
-use mathlib.Core.List.{List, [], _∷_, _++_}
+use mathlib.Core.Path.{_≡_}
+use mathlib.Core.Bool.{true, false}
+use mathlib.Core.List.{List, [], _∷_}
 use Prim.Native.Nat.{ℕ, _≤_, _<_}
 use native.Mathlib.Omega.{arith}
-use lib.ListN.{length, drop}
+use lib.ListN.{length}
 use borrow.Author.Tests.{le-leb, lt-leb}
 use Rattle.refusals.specs.Refusals.{brokenPool, unknownNode, maxReached, noRoom}
 use Rattle.pool.specs.Nodes.{allBelow}
 use Rattle.pool.specs.Pool.{nodeIn, isPool}
 use Rattle.walks.specs.Print.{textOf, hasMax, longestText}
 use Rattle.print.specs.Output.{Printed}
-use Rattle.engine_print.specs.Printing.{Put, put, printCall}
+use Rattle.engine_print.specs.Printing.{put, printCall}
 use Rattle.engine_print.specs.declared.Written.the-variants.{Length, Refused}
 
 module _ (ks ws : List ℕ) (n root : ℕ) (out : List ℕ) where

@@ -4,10 +4,10 @@ use mathlib.Core.Path.{_≡_, refl, sym, ap, _∙_}
 use mathlib.Core.Bool.{Bool, true, false}
 use mathlib.Core.Logic.{_≢_}
 use mathlib.Core.List.{List}
-use Prim.Native.Nat.{ℕ, _≤_}
+use Prim.Native.Nat.{ℕ}
 use native.Mathlib.Omega.{arith}
 use lib.ListN.{length}
-use borrow.Author.Tests.{eq-eqb, ne-eqb, eqb-true}
+use borrow.Author.Tests.{ne-eqb}
 use Rattle.refusals.specs.Refusals.{brokenPool, unknownNode, wrongOrder}
 use Rattle.pool.specs.Nodes.{allBelow}
 use Rattle.pool.specs.Pool.{isPool}
@@ -17,7 +17,7 @@ use Rattle.taylor_base.specs.declared.answer.Expansion as coded
 use Rattle.lent.proofs.Finishing.{pool-sized}
 use Rattle.lent_series.specs.declared.series.Series.{Series}
 use Rattle.lent_series.specs.declared.call.Outcome.{Outcome}
-use Rattle.lent_series.specs.Series.{isConstant, nodesOf, lengthOk, given, seriesOf, Usable, Narrowed}
+use Rattle.lent_series.specs.Series.{nodesOf, lengthOk, seriesOf, Usable, Narrowed}
 use Rattle.lent_series.specs.Call.{refusal}
 use Rattle.lent_series.proofs.Numbers.{usable, given-order}
 use Rattle.engine_series.specs.Operations.{pick, firstRefusal, countOf, coefficientsOf}

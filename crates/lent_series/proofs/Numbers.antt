@@ -8,7 +8,7 @@ use Prim.Native.Nat.{ℕ, zero, suc, _+_, _-_, min, _≤_, _<_}
 use native.Mathlib.Nat.{min-eq-left, min-eq-right}
 use native.Mathlib.Omega.{arith}
 use native.Mathlib.Decide.{ℕ-discrete}
-use lib.Dec.{eqb, leb, ltb}
+use lib.Dec.{leb, ltb}
 use lib.ListN.{length, getD, take, drop, replicate, take-append-drop}
 use lib.Seq.{take-length, length-take-le}
 use borrow.Author.Tests.{lt-ltb, le-ltb, ltb-true, le-leb, leb-true, lt-leb, eq-eqb, ne-eqb, eqb-true, eqb-false}
@@ -17,7 +17,7 @@ use Rattle.pool.specs.Pool.{limit}
 use Rattle.lent.proofs.Finishing.{and-left, and-right}
 use Rattle.taylor.specs.Work.{at}
 use Rattle.taylor.specs.Expansion.{Expansion, order, endless}
-use Rattle.taylor_base.specs.Answers.{terms, listOf, shape, expansionOf, constantOf, Given, Tidy, Tidied}
+use Rattle.taylor_base.specs.Answers.{terms, listOf, shape, expansionOf, constantOf, Tidy, Tidied}
 use Rattle.taylor_base.specs.declared.answer.Expansion as coded
 use Rattle.taylor_base.proofs.Lists.{constant-tidy, list-tidied, list-long}
 use Rattle.taylor_base.proofs.Copying.{Copied}

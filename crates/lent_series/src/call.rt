@@ -5,7 +5,6 @@ ghost use Rattle.pool.specs.Pool.{isPool};
 ghost use Rattle.lent.specs.Call.{lentPool};
 ghost use Rattle.taylor_base.specs.Answers.{Tidy, expanded};
 ghost use Rattle.taylor_laws.specs.Grown.{Grows};
-ghost use Rattle.lent_series.specs.Series.{nothing};
 ghost use Rattle.lent_series.specs.Call.{statusMade, refusal, left, leaves};
 use crate::series::Series;
 use crate::series::series_of;

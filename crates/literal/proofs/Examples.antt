@@ -1,10 +1,10 @@
 -- Examples of document 01 on literals, computed from the definitions.
 -- Assumes nothing.
 use mathlib.Core.Path.{_≡_, refl}
-use mathlib.Core.Bool.{true, false}
-use lib.IntN.{pos, negsuc, negℤ, _+ℤ_, _*ℤ_}
+use mathlib.Core.Bool.{false}
+use lib.IntN.{pos, negsuc, negℤ, _+ℤ_}
 use Rattle.refusals.specs.Refusals.{noExpOrLog, outOfRange}
-use Rattle.literal.specs.Literal.{greatest, isLiteral, folded, expOf, logOf, signed, word}
+use Rattle.literal.specs.Literal.{isLiteral, folded, expOf, logOf, word}
 use Rattle.literal.specs.declared.Folded.the-variants.{Value, Refused}
 
 -- "9,007,199,254,740,991 + 1: 12."

@@ -1,8 +1,8 @@
 -- Folding: in the range the number itself, outside of it the refusal; and what the tests of `sum` and `product` say of the folded number.
 -- Assumes nothing.
-use mathlib.Core.Path.{_≡_, refl, ap, _∙_, sym}
+use mathlib.Core.Path.{_≡_}
 use mathlib.Core.Logic.{_≢_}
-use Prim.Native.Nat.{ℕ, _+_, _*_, _-_, _/_, _<_, _≤_}
+use Prim.Native.Nat.{ℕ, _*_, _-_, _/_, _<_, _≤_}
 use native.Mathlib.Nat.{le-div-iff-mul-le, div-lt-iff-lt-mul, mul-comm}
 use native.Mathlib.Omega.{arith}
 use lib.IntN.{ℤ, natAbs}

@@ -8,7 +8,7 @@ use Rattle.refusals.specs.Refusals.{exponentTooLarge}
 use Rattle.pool.specs.Nodes.{greatestExponent}
 use Rattle.pool.specs.Pool.{Pool, Out, refused}
 use Rattle.constructors.specs.Terms.{Term, #, pow}
-use Rattle.constructors.specs.Build.{Calls, build, exponent}
+use Rattle.constructors.specs.Build.{Calls, build}
 
 -- the term s was built, and s is the t of the table
 pub built : (c : Calls) (P : Pool) {o : Out} {s t : Term} → s ≡ t → o ≡ build c s P → o ≡ build c t P

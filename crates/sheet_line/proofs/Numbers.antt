@@ -10,7 +10,7 @@ use lib.Dec.{eqb}
 use lib.ListN.{length, getD, drop, drop-of-length-le}
 use lib.Seq.{drop-cons}
 use borrow.Author.Tests.{le-leb, lt-leb, eq-eqb, ne-eqb}
-use Rattle.sheet_text.specs.Line.{Read, nothing, read, when, isDigit, digitsFrom, decimalOf}
+use Rattle.sheet_text.specs.Line.{Read, read, when, isDigit, digitsFrom, decimalOf}
 use Rattle.sheet_line.specs.declared.Number.the-variants.{None, Value}
 use Rattle.sheet_line.specs.Cut.{cutAt, cut, cutNumber}
 use Rattle.sheet_line.proofs.Cutting.{cut-within, cut-below, cut-twice, cut-again}

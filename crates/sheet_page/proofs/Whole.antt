@@ -8,7 +8,7 @@ use Prim.Native.Nat.{ℕ, zero, suc, _+_, _-_, min, _≤_, _<_}
 use native.Mathlib.Nat.{min-eq-left, add-zero}
 use native.Mathlib.Omega.{arith}
 use lib.IntN.{ℤ, pos, negsuc}
-use lib.ListN.{length, drop, length-append}
+use lib.ListN.{length, length-append}
 use lib.Dec.{ltb}
 use borrow.Author.Tests.{lt-ltb, le-ltb, ltb-true, le-leb, lt-leb}
 use Rattle.text.specs.Text.{mostDigits, decimal, signedDecimal}
@@ -19,7 +19,7 @@ use Rattle.print.proofs.Writing.{counted, in-place}
 use Rattle.taylor.specs.Expand.{Point, none, point}
 use Rattle.taylor_base.specs.Answers.{terms}
 use Rattle.expand.specs.Points.{pointOf}
-use Rattle.sheet_text.specs.Sheet.{lineEnd, space, colon, usageText, refusedText, pointText, linesFrom}
+use Rattle.sheet_text.specs.Sheet.{lineEnd, space, colon, refusedText, pointText, linesFrom}
 use Rattle.sheet_page.specs.Pages.{refusedLine, firstLine, headBy, headOf, pick, partOf, textAt, pieceOf, lineOf, linesUpTo, wholeOf, short, putOf, Printable, Put}
 use Rattle.sheet_page.specs.declared.first.Page.{Page}
 use Rattle.sheet_page.specs.declared.first.Verdict.{Verdict}

@@ -1,5 +1,4 @@
 // The first line of a sheet.
-ghost use mathlib.Core.Path.{_≡_};
 ghost use mathlib.Core.List.{_++_};
 ghost use Prim.Native.Nat.{_≤_};
 ghost use Rattle.text.specs.Text.{decimal};

@@ -1,5 +1,4 @@
 // The pieces of a sheet: the first line, then an index, a text and a line end for each coefficient.
-ghost use mathlib.Core.Path.{_≡_};
 ghost use Prim.Native.Nat.{_≤_};
 ghost use lib.ListN.{length};
 ghost use Rattle.pool.specs.Pool.{nodeIn};

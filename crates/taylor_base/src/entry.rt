@@ -1,10 +1,9 @@
 // What is done to the entries of one or two lists, entry by entry.
 ghost use mathlib.Core.Path.{_≡_};
 ghost use mathlib.Core.List.{[]};
-ghost use Prim.Native.Nat.{_≤_};
 ghost use Rattle.pool.specs.Made.{poolOf};
 ghost use Rattle.taylor.specs.Work.{fill};
-ghost use Rattle.taylor_base.specs.Answers.{terms, listOf, Lists, worked};
+ghost use Rattle.taylor_base.specs.Answers.{listOf, Lists, worked};
 ghost use Rattle.taylor_base.specs.Entries.{entryWork, entryAt, Entries};
 use crate::answer::Expanded;
 use crate::answer::Expansion;

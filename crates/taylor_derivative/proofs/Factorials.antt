@@ -4,7 +4,7 @@ use mathlib.Core.Bool.{Bool, true, false}
 use mathlib.Core.Path.{_≡_, refl, sym, ap, _∙_}
 use mathlib.Core.Logic.{_≢_}
 use mathlib.Core.List.{List}
-use Prim.Native.Nat.{ℕ, zero, suc, _+_, _-_, _*_, _≤_, _<_}
+use Prim.Native.Nat.{ℕ, zero, suc, _-_, _*_, _≤_, _<_}
 use native.Mathlib.Nat.{mul-comm, suc-mul}
 use native.Mathlib.Omega.{arith}
 use lib.IntN.{ℤ, pos, _*ℤ_}
@@ -19,19 +19,19 @@ use Rattle.refusals.specs.Refusals.{outOfRange}
 use Rattle.pool.specs.declared.node.Node.{Node}
 use Rattle.pool.specs.declared.node.Node.the-variants.{Lit}
 use Rattle.pool.specs.Nodes.{kindOf, wordOf}
-use Rattle.pool.specs.Pool.{Pool, Out, done, refused, limit, nodeIn, nodeAt, append}
+use Rattle.pool.specs.Pool.{Pool, Out, limit, nodeIn, nodeAt}
 use Rattle.pool.specs.Made.{poolOf}
 use Rattle.pool.specs.declared.table.Room.{Room}
-use Rattle.constructors.specs.Terms.{Term, #, Arm, return}
+use Rattle.constructors.specs.Terms.{Term, #, return}
 use Rattle.constructors.specs.Terms as terms
 use Rattle.constructors.specs.Tables.{mulLits, mulTable}
 use Rattle.constructors.specs.Build.{calls, depth, build, literal}
 use Rattle.constructor_laws.proofs.Growth.{appended, append-comes-to, appended-grown, earlier-same}
 use Rattle.constructor_laws.proofs.Coding.{Fine, fine-is-read}
-use Rattle.taylor.specs.Work.{Result, gives, refused-work, Work, bind, yield, answered, lit, from, zeroLit, oneLit, mul, at, fold}
-use Rattle.taylor.specs.Expansion.{Expansion, Constant, Polynomial, derivative}
+use Rattle.taylor.specs.Work.{Result, gives, refused-work, Work, bind, answered, lit, from, zeroLit, oneLit, mul, at, fold}
+use Rattle.taylor.specs.Expansion.{Constant, Polynomial, derivative}
 use Rattle.taylor_base.proofs.Steps.{bind-assoc}
-use Rattle.taylor_derivative.specs.Factorials.{itself, product, factor, factorialLits, derivativeOf}
+use Rattle.taylor_derivative.specs.Factorials.{itself, product, factor, derivativeOf}
 
 -- tables as long as they are lent
 pub record Long (P : Pool) : Type 0 where

@@ -1,7 +1,6 @@
 -- The operations on expansions only append: each is made of constructors and literals, one after the other.
 -- Assumes nothing.
 use mathlib.Core.Bool.{Bool, true, false}
-use mathlib.Core.Path.{_≡_}
 use mathlib.Core.List.{List, [], _∷_, _++_, reverse}
 use Prim.Native.Nat.{ℕ, zero, suc, _-_, _/_, _%_, min}
 use lib.Dec.{eqb}
@@ -9,16 +8,16 @@ use lib.IntN.{ℤ, pos}
 use lib.ListN.{length, getD, replicate}
 use Rattle.refusals.specs.Refusals.{brokenPool, maxReached}
 use Rattle.literal.specs.Literal.{folded}
-use Rattle.pool.specs.Pool.{Pool, Out, done, refused, Run, append, nodeAt, limit}
+use Rattle.pool.specs.Pool.{Pool, Out, done, refused, Run, nodeAt, limit}
 use Rattle.pool.specs.declared.node.Node.{Node}
 use Rattle.pool.specs.declared.node.Node.the-variants.{Empty, Variable, Lit, Add, Mul, Div, Exp, Log, Pow, Max}
-use Rattle.constructors.specs.Build.{calls, depth}
+use Rattle.constructors.specs.Build.{depth}
 use Rattle.constructor_laws.specs.Grown.{Grown}
 use Rattle.constructor_laws.specs.Grown as plain
 use Rattle.constructor_laws.proofs.Growth.{grown-by-nothing, grown-by-both, literal-grows, append-grows, calls-grow}
 use Rattle.constructor_laws.proofs.Growth as growth
-use Rattle.taylor.specs.Work.{Result, gives, refused-work, Work, bind, yield, refuse, answered, node, lit, from, zeroLit, oneLit, add, mul, div, neg, sub, exp, log, max, at, each, eachTwo, fold, fill}
-use Rattle.taylor.specs.Expansion.{Expansion, Constant, Polynomial, polynomial, constant, first, varCoeffs, var, coeff, derivative, addTo, negate, subFrom, productTerm, productAt, times, quotientTerm, quotientAt, quotient, expTerm, expAt, exponential, logTerm, logAt, logarithm, when, powFrom, power, maximum, horner, subst}
+use Rattle.taylor.specs.Work.{Result, gives, refused-work, Work, bind, yield, refuse, answered, node, lit, from, add, mul, div, neg, sub, at, each, eachTwo, fold, fill}
+use Rattle.taylor.specs.Expansion.{Expansion, Constant, Polynomial, polynomial, constant, first, varCoeffs, var, coeff, derivative, addTo, negate, subFrom, productAt, times, quotientAt, quotient, expTerm, expAt, exponential, logTerm, logAt, logarithm, when, powFrom, power, maximum, horner, subst}
 use Rattle.taylor.specs.Expand.{Kept, State, state, Went, went, refused-walk, Walk, lifted, lift, keep, once, choose, Point, none, point, pointNode, ofVariable, expandNode, expandAt, expandBelow, expanded, expand}
 use Rattle.taylor.specs.Expand as walk
 use Rattle.taylor_laws.specs.Grown.{Grows}

@@ -6,7 +6,7 @@ use Prim.Native.Nat.{ℕ, _-_, min}
 use lib.ListN.{length}
 use Rattle.pool.specs.Pool.{Pool}
 use Rattle.taylor.specs.Work.{Result, Work, bind, yield, zeroLit, oneLit, mul, div, at, fill}
-use Rattle.taylor.specs.Expansion.{Expansion, Constant, Polynomial, quotientAt, quotient}
+use Rattle.taylor.specs.Expansion.{Constant, Polynomial, quotientAt, quotient}
 use Rattle.taylor_base.proofs.Steps.{bind-same, bind-assoc}
 use Rattle.taylor_quotients.specs.Recurrences.{scaleOf, constantOver, listOver}
 

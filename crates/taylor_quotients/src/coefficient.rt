@@ -1,10 +1,9 @@
 // One coefficient of a quotient, of an exponential and of a logarithm, from the coefficients before it.
 ghost use mathlib.Core.Path.{_≡_};
-ghost use Prim.Native.Nat.{_≤_, _<_};
 ghost use Rattle.pool.specs.Made.{poolOf};
 ghost use Rattle.taylor.specs.Work.{at};
 ghost use Rattle.taylor.specs.Expansion.{quotientAt, expAt, logAt};
-ghost use Rattle.taylor_base.specs.Answers.{terms, listOf, worked};
+ghost use Rattle.taylor_base.specs.Answers.{listOf, worked};
 ghost use Rattle.taylor_quotients.specs.Recurrences.{overWork, dividedBy, lessWork, Next, coefficientWork};
 use constructors::DEPTH;
 use pool::LIMIT;

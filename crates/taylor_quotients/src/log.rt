@@ -1,5 +1,4 @@
 // The logarithm of an expansion.
-ghost use mathlib.Core.Path.{_≡_};
 ghost use Prim.Native.Nat.{_≤_};
 ghost use Rattle.pool.specs.Made.{poolOf};
 ghost use Rattle.taylor.specs.Expansion.{logarithm};

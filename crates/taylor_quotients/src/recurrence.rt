@@ -1,5 +1,4 @@
 // All coefficients from the first on.
-ghost use mathlib.Core.Path.{_≡_};
 ghost use mathlib.Core.List.{[], _∷_};
 ghost use Prim.Native.Nat.{_-_};
 ghost use Rattle.pool.specs.Made.{poolOf};

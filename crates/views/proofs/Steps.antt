@@ -5,12 +5,12 @@ use mathlib.Core.Logic.{_≢_}
 use mathlib.Core.List.{List}
 use Prim.Native.Nat.{ℕ, zero, suc, _-_}
 use native.Mathlib.Omega.{arith}
-use Rattle.pool.specs.Pool.{Pool, Out, done, refused, Run, bind}
+use Rattle.pool.specs.Pool.{Out, Run, bind}
 use Rattle.pool.specs.Made.{made, poolOf}
 use Rattle.pool.specs.declared.table.Made.{Made}
 use Rattle.pool.specs.declared.table.Made.the-variants.{Node, Refused}
 use Rattle.pool.specs.declared.table.Room.{Room}
-use Rattle.constructors.specs.Build.{Calls, calls, deeper}
+use Rattle.constructors.specs.Build.{calls, deeper}
 
 -- the work came to a node: what is left goes on from there
 pub onward :

@@ -1,6 +1,5 @@
 -- `engine_expand::coeffs_at` meets its contract: the point is handed on.
 -- Assumes nothing.
-use mathlib.Core.Path.{ap, _∙_}
 use mir.Syntax.{w64}
 use mir.ValLaws.{toZ-ofZ}
 use borrow.Author.Needs.{needs}

@@ -1,12 +1,12 @@
 -- `literal::from_word` meets its contract: a word with its highest bit set lies as far below the highest word as its number below -1.
 -- Assumes nothing.
-use mathlib.Core.Path.{_≡_, ap}
-use Prim.Native.Nat.{ℕ, _-_, _^_, _<_}
-use lib.IntN.{ℤ, pos, negsuc, _-ℤ_}
+use mathlib.Core.Path.{ap}
+use Prim.Native.Nat.{_-_, _^_, _<_}
+use lib.IntN.{negsuc}
 use native.Mathlib.Omega.{arith}
 use borrow.Author.Needs.{needs}
 use mir.Syntax.{w64}
-use mir.Val.{SFits, toZ, ofZ, hbits, bits}
+use mir.Val.{SFits, hbits, bits}
 use mir.ValLaws.{toZ-ofZ, toZ-pos}
 use borrow.Author.Tests.{le-ltb}
 use Rattle.literal.proofs.Sizes.{down-from-minus-one}

@@ -2,7 +2,7 @@
 -- Assumes nothing.
 use mathlib.Core.Path.{_≡_, _∙_, ap}
 use Prim.Native.Nat.{_≤_}
-use lib.IntN.{natAbs, pos, negℤ, _-ℤ_, +ℤ-idl}
+use lib.IntN.{natAbs, negℤ, +ℤ-idl}
 use native.Mathlib.Omega.{arith}
 use borrow.Author.Needs.{needs}
 use mir.Syntax.{w64}

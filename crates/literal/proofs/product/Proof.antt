@@ -8,7 +8,7 @@ use borrow.Author.Needs.{needs}
 use mir.Syntax.{w64}
 use mir.Val.{toZ, ofZ}
 use mir.ValLaws.{toZ-ofZ}
-use Rattle.literal.specs.Literal.{greatest, folded}
+use Rattle.literal.specs.Literal.{greatest}
 use Rattle.literal.proofs.Sizes.{size-product, size-zero}
 use Rattle.literal.proofs.Folds.{folds, refuses, literal-fits, product-within, product-beyond}
 use Rattle.literal.proofs.product.Statement.{statement}

@@ -1,12 +1,11 @@
 -- `literal::sum` meets its contract: numbers of one sign add their sizes, and a sum of unlike numbers lies between them, so it fits.
 -- Assumes nothing.
-use mathlib.Core.Path.{_≡_, ap}
+use mathlib.Core.Path.{_≡_}
 use lib.IntN.{ℤ, _+ℤ_, +ℤ-comm}
 use borrow.Author.Needs.{needs}
 use mir.Syntax.{w64}
-use mir.Val.{SFits, toZ, ofZ}
+use mir.Val.{toZ, ofZ}
 use mir.ValLaws.{toZ-ofZ}
-use Rattle.literal.specs.Literal.{folded}
 use Rattle.literal.proofs.Sizes.{alike-below, alike-above, unlike-fits}
 use Rattle.literal.proofs.sum.Statement.{statement}
 use Rattle.literal.proofs.sum.Tie as tie

@@ -1,6 +1,6 @@
 -- `taylor_derivative::factor_in` meets its contract: the number, and the product from the table unless it is the number itself.
 -- Assumes nothing.
-use mathlib.Core.Path.{refl, ap, _∙_}
+use mathlib.Core.Path.{ap, _∙_}
 use borrow.Author.Needs.{needs}
 use Rattle.literal.specs.declared.Folded.{Folded}
 use Rattle.pool.specs.Made.{poolOf}

@@ -2,11 +2,11 @@
 -- Assumes nothing.
 use mathlib.Core.Path.{refl, _∙_, ap}
 use mathlib.Core.List.{List, _∷_}
-use Prim.Native.Nat.{ℕ, _+_}
+use Prim.Native.Nat.{ℕ}
 use native.Mathlib.Omega.{arith}
 use lib.ListN.{length, replicate}
 use borrow.Author.Needs.{needs}
-use Rattle.text.specs.Text.{room, letterA, letterX, underscore}
+use Rattle.text.specs.Text.{room, letterX, underscore}
 use Rattle.text.proofs.Fronts.{one-byte, may-grow, written-as}
 use Rattle.text.proofs.Digits.{decimal-is-short}
 use Rattle.text.proofs.Forms.{a-letter, a-number}

@@ -7,8 +7,7 @@ use Rattle.pool.specs.Made.{made}
 use Rattle.lent.specs.Call.{lentPool}
 use Rattle.lent.specs.Call as lent
 use Rattle.taylor_base.specs.Answers.{expansionOf}
-use Rattle.lent_series.specs.declared.series.Series.{Series}
-use Rattle.lent_series.specs.Call.{left, statusMade}
+use Rattle.lent_series.specs.Call.{statusMade}
 use Rattle.lent_series.proofs.Calling.{grows-made, accepted-left, refused-left}
 use Rattle.lent_series.proofs.call.finish.Statement.{statement}
 use Rattle.lent_series.proofs.call.finish.Tie as tie

@@ -2,11 +2,11 @@
 -- Assumes nothing.
 use borrow.Author.Needs.{needs}
 use native.Mathlib.Omega.{arith}
-use mathlib.Core.Path.{_≡_, ap, _∙_}
-use Prim.Native.Nat.{ℕ, _-_, _≤_, _<_}
+use mathlib.Core.Path.{_≡_}
+use Prim.Native.Nat.{ℕ, _-_, _<_}
 use lib.ListN.{length, getD}
 use Rattle.taylor_base.specs.Answers.{terms}
-use Rattle.lent_series.specs.Series.{entries, nodesOf}
+use Rattle.lent_series.specs.Series.{entries}
 use Rattle.lent_series.proofs.Numbers.{entries-most, all-are-below, one-is-not, one-more-below}
 use Rattle.lent_series.proofs.series.nodes_below.Statement.{statement}
 use Rattle.lent_series.proofs.series.nodes_below.Tie as tie

@@ -1,7 +1,7 @@
 -- `number_list::doubles::double_of` meets its contract: the pattern of a NaN is sorted out first.
 -- Assumes nothing.
-use mathlib.Core.Path.{_≡_, sym, _∙_, subst}
-use mathlib.Core.Bool.{Bool, true, false, not}
+use mathlib.Core.Path.{sym, _∙_, subst}
+use mathlib.Core.Bool.{Bool, not}
 use lib.Dec.{T}
 use borrow.Author.Needs.{needs}
 use Rattle.number_list.proofs.Equal.{true-is-not-false}

@@ -1,8 +1,6 @@
 -- `number_list::numbers::has_room` meets its contract: above a tenth there is no room for a digit.
 -- Assumes nothing.
-use native.Mathlib.Omega.{arith}
 use borrow.Author.Needs.{needs}
-use borrow.Author.Tests.{lt-leb, le-leb}
 use Rattle.number_list.proofs.Room.{no-room, room}
 use Rattle.number_list.proofs.numbers.has_room.Statement.{statement}
 use Rattle.number_list.proofs.numbers.has_room.Tie as tie

@@ -1,7 +1,6 @@
 -- `pool::node::both_below` meets its contract: the left part is looked at first.
 -- Assumes nothing.
-use mathlib.Core.Path.{_≡_, refl, sym, ap, _∙_}
-use borrow.Author.Tests.{le-leb, lt-leb, lt-ltb, le-ltb}
+use borrow.Author.Tests.{lt-ltb, le-ltb}
 use Rattle.pool.proofs.KindTable.{and-true}
 use Rattle.pool.proofs.node.both_below.Statement.{statement}
 use Rattle.pool.proofs.node.both_below.Tie as tie

@@ -1,7 +1,7 @@
 -- `pool::node::decode` meets its contract: each arm is the table's row of its kind.
 -- Assumes nothing.
 use borrow.Author.Needs.{needs}
-use mathlib.Core.Path.{_≡_, refl, sym, ap, _∙_}
+use mathlib.Core.Path.{refl}
 use Rattle.pool.specs.Nodes.{decode}
 use Rattle.pool.proofs.KindTable.{at-kind, no-kind}
 use Rattle.pool.proofs.node.decode.Statement.{statement}

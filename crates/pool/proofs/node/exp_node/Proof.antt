@@ -1,7 +1,7 @@
 -- `pool::node::exp_node` meets its contract: the word has to be a node number of half a word.
 -- Assumes nothing.
 use borrow.Author.Needs.{needs}
-use borrow.Author.Tests.{le-leb, lt-leb, lt-ltb, le-ltb}
+use borrow.Author.Tests.{lt-ltb, le-ltb}
 use Rattle.pool.specs.Nodes.{half, decode}
 use Rattle.pool.proofs.node.exp_node.Statement.{statement}
 use Rattle.pool.proofs.node.exp_node.Tie as tie

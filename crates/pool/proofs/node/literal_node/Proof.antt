@@ -1,8 +1,7 @@
 -- `pool::node::literal_node` meets its contract: the word's number is tested for the literal range.
 -- Assumes nothing.
 use borrow.Author.Needs.{needs}
-use mathlib.Core.Path.{_≡_, refl, sym, ap, _∙_}
-use borrow.Author.Tests.{le-leb, lt-leb, lt-ltb, le-ltb}
+use mathlib.Core.Path.{sym, ap, _∙_}
 use mir.Syntax.{w64}
 use mir.ValLaws.{toZ-ofZ}
 use Rattle.pool.specs.Nodes.{decode}

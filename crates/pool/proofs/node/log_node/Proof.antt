@@ -1,7 +1,7 @@
 -- `pool::node::log_node` meets its contract: the word has to be a node number of half a word.
 -- Assumes nothing.
 use borrow.Author.Needs.{needs}
-use borrow.Author.Tests.{le-leb, lt-leb, lt-ltb, le-ltb}
+use borrow.Author.Tests.{lt-ltb, le-ltb}
 use Rattle.pool.specs.Nodes.{half, decode}
 use Rattle.pool.proofs.node.log_node.Statement.{statement}
 use Rattle.pool.proofs.node.log_node.Tie as tie

@@ -1,7 +1,7 @@
 -- `pool::node::may_stand_at` meets its contract: each arm tests the parts of its kind of node.
 -- Assumes nothing.
 use borrow.Author.Needs.{needs}
-use mathlib.Core.Path.{_≡_, refl, sym, ap, _∙_}
+use mathlib.Core.Path.{sym, ap, _∙_}
 use Rattle.pool.specs.Nodes.{mayStandAt}
 use Rattle.pool.proofs.KindTable.{and-true}
 use Rattle.pool.proofs.node.may_stand_at.Statement.{statement}

@@ -1,7 +1,7 @@
 -- `pool::node::pow_node` meets its contract: the exponent is compared with the least one.
 -- Assumes nothing.
 use borrow.Author.Needs.{needs}
-use borrow.Author.Tests.{le-leb, lt-leb, lt-ltb, le-ltb}
+use borrow.Author.Tests.{le-leb, lt-leb}
 use Rattle.pool.specs.Nodes.{leastExponent, highOf, decode}
 use Rattle.pool.proofs.node.pow_node.Statement.{statement}
 use Rattle.pool.proofs.node.pow_node.Tie as tie

@@ -1,7 +1,7 @@
 -- `pool::node::variable` meets its contract: the word is compared with the greatest variable number.
 -- Assumes nothing.
 use borrow.Author.Needs.{needs}
-use borrow.Author.Tests.{le-leb, lt-leb, lt-ltb, le-ltb}
+use borrow.Author.Tests.{le-leb, lt-leb}
 use Rattle.pool.specs.Nodes.{greatestVariable, decode}
 use Rattle.pool.proofs.node.variable.Statement.{statement}
 use Rattle.pool.proofs.node.variable.Tie as tie

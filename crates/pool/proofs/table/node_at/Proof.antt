@@ -1,8 +1,7 @@
 -- `pool::table::node_at` meets its contract: past the tables there is no node.
 -- Assumes nothing.
 use borrow.Author.Needs.{needs}
-use mathlib.Core.Path.{_≡_, refl, sym, ap, _∙_}
-use borrow.Author.Tests.{le-leb, lt-leb, lt-ltb, le-ltb}
+use borrow.Author.Tests.{lt-ltb, le-ltb}
 use Rattle.pool.specs.Pool.{limit, nodeIn}
 use Rattle.pool.proofs.table.node_at.Statement.{statement}
 use Rattle.pool.proofs.table.node_at.Tie as tie

@@ -1,7 +1,7 @@
 -- `print::output::write_variable` meets its contract: a letter, or the short text, is the definition's.
 -- Assumes nothing.
 use mathlib.Core.Path.{ap, _∙_}
-use mathlib.Core.List.{List, [], _∷_}
+use mathlib.Core.List.{[], _∷_}
 use Prim.Native.Nat.{ℕ}
 use borrow.Author.Needs.{needs}
 use Rattle.text.proofs.Forms.{a-letter}

@@ -1,6 +1,6 @@
 -- `print::whole::print_by` meets its contract: the length is known before the first byte is put, and a text that was kept whole is copied.
 -- Assumes nothing.
-use mathlib.Core.Path.{_≡_, sym}
+use mathlib.Core.Path.{sym}
 use lib.Seq.{length-take-le}
 use Rattle.print.proofs.Writing.{part-fits, not-put-too-long, not-put-no-room, put-again, put-copied}
 use borrow.Author.Needs.{needs}

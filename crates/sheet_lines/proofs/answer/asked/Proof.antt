@@ -2,8 +2,7 @@
 -- Assumes nothing.
 use borrow.Author.Needs.{needs}
 use borrow.Author.Tests.{not-true, not-false}
-use mathlib.Core.Path.{_≡_, sym, ap, _∙_}
-use Prim.Native.Nat.{ℕ}
+use mathlib.Core.Path.{sym, ap, _∙_}
 use Rattle.refusals.specs.Refusals.{unknownVariable, notLiteral, wrongOrder}
 use Rattle.expand.specs.Points.{pointOf}
 use Rattle.sheet_text.specs.Sheet.{Coefficients, sheetText}

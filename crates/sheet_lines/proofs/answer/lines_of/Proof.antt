@@ -2,7 +2,7 @@
 -- Assumes nothing.
 use borrow.Author.Needs.{needs}
 use borrow.Author.Tests.{not-true, not-false}
-use mathlib.Core.Path.{_≡_, sym, ap, _∙_}
+use mathlib.Core.Path.{sym, _∙_}
 use Rattle.refusals.specs.Refusals.{noRoom}
 use Rattle.pool.specs.Made.{poolOf}
 use Rattle.expand.specs.Points.{pointOf}

@@ -3,7 +3,6 @@
 use mathlib.Core.Path.{ap}
 use mir.Syntax.{w64}
 use mir.ValLaws.{toZ-ofZ}
-use lib.IntN.{ℤ}
 use borrow.Author.Needs.{needs}
 use Rattle.taylor.specs.Expand.{point}
 use Rattle.sheet_lines.proofs.prepare.point_of.Statement.{statement}

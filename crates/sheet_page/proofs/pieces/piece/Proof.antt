@@ -1,6 +1,5 @@
 -- `sheet_page::pieces::piece` meets its contract: room for the longest text and the number of lines are looked at first.
 -- Assumes nothing.
-use mathlib.Core.Path.{_≡_}
 use lib.ListN.{length}
 use borrow.Author.Needs.{needs}
 use Rattle.sheet_page.proofs.Whole.{put-as, nothing-put, no-room, too-many, may-be-put}

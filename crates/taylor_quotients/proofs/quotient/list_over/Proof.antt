@@ -1,7 +1,7 @@
 -- `taylor_quotients::quotient::list_over` meets its contract: a zero, the scale, the first coefficient, and the coefficients after it.
 -- Assumes nothing.
 use borrow.Author.Needs.{needs}
-use mathlib.Core.Path.{sym, ap, _∙_}
+use mathlib.Core.Path.{ap, _∙_}
 use mathlib.Core.List.{[], _∷_}
 use Prim.Native.Nat.{ℕ, _-_}
 use Rattle.pool.specs.Made.{poolOf}
