@@ -29,8 +29,7 @@ fn on_leaf(
         return Answer::Refused(refusal);
     }
     let room = Room {
-        count: n as u32,
-        end: LIMIT as u32,
+        word: pool::EMPTY_ROOM + n,
     };
     let made = pool::append(&mut k, &mut w, room, node);
     lent::finish(kinds, words, count, &k, &w, made)

@@ -24,8 +24,7 @@ fn on_one(kinds: &mut [u8], words: &mut [u64], count: &mut u64, op: One, arg: u6
         return Answer::Refused(refusals::UNKNOWN_NODE);
     }
     let room = Room {
-        count: n as u32,
-        end: LIMIT as u32,
+        word: pool::EMPTY_ROOM + n,
     };
     let result = one_in(&mut k, &mut w, room, op, arg as u32);
     lent::finish(kinds, words, count, &k, &w, result)

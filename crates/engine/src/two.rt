@@ -31,8 +31,7 @@ fn on_two(
         return Answer::Refused(refusals::UNKNOWN_NODE);
     }
     let room = Room {
-        count: n as u32,
-        end: LIMIT as u32,
+        word: pool::EMPTY_ROOM + n,
     };
     let result = two_in(&mut k, &mut w, room, op, lhs as u32, rhs as u32);
     lent::finish(kinds, words, count, &k, &w, result)

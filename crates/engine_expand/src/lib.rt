@@ -43,8 +43,7 @@ fn on_expression(
         return lent_series::refused(refusals::WRONG_ORDER);
     }
     let room = Room {
-        count: n as u32,
-        end: LIMIT as u32,
+        word: pool::EMPTY_ROOM + n,
     };
     let result = expand::expand_in(
         &mut k,

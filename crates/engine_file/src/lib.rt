@@ -43,8 +43,7 @@ pub fn read(kinds: &mut [u8], words: &mut [u64], count: &mut u64, file: &[u8]) -
         return Answer::Refused(refusals::BROKEN_POOL);
     }
     let room = Room {
-        count: n as u32,
-        end: LIMIT as u32,
+        word: pool::EMPTY_ROOM + n,
     };
     let made = node_read::read_file(file, &mut k, &mut w, room);
     lent::finish(kinds, words, count, &k, &w, made)

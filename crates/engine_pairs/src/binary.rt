@@ -115,8 +115,7 @@ fn on_two(
         return lent_series::refused(refusals::WRONG_ORDER);
     }
     let room = Room {
-        count: n as u32,
-        end: LIMIT as u32,
+        word: pool::EMPTY_ROOM + n,
     };
     let lhs = lent_series::expansion_of(s);
     let rhs = lent_series::expansion_of(t);

@@ -80,8 +80,7 @@ fn on_index(
         return Answer::Refused(refusals::WRONG_ORDER);
     }
     let room = Room {
-        count: n as u32,
-        end: LIMIT as u32,
+        word: pool::EMPTY_ROOM + n,
     };
     let e = lent_series::expansion_of(s);
     let made = indexed_in(&mut k, &mut w, room, op, e, index);

@@ -55,8 +55,7 @@ fn on_one(kinds: &mut [u8], words: &mut [u64], count: &mut u64, op: Unary, s: Se
         return lent_series::refused(refusals::WRONG_ORDER);
     }
     let room = Room {
-        count: n as u32,
-        end: LIMIT as u32,
+        word: pool::EMPTY_ROOM + n,
     };
     let e = lent_series::expansion_of(s);
     let result = unary_in(&mut k, &mut w, room, op, e);

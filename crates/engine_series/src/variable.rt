@@ -24,8 +24,7 @@ pub fn var(kinds: &mut [u8], words: &mut [u64], count: &mut u64, x: u64, order: 
         return lent_series::refused(refusals::WRONG_ORDER);
     }
     let room = Room {
-        count: n as u32,
-        end: LIMIT as u32,
+        word: pool::EMPTY_ROOM + n,
     };
     let result = taylor_base::var_in(&mut k, &mut w, room, x as u32, order as u32);
     lent_series::finish(kinds, words, count, &k, &w, result)

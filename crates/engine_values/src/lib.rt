@@ -14,7 +14,7 @@ pub fn evaluate(kinds: &[u8], words: &[u64], count: u64, root: u64, values: &[f6
 {
     let mut k = [0u8; LIMIT];
     let mut w = [0u64; LIMIT];
-    if !lent::take_in(kinds, words, count, &mut k, &mut w) {
+    if !lent::take_whole(kinds, words, count, &mut k, &mut w) {
         return Valued::Refused(refusals::BROKEN_POOL);
     }
     if !lent::one_given(count, root) {
@@ -58,7 +58,7 @@ pub fn evaluate_residue(
 {
     let mut k = [0u8; LIMIT];
     let mut w = [0u64; LIMIT];
-    if !lent::take_in(kinds, words, count, &mut k, &mut w) {
+    if !lent::take_whole(kinds, words, count, &mut k, &mut w) {
         return Divided::Refused(refusals::BROKEN_POOL);
     }
     if !lent::one_given(count, root) {

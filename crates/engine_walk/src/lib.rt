@@ -31,8 +31,7 @@ pub fn substitute_var(
         return Answer::Refused(refusals::UNKNOWN_VARIABLE);
     }
     let room = Room {
-        count: n as u32,
-        end: LIMIT as u32,
+        word: pool::EMPTY_ROOM + n,
     };
     let made = substitute::substitute_in(
         &mut k,
@@ -62,8 +61,7 @@ pub fn derive(kinds: &mut [u8], words: &mut [u64], count: &mut u64, root: u64, v
         return Answer::Refused(refusals::UNKNOWN_VARIABLE);
     }
     let room = Room {
-        count: n as u32,
-        end: LIMIT as u32,
+        word: pool::EMPTY_ROOM + n,
     };
     let made = derive::derive_in(&mut k, &mut w, room, root as u32, var as u32);
     lent::finish(kinds, words, count, &k, &w, made)

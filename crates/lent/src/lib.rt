@@ -3,7 +3,7 @@ ghost use mathlib.Core.Path.{_≡_};
 ghost use mathlib.Core.Bool.{true};
 ghost use mathlib.Core.List.{[], _∷_};
 ghost use lib.Dec.{leb};
-ghost use lib.ListN.{length};
+ghost use lib.ListN.{length, replicate};
 ghost use Prim.Native.Nat.{_≤_};
 ghost use Rattle.pool.specs.Pool.{limit, isPool};
 ghost use Rattle.pool.specs.Made.{made};
@@ -27,9 +27,30 @@ pub enum Answer {
     Refused(u32),
 }
 
-// Whether the tables and the count are a pool. Where they are, both tables are copied. A test that copies on its way is slower: it stops at
-// the first entry that breaks a rule, and so goes entry by entry through all the zeros from the count on.
+// Whether the tables and the count are a pool. Where they are, both tables are copied over tables of zeros, which a pool has from the count on. A test
+// that copies on its way is slower: it stops at the first entry that breaks a rule, and so goes entry by entry through all the zeros.
 pub fn take_in(
+    kinds: &[u8],
+    words: &[u64],
+    count: u64,
+    k: &mut [u8; LIMIT],
+    w: &mut [u64; LIMIT],
+) -> bool
+    requires { ⌜ now k ≡ replicate limit 0 ⌝ }
+    requires { ⌜ now w ≡ replicate limit 0 ⌝ }
+    ensures { λ r. ⌜ TakenIn r (now (kinds .entry)) (now (words .entry)) count (now (k .exit)) (now (w .exit)) ⌝ }
+{
+    if !is_pool(kinds, words, count) {
+        return false;
+    }
+    let n = count as usize;
+    copy_kinds(kinds, n, k);
+    copy_words(words, n, w);
+    true
+}
+
+// As `take_in`, over tables of any entries: all are copied. Where a call only reads the tables, the compiler leaves this copy out and reads the lent ones.
+pub fn take_whole(
     kinds: &[u8],
     words: &[u64],
     count: u64,
@@ -43,8 +64,8 @@ pub fn take_in(
     if !is_pool(kinds, words, count) {
         return false;
     }
-    copy_kinds(kinds, k);
-    copy_words(words, w);
+    copy_kinds(kinds, LIMIT, k);
+    copy_words(words, LIMIT, w);
     true
 }
 
@@ -87,7 +108,7 @@ pub fn finish(
     match result {
         Made::Node { node, room } => {
             let from = *count as usize;
-            let to = room.count as usize;
+            let to = pool::next_of(room) as usize;
             put_back(kinds, words, from, to, k, w);
             *count = to as u64;
             Answer::Node(node as u64)

@@ -23,21 +23,19 @@ fn nodes_keep(kinds: &[u8], words: &[u64], count: usize) -> bool
     true
 }
 
-// The kinds from the count on are 0. All are looked at, with no early way out, so that many can be looked at in one step.
+// The kinds from the count on are 0: their bits are gathered from all of them, with no early way out, so that many can be looked at in one step.
 fn kinds_rest(kinds: &[u8], from: usize) -> bool
     requires { ⌜ from ≤ limit ⌝ }
     requires { ⌜ length (now kinds) ≡ limit ⌝ }
     ensures { λ r. ⌜ r ≡ each limit (zeroAt from (now (kinds .entry))) ⌝ }
 {
-    let mut clean = true;
+    let mut bits = 0u8;
     let mut i = from;
     while i < LIMIT {
-        if kinds[i] != 0 {
-            clean = false;
-        }
+        bits = bits | kinds[i];
         i += 1;
     }
-    clean
+    bits == 0
 }
 
 // The words from the count on are 0.
@@ -46,15 +44,13 @@ fn words_rest(words: &[u64], from: usize) -> bool
     requires { ⌜ length (now words) ≡ limit ⌝ }
     ensures { λ r. ⌜ r ≡ each limit (zeroAt from (now (words .entry))) ⌝ }
 {
-    let mut clean = true;
+    let mut bits = 0u64;
     let mut i = from;
     while i < LIMIT {
-        if words[i] != 0 {
-            clean = false;
-        }
+        bits = bits | words[i];
         i += 1;
     }
-    clean
+    bits == 0
 }
 
 // Whether the tables and the count are a pool.

@@ -3,19 +3,21 @@
 use mathlib.Core.Path.{_≡_, refl, sym, ap, _∙_}
 use mathlib.Core.Bool.{Bool, true, false}
 use mathlib.Core.List.{List}
-use Prim.Native.Nat.{ℕ}
+use Prim.Native.Nat.{ℕ, _+_}
 use native.Mathlib.Omega.{arith}
 use Rattle.refusals.specs.Refusals.{brokenPool}
-use Rattle.pool.specs.Pool.{Pool, pool, Out, done, refused, limit}
-use Rattle.pool.specs.Made.{made, poolOf}
+use Rattle.pool.specs.Pool.{Pool, pool, Out, done, refused}
+use Rattle.pool.specs.Nodes.{lowOf, highOf}
+use Rattle.pool.specs.Made.{emptyRoom, nextOf, made}
+use Rattle.pool.proofs.Rooms.{next-of-count, end-of-count}
 use Rattle.constructor_laws.specs.Grown as plain
 use Rattle.lent.specs.Lent.{TakenIn}
 use Rattle.lent.specs.Call.{lentPool}
 use Rattle.lent.specs.Call as lent
 use Rattle.lent.specs.declared.Answer.{Answer}
 use Rattle.lent.specs.declared.Answer.the-variants.{Node, Refused}
-use Rattle.lent.proofs.Calling.{is-pool}
-use Rattle.taylor.specs.Work.{Result, gives, refused-work, Work, answered}
+use Rattle.lent.proofs.Calling.{is-pool, sizes}
+use Rattle.taylor.specs.Work.{Result, refused-work, Work, answered}
 use Rattle.taylor.specs.Expansion.{Expansion}
 use Rattle.taylor_base.specs.Answers.{statusOf}
 use Rattle.taylor_base.specs.declared.answer.Status.{Status}
@@ -48,7 +50,7 @@ module _ (ks ws : List ℕ) (n : ℕ) (k w : List ℕ) (e : Expansion) {a : Answ
   accepted-left (status.Done room) h d =
       let k-is : ks′ ≡ k = ap (λ (L : lent.Left). L .kinds) h in
       let w-is : ws′ ≡ w = ap (λ (L : lent.Left). L .words) h in
-      let n-is : n′ ≡ room .count = ap (λ (L : lent.Left). L .count) h in
+      let n-is : n′ ≡ nextOf room = ap (λ (L : lent.Left). L .count) h in
       rw (k-is, w-is, n-is) refl
   accepted-left (status.Refused m) h d = different (sym d ∙ ap (λ (L : lent.Left). L .answer) h)
 
@@ -70,8 +72,8 @@ module _ {r : Bool} {ks ws : List ℕ} {n : ℕ} {k w : List ℕ} (t : TakenIn r
   demanded work e h = rw (is-pool t e, ← h)
 
   -- the work on the copies is the work on what was lent
-  pub on-lent : {A : Type 0} {x : Result A} (work : Work A) → r ≡ true → x ≡ work (pool k w n limit) → x ≡ work (lentPool ks ws n)
-  on-lent work e h = rw (t .kinds-copied e, t .words-copied e) at h
+  pub on-lent : {A : Type 0} {x : Result A} (work : Work A) → r ≡ true → x ≡ work (pool k w (lowOf (emptyRoom + n)) (highOf (emptyRoom + n))) → x ≡ work (lentPool ks ws n)
+  on-lent work e h = rw (t .kinds-copied e, t .words-copied e, next-of-count n (sizes t e .small), end-of-count n (sizes t e .small)) at h
 
   pub worked : {x : Result Expansion} {L : Left} (work : Work Expansion) → r ≡ true → L ≡ leaves ks ws n x → x ≡ work (lentPool ks ws n) → L ≡ onPool work ks ws n
   worked work e l h = l ∙ rw (is-pool t e, h)

@@ -1,6 +1,6 @@
 -- Nodes appended one after the other in a loop: what is done so far is the definition's, and a refusal ends the whole.
 -- Assumes nothing.
-use mathlib.Core.Path.{_≡_, refl, sym, ap, _∙_, subst, subst⁻¹}
+use mathlib.Core.Path.{_≡_, sym, ap, _∙_, subst, subst⁻¹}
 use mathlib.Core.Logic.{⊎-elim}
 use mathlib.Core.List.{List}
 use Prim.Native.Nat.{ℕ, zero, suc, _+_, _<_, _≤_}
@@ -13,6 +13,7 @@ use Rattle.pool.specs.declared.node.Node.{Node}
 use Rattle.pool.specs.declared.table.Made.{Made}
 use Rattle.pool.specs.declared.table.Made.the-variants as made-as
 use Rattle.pool.specs.declared.table.Room.{Room}
+use Rattle.shape.specs.Shape.{rename}
 use Rattle.shape.specs.File.{appendFirst}
 use Rattle.shape.specs.Walked.{Falls}
 use Rattle.shape.proofs.Lists.{same-or-not}
@@ -27,9 +28,13 @@ pub record Appended (q : ℕ → Node) (P : Pool) (n i last : ℕ) (Q : Pool) : 
   pub few : i ≤ n
   pub is : appendFirst i q P ≡ done last Q
 
-pub none-appended : (q : ℕ → Node) (P : Pool) (n : ℕ) → Appended q P n 0 (P .count) P
+pub none-appended : (q : ℕ → Node) (P : Pool) (n : ℕ) {last : ℕ} → last ≡ P .count → Appended q P n 0 last P
 unfolding appendFirst
-none-appended q P n = record { few = omega arith; is = refl }
+none-appended q P n e = record { few = omega arith; is = rw e }
+
+-- an entry with its parts shifted by the room's next number
+pub shifted-by : (p : ℕ → Node) (i : ℕ) {x y : Node} {by next : ℕ} → by ≡ next → y ≡ p i → x ≡ rename (λ j. by + j) y → x ≡ rename (λ j. next + j) (p i)
+shifted-by p i b e h = rw (b, e) at h
 
 stays-refused : (q : ℕ → Node) (P : Pool) (k m n : ℕ) → suc m ≤ n → appendFirst (suc m) q P ≡ refused k → appendFirst n q P ≡ refused k
 unfolding appendFirst

@@ -5,7 +5,7 @@ ghost use Prim.Native.Nat.{_+_, _-_, _<_, _≤_};
 ghost use lib.Dec.{eqb};
 ghost use lib.ListN.{length, getD};
 ghost use Rattle.pool.specs.Pool.{limit, nodeIn, each};
-ghost use Rattle.pool.specs.Made.{made, poolOf};
+ghost use Rattle.pool.specs.Made.{nextOf, made, poolOf};
 ghost use Rattle.shape.specs.Shape.{rename};
 ghost use Rattle.shape.specs.File.{numberAt, areInOrder, appendShifted, readFile};
 ghost use Rattle.shape.specs.Walked.{Falls};
@@ -120,11 +120,11 @@ fn append_entries(
     words: &mut [u64; LIMIT],
     room: Room,
 ) -> Made
-    requires { ⌜ (n ≤ limit) × (room .count ≤ limit) ⌝ }
+    requires { ⌜ (n ≤ limit) × (nextOf room ≤ limit) ⌝ }
     requires { ⌜ Falls (nodeIn (now k) (now w)) ⌝ }
     ensures { λ r. ⌜ made r (now (kinds .exit)) (now (words .exit)) ≡ appendShifted n (nodeIn (now (k .entry)) (now (w .entry))) (poolOf (now (kinds .entry)) (now (words .entry)) room) ⌝ }
 {
-    let by = room.count;
+    let by = pool::next_of(room);
     let mut rest = room;
     let mut last = by;
     let mut i = 0;
@@ -155,7 +155,7 @@ pub fn read_file(
     words: &mut [u64; LIMIT],
     room: Room,
 ) -> Made
-    requires { ⌜ room .count ≤ limit ⌝ }
+    requires { ⌜ nextOf room ≤ limit ⌝ }
     ensures { λ r. ⌜ made r (now (kinds .exit)) (now (words .exit)) ≡ readFile (now (bytes .entry)) (poolOf (now (kinds .entry)) (now (words .entry)) room) ⌝ }
 {
     let n = size_of(bytes);

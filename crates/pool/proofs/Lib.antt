@@ -1,1 +1,2 @@
 pub mod KindTable
+pub mod Rooms

@@ -9,7 +9,7 @@ pub const VARIABLE_MAX: u64 = 65_535;
 pub const EXPONENT_MIN: u32 = 2;
 
 // Half a word: what a node number or an exponent has.
-const HALF: u64 = 0x1_0000_0000;
+pub const HALF: u64 = 0x1_0000_0000;
 
 // An unfolded node; parts are node numbers. Empty stands for what is no node.
 pub enum Node {

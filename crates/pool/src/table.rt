@@ -1,16 +1,27 @@
 // The two tables: reading a node, appending one.
 ghost use mathlib.Core.Path.{_≡_};
 ghost use Rattle.pool.specs.Pool.{nodeIn, append};
-ghost use Rattle.pool.specs.Made.{made, poolOf};
+ghost use Rattle.pool.specs.Made.{nextOf, made, poolOf};
+use crate::node::HALF;
 use crate::node::Node;
 
 // How many nodes a pool holds at most.
 pub const LIMIT: usize = 4096;
 
-// The number of the next node, and the number at which there is no room.
+// The room in a pool: the number of the next node in the low half of a word, and the number at which there is no room in the high half. It is one word
+// since it is handed on with every node: two numbers, stored one by one and then read as one, take a processor longer.
 pub struct Room {
-    pub count: u32,
-    pub end: u32,
+    pub word: u64,
+}
+
+// The word of the room in an empty pool; a count is added to it.
+pub const EMPTY_ROOM: u64 = LIMIT as u64 * HALF;
+
+// The number of the next node.
+pub fn next_of(room: Room) -> u32
+    ensures { λ r. ⌜ r ≡ nextOf room ⌝ }
+{
+    (room.word % HALF) as u32
 }
 
 // What a constructor gives: a node and the room left, or the refusal number.
@@ -32,8 +43,9 @@ pub fn node_at(kinds: &[u8; LIMIT], words: &[u64; LIMIT], i: u32) -> Node
 pub fn append(kinds: &mut [u8; LIMIT], words: &mut [u64; LIMIT], room: Room, node: Node) -> Made
     ensures { λ r. ⌜ made r (now (kinds .exit)) (now (words .exit)) ≡ append node (poolOf (now (kinds .entry)) (now (words .entry)) room) ⌝ }
 {
-    let count = room.count;
-    let end = room.end;
+    let word = room.word;
+    let count = (word % HALF) as u32;
+    let end = (word / HALF) as u32;
     let at = count as usize;
     if count < end {
         if at < LIMIT {
@@ -41,10 +53,7 @@ pub fn append(kinds: &mut [u8; LIMIT], words: &mut [u64; LIMIT], room: Room, nod
             words[at] = crate::node::word_of(node);
             return Made::Node {
                 node: count,
-                room: Room {
-                    count: count + 1,
-                    end,
-                },
+                room: Room { word: word + 1 },
             };
         }
     }

@@ -127,6 +127,7 @@ module _ {text : List ℕ} {to : ℕ} {kept kept′ : List ℕ} (w : Wrote 0 kep
         where
           not-long : longestText < length text → ⊥
           not-long past = omega (arith, whole)
+
           not-little : length out < length text → ⊥
           not-little little = omega (arith, whole)
 

@@ -4,17 +4,17 @@ use mathlib.Core.Path.{_≡_, refl, sym, ap, _∙_}
 use mathlib.Core.Bool.{Bool, true, false, _&&_, false≢true}
 use mathlib.Core.Logic.{_⊎_, inl, inr}
 use mathlib.Core.List.{List, [], _∷_, _++_, append-nil}
-use Prim.Native.Nat.{ℕ, zero, suc, _+_, min, _≤_, _<_}
+use Prim.Native.Nat.{ℕ, zero, suc, _+_, _≤_, _<_}
 use native.Mathlib.Omega.{arith}
 use native.Mathlib.Decide.{ℕ-discrete}
-use lib.Dec.{leb, ltb}
-use lib.ListN.{length, take, drop, getD, replicate}
+use lib.Dec.{leb}
+use lib.ListN.{length, take, drop, getD}
 use lib.Seq.{drop-cons, getD-take, length-take-le}
 use borrow.Author.Tests.{le-leb, lt-leb, leb-true}
 use Rattle.refusals.specs.Refusals.{unknownVariable, notLiteral, wrongOrder, noRoom}
 use Rattle.pool.specs.declared.node.Node.{Node}
-use Rattle.pool.specs.Pool.{Pool, Out, done, refused, limit, nodeIn, nodeAt}
-use Rattle.pool.specs.Made.{made, poolOf}
+use Rattle.pool.specs.Pool.{Pool, Out, done, refused, nodeIn, nodeAt}
+use Rattle.pool.specs.Made.{emptyRoom, made, poolOf}
 use Rattle.pool.specs.Nodes.{greatestVariable}
 use Rattle.pool.specs.declared.table.Made.{Made}
 use Rattle.pool.specs.declared.table.Made.the-variants as made-as
@@ -22,8 +22,8 @@ use Rattle.pool.specs.declared.table.Room.{Room}
 use Rattle.shape.specs.File.{readFile}
 use Rattle.lent.proofs.Finishing.{and-left, and-right}
 use Rattle.walks.specs.Print.{textOf, longestText}
-use Rattle.taylor.specs.Work.{Result, gives, refused-work, at}
-use Rattle.taylor.specs.Expansion.{Expansion, Constant, Polynomial, greatestOrder}
+use Rattle.taylor.specs.Work.{gives, refused-work, at}
+use Rattle.taylor.specs.Expansion.{Expansion, greatestOrder}
 use Rattle.taylor.specs.Expand.{Point, expand, isPoint}
 use Rattle.taylor_base.specs.Answers.{terms, listOf, shape, expansionOf, statusOf, Answers, Tidy}
 use Rattle.taylor_base.specs.declared.answer.Expanded.{Expanded}
@@ -31,11 +31,11 @@ use Rattle.taylor_base.specs.declared.answer.Status.the-variants as status
 use Rattle.taylor_base.specs.declared.answer.Expansion as coded
 use Rattle.expand.specs.Points.{pointOf}
 use Rattle.expand.specs.declared.point.Point as place
-use Rattle.sheet_text.specs.Sheet.{Coefficients, texts, refusal, printed, printAll, coefficientsOf, coefficients, empty, expandRoot, sheetText, linesFrom}
+use Rattle.sheet_text.specs.Sheet.{Coefficients, texts, refusal, printAll, coefficientsOf, coefficients, empty, expandRoot, sheetText, linesFrom}
 use Rattle.sheet_page.specs.declared.first.Page.{Page}
 use Rattle.sheet_page.specs.declared.first.Verdict.{Verdict}
-use Rattle.sheet_page.specs.declared.first.Verdict.the-variants.{Usage, Refused, Lines}
-use Rattle.sheet_page.specs.Pages.{headOf, textAt, wholeOf, Printable}
+use Rattle.sheet_page.specs.declared.first.Verdict.the-variants.{Refused, Lines}
+use Rattle.sheet_page.specs.Pages.{headOf, textAt, wholeOf}
 use Rattle.sheet_page.proofs.Whole.{textsFrom, whole-is}
 use Rattle.sheet_lines.specs.Prepared.{Blank, allShort, onlyPage, expandFound, expandFile, fileCoefficients, Prepared}
 
@@ -174,7 +174,7 @@ module _ (file : List ℕ) (v : ℕ) (x : Point) (order : ℕ) where
         found-is (readFile file empty) ∙ ap coefficientsOf (sym (a .is) ∙ e2)
 
   -- the file is read into an empty pool
-  module _ (r : Made) {ks ws : List ℕ} (k w : List ℕ) (blank : Blank ks ws) (m : made r k w ≡ readFile file (poolOf ks ws (record { count = 0; end = limit }))) where
+  module _ (r : Made) {ks ws : List ℕ} (k w : List ℕ) (blank : Blank ks ws) (m : made r k w ≡ readFile file (poolOf ks ws (record { word = emptyRoom }))) where
     from-empty : made r k w ≡ readFile file empty
     unfolding empty
     from-empty = rw (blank .kinds-blank, blank .words-blank) at m

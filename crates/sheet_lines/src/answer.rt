@@ -3,10 +3,9 @@ ghost use mathlib.Core.Path.{_≡_};
 ghost use Prim.Native.Nat.{_≤_, _<_};
 ghost use lib.ListN.{take};
 ghost use Rattle.pool.specs.Pool.{nodeIn};
-ghost use Rattle.taylor_base.specs.Answers.{terms, Answers, Tidy};
+ghost use Rattle.taylor_base.specs.Answers.{terms, Answers};
 ghost use Rattle.expand.specs.Points.{pointOf};
-ghost use Rattle.shape.specs.File.{readFile};
-ghost use Rattle.sheet_text.specs.Sheet.{sheetText, coefficients, expandRoot};
+ghost use Rattle.sheet_text.specs.Sheet.{sheetText, coefficients};
 ghost use Rattle.sheet_lines.specs.Prepared.{Blank, allShort, onlyPage, expandFile, fileCoefficients, Prepared};
 use expand::Point;
 use expand::is_point;
@@ -67,8 +66,7 @@ fn expand_file(
     ensures { λ r. ⌜ Answers r (now (kinds .exit)) (now (words .exit)) (expandFile (now (file .entry)) var (pointOf point) order) ⌝ }
 {
     let room = Room {
-        count: 0,
-        end: LIMIT as u32,
+        word: pool::EMPTY_ROOM,
     };
     let made = node_read::read_file(file, kinds, words, room);
     let Made::Node { node, room: rest } = made else {

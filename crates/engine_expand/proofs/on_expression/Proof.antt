@@ -1,7 +1,7 @@
 -- `engine_expand::on_expression` meets its contract: the pool and all arguments are looked at first, then the walk works on the copies.
 -- Assumes nothing.
 use borrow.Author.Needs.{needs}
-use mathlib.Core.Path.{_≡_, sym, ap, _∙_}
+use mathlib.Core.Path.{sym, _∙_}
 use native.Mathlib.Omega.{arith}
 use borrow.Author.Tests.{not-true, not-false, leb-true, lt-ltb, le-ltb}
 use Rattle.refusals.specs.Refusals.{unknownNode, unknownVariable, notLiteral, wrongOrder}
@@ -128,17 +128,14 @@ returns-5 c =
     let point-given = sym (c .before .before .before .is-point .ensures) ∙ not-false _ (c .before .before .if4 .left) in
     rw (c .refused5 .ensures) (demanded taken (expandWork root var (pointOf x) order) pool-taken (rw (node-given, variable-given, point-given, le-ltb order terms (c .before .if5 .taken))))
 
-cast-expand-in : tie.Need-cast-expand-in
-cast-expand-in c =
+add-t21 : tie.Need-add-t21
+add-t21 c =
     let taken = c .before .before .before .before .before .before .before .before .take-in .ensures in
     let pool-taken = not-false _ (c .before .before .before .before .before .before .before .if1 .left) in
-    record { fits = omega (arith, sizes taken pool-taken .small) }
+    omega (arith, sizes taken pool-taken .small)
 
-cast-expand-in-2 : tie.Need-cast-expand-in-2
-cast-expand-in-2 c = search needs
-
-cast-expand-in-3 : tie.Need-cast-expand-in-3
-cast-expand-in-3 c =
+cast-expand-in : tie.Need-cast-expand-in
+cast-expand-in c =
     let root = c .before .before .before .before .before .before .before .before .before .before .before .before .before .before .before .before .before .before .args .root in
     let var = c .before .before .before .before .before .before .before .before .before .before .before .before .before .before .before .before .before .before .args .var in
     let x = c .before .before .before .before .before .before .before .before .before .before .before .before .before .before .before .before .before .before .args .x in
@@ -148,8 +145,8 @@ cast-expand-in-3 c =
     let node-given = sym (c .before .before .before .before .before .before .before .before .one-given .ensures) ∙ not-false _ (c .before .before .before .before .before .before .before .if2 .left) in
     record { fits = omega (arith, one-is-below (c .before .before .before .before .before .before .before .before .before .before .before .before .before .before .before .before .before .before .args .count .now) root node-given, sizes taken pool-taken .small) }
 
-cast-expand-in-4 : tie.Need-cast-expand-in-4
-cast-expand-in-4 c =
+cast-expand-in-2 : tie.Need-cast-expand-in-2
+cast-expand-in-2 c =
     let root = c .before .before .before .before .before .before .before .before .before .before .before .before .before .before .before .before .before .before .args .root in
     let var = c .before .before .before .before .before .before .before .before .before .before .before .before .before .before .before .before .before .before .args .var in
     let x = c .before .before .before .before .before .before .before .before .before .before .before .before .before .before .before .before .before .before .args .x in
@@ -157,8 +154,8 @@ cast-expand-in-4 c =
     let variable-given = sym (c .before .before .before .before .before .before .is-variable .ensures) ∙ not-false _ (c .before .before .before .before .before .if3 .left) in
     record { fits = omega (arith, leb-true var greatestVariable variable-given) }
 
-cast-expand-in-5 : tie.Need-cast-expand-in-5
-cast-expand-in-5 c = search needs
+cast-expand-in-3 : tie.Need-cast-expand-in-3
+cast-expand-in-3 c = search needs
 
 expand-in-requires : tie.Need-expand-in-requires
 expand-in-requires c κs = search needs
@@ -224,11 +221,10 @@ on-expression-spec =
     same-length-9
     same-length-10
     returns-5
+    add-t21
     cast-expand-in
     cast-expand-in-2
     cast-expand-in-3
-    cast-expand-in-4
-    cast-expand-in-5
     expand-in-requires
     finish-requires
     same-length-11

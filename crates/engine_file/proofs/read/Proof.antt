@@ -22,14 +22,11 @@ same-length-2 c = search needs
 returns : tie.Need-returns
 returns c = broken (c .before .take-in .ensures) (readFile (now (c .before .before .before .before .before .before .before .before .before .before .args .file))) (not-true _ (c .if1 .taken))
 
-cast-t18 : tie.Need-cast-t18
-cast-t18 c = record { fits = omega (arith, sizes (c .before .take-in .ensures) (not-false _ (c .if1 .left)) .small) }
-
-cast-t19 : tie.Need-cast-t19
-cast-t19 c = search needs
+add-t18 : tie.Need-add-t18
+add-t18 c = omega (arith, sizes (c .before .take-in .ensures) (not-false _ (c .if1 .left)) .small)
 
 read-file-requires : tie.Need-read-file-requires
-read-file-requires c κs = sizes (c .before .before .before .take-in .ensures) (not-false _ (c .before .before .if1 .left)) .small
+read-file-requires c κs = omega (arith, sizes (c .before .before .before .take-in .ensures) (not-false _ (c .before .before .if1 .left)) .small)
 
 finish-requires : tie.Need-finish-requires
 finish-requires c κs =
@@ -55,8 +52,7 @@ read-spec =
     same-length
     same-length-2
     returns
-    cast-t18
-    cast-t19
+    add-t18
     read-file-requires
     finish-requires
     same-length-3

@@ -1,7 +1,7 @@
 -- `engine_values::evaluate_residue` meets its contract: the pool, the root and the table are looked at first.
 -- Assumes nothing.
 use borrow.Author.Needs.{needs}
-use mathlib.Core.Path.{_≡_, sym, _∙_}
+use mathlib.Core.Path.{sym, _∙_}
 use native.Mathlib.Omega.{arith}
 use borrow.Author.Tests.{not-true, not-false}
 use Rattle.lent.proofs.Finishing.{pool-sized, one-is-below}
@@ -9,13 +9,13 @@ use Rattle.engine_values.proofs.Evaluates.{no-pool, no-node, no-residue
 use Rattle.engine_values.proofs.evaluate_residue.Statement.{statement}
 use Rattle.engine_values.proofs.evaluate_residue.Tie as tie
 
-take-in-requires : tie.Need-take-in-requires
-take-in-requires c κs = search needs
+take-whole-requires : tie.Need-take-whole-requires
+take-whole-requires c κs = search needs
 
 returns : tie.Need-returns
 returns c =
     let a = c .before .before .before .before .before .before .before .args in
-    no-pool (a .kinds .now) (a .words .now) (a .count) (a .root) (a .values .now) (sym (c .before .take-in .ensures .tested) ∙ not-true _ (c .if1 .taken))
+    no-pool (a .kinds .now) (a .words .now) (a .count) (a .root) (a .values .now) (sym (c .before .take-whole .ensures .tested) ∙ not-true _ (c .if1 .taken))
 
 one-given-requires : tie.Need-one-given-requires
 one-given-requires c κs = search needs
@@ -23,7 +23,7 @@ one-given-requires c κs = search needs
 returns-2 : tie.Need-returns-2
 returns-2 c =
     let a = c .before .before .before .before .before .before .before .before .before .args in
-    let taken = c .before .before .before .take-in .ensures in
+    let taken = c .before .before .before .take-whole .ensures in
     let ok = not-false _ (c .before .before .if1 .left) in
     let p = sym (taken .tested) ∙ ok in
     no-node (a .kinds .now) (a .words .now) (a .count) (a .root) (a .values .now) p (sym (c .before .one-given .ensures) ∙ not-true _ (c .if2 .taken))
@@ -34,7 +34,7 @@ are-residues-requires c κs = search needs
 returns-3 : tie.Need-returns-3
 returns-3 c =
     let a = c .before .before .before .before .before .before .before .before .before .before .before .args in
-    let taken = c .before .before .before .before .before .take-in .ensures in
+    let taken = c .before .before .before .before .before .take-whole .ensures in
     let ok = not-false _ (c .before .before .before .before .if1 .left) in
     let p = sym (taken .tested) ∙ ok in
     let g = sym (c .before .before .before .one-given .ensures) ∙ not-false _ (c .before .before .if2 .left) in
@@ -43,7 +43,7 @@ returns-3 c =
 cast-evaluate-residue-from : tie.Need-cast-evaluate-residue-from
 cast-evaluate-residue-from c =
     let a = c .before .before .before .before .before .before .before .before .before .before .before .before .before .args in
-    let taken = c .before .before .before .before .before .before .before .take-in .ensures in
+    let taken = c .before .before .before .before .before .before .before .take-whole .ensures in
     let ok = not-false _ (c .before .before .before .before .before .before .if1 .left) in
     let p = sym (taken .tested) ∙ ok in
     let g = sym (c .before .before .before .before .before .one-given .ensures) ∙ not-false _ (c .before .before .before .before .if2 .left) in
@@ -58,7 +58,7 @@ evaluate-residue-from-requires c κs =
 returns-4 : tie.Need-returns-4
 returns-4 c =
     let a = c .before .before .before .before .before .before .before .before .before .before .before .before .before .before .args in
-    let taken = c .before .before .before .before .before .before .before .before .take-in .ensures in
+    let taken = c .before .before .before .before .before .before .before .before .take-whole .ensures in
     let ok = not-false _ (c .before .before .before .before .before .before .before .if1 .left) in
     let p = sym (taken .tested) ∙ ok in
     let g = sym (c .before .before .before .before .before .before .one-given .ensures) ∙ not-false _ (c .before .before .before .before .before .if2 .left) in
@@ -69,7 +69,7 @@ pub evaluate-residue-spec : {M : Type 1} → statement M
 evaluate-residue-spec =
     tie.close
     (tie.spec
-    take-in-requires
+    take-whole-requires
     returns
     one-given-requires
     returns-2

@@ -1,7 +1,7 @@
 -- `engine_walk::derive` meets its contract: the pool, the numbers and the variable are looked at first, then the walk works on the copies.
 -- Assumes nothing.
 use borrow.Author.Needs.{needs}
-use mathlib.Core.Path.{_≡_, sym, ap, _∙_}
+use mathlib.Core.Path.{sym, _∙_}
 use native.Mathlib.Omega.{arith}
 use borrow.Author.Tests.{not-true, not-false, leb-true}
 use Rattle.refusals.specs.Refusals.{unknownNode, unknownVariable}
@@ -64,17 +64,14 @@ returns-3 c =
     let given = sym (c .before .before .before .one-given .ensures) ∙ not-false _ (c .before .before .if2 .left) in
     demanded taken (deriveWork root var) pool-taken (rw (given, sym (c .before .is-variable .ensures) ∙ not-true _ (c .if3 .taken)))
 
-cast-derive-in : tie.Need-cast-derive-in
-cast-derive-in c =
+add-t19 : tie.Need-add-t19
+add-t19 c =
     let taken = c .before .before .before .before .before .take-in .ensures in
     let pool-taken = not-false _ (c .before .before .before .before .if1 .left) in
-    record { fits = omega (arith, sizes taken pool-taken .small) }
+    omega (arith, sizes taken pool-taken .small)
 
-cast-derive-in-2 : tie.Need-cast-derive-in-2
-cast-derive-in-2 c = search needs
-
-cast-derive-in-3 : tie.Need-cast-derive-in-3
-cast-derive-in-3 c =
+cast-derive-in : tie.Need-cast-derive-in
+cast-derive-in c =
     let root = c .before .before .before .before .before .before .before .before .before .before .before .before .before .before .before .args .root in
     let var = c .before .before .before .before .before .before .before .before .before .before .before .before .before .before .before .args .var in
     let taken = c .before .before .before .before .before .before .before .take-in .ensures in
@@ -82,8 +79,8 @@ cast-derive-in-3 c =
     let given = sym (c .before .before .before .before .before .one-given .ensures) ∙ not-false _ (c .before .before .before .before .if2 .left) in
     record { fits = omega (arith, one-is-below (c .before .before .before .before .before .before .before .before .before .before .before .before .before .before .before .args .count .now) root given, sizes taken pool-taken .small) }
 
-cast-derive-in-4 : tie.Need-cast-derive-in-4
-cast-derive-in-4 c =
+cast-derive-in-2 : tie.Need-cast-derive-in-2
+cast-derive-in-2 c =
     let root = c .before .before .before .before .before .before .before .before .before .before .before .before .before .before .before .args .root in
     let var = c .before .before .before .before .before .before .before .before .before .before .before .before .before .before .before .args .var in
     let known = sym (c .before .before .before .is-variable .ensures) ∙ not-false _ (c .before .before .if3 .left) in
@@ -134,10 +131,9 @@ derive-spec =
     same-length-5
     same-length-6
     returns-3
+    add-t19
     cast-derive-in
     cast-derive-in-2
-    cast-derive-in-3
-    cast-derive-in-4
     derive-in-requires
     finish-requires
     same-length-7

@@ -1,7 +1,7 @@
 -- `engine_walk::substitute_var` meets its contract: the pool, the numbers and the variable are looked at first, then the walk works on the copies.
 -- Assumes nothing.
 use borrow.Author.Needs.{needs}
-use mathlib.Core.Path.{_≡_, sym, ap, _∙_}
+use mathlib.Core.Path.{sym, _∙_}
 use native.Mathlib.Omega.{arith}
 use borrow.Author.Tests.{not-true, not-false, leb-true}
 use Rattle.refusals.specs.Refusals.{unknownNode, unknownVariable}
@@ -67,17 +67,14 @@ returns-3 c =
     let given = sym (c .before .before .before .both-given .ensures) ∙ not-false _ (c .before .before .if2 .left) in
     demanded taken (substituteWork root var value) pool-taken (rw (given, sym (c .before .is-variable .ensures) ∙ not-true _ (c .if3 .taken)))
 
-cast-substitute-in : tie.Need-cast-substitute-in
-cast-substitute-in c =
+add-t20 : tie.Need-add-t20
+add-t20 c =
     let taken = c .before .before .before .before .before .take-in .ensures in
     let pool-taken = not-false _ (c .before .before .before .before .if1 .left) in
-    record { fits = omega (arith, sizes taken pool-taken .small) }
+    omega (arith, sizes taken pool-taken .small)
 
-cast-substitute-in-2 : tie.Need-cast-substitute-in-2
-cast-substitute-in-2 c = search needs
-
-cast-substitute-in-3 : tie.Need-cast-substitute-in-3
-cast-substitute-in-3 c =
+cast-substitute-in : tie.Need-cast-substitute-in
+cast-substitute-in c =
     let root = c .before .before .before .before .before .before .before .before .before .before .before .before .before .before .before .args .root in
     let var = c .before .before .before .before .before .before .before .before .before .before .before .before .before .before .before .args .var in
     let value = c .before .before .before .before .before .before .before .before .before .before .before .before .before .before .before .args .value in
@@ -86,16 +83,16 @@ cast-substitute-in-3 c =
     let given = sym (c .before .before .before .before .before .both-given .ensures) ∙ not-false _ (c .before .before .before .before .if2 .left) in
     record { fits = omega (arith, both-are-below (c .before .before .before .before .before .before .before .before .before .before .before .before .before .before .before .args .count .now) root value given, sizes taken pool-taken .small) }
 
-cast-substitute-in-4 : tie.Need-cast-substitute-in-4
-cast-substitute-in-4 c =
+cast-substitute-in-2 : tie.Need-cast-substitute-in-2
+cast-substitute-in-2 c =
     let root = c .before .before .before .before .before .before .before .before .before .before .before .before .before .before .before .args .root in
     let var = c .before .before .before .before .before .before .before .before .before .before .before .before .before .before .before .args .var in
     let value = c .before .before .before .before .before .before .before .before .before .before .before .before .before .before .before .args .value in
     let known = sym (c .before .before .before .is-variable .ensures) ∙ not-false _ (c .before .before .if3 .left) in
     record { fits = omega (arith, leb-true var greatestVariable known) }
 
-cast-substitute-in-5 : tie.Need-cast-substitute-in-5
-cast-substitute-in-5 c =
+cast-substitute-in-3 : tie.Need-cast-substitute-in-3
+cast-substitute-in-3 c =
     let root = c .before .before .before .before .before .before .before .before .before .before .before .before .before .before .before .args .root in
     let var = c .before .before .before .before .before .before .before .before .before .before .before .before .before .before .before .args .var in
     let value = c .before .before .before .before .before .before .before .before .before .before .before .before .before .before .before .args .value in
@@ -151,11 +148,10 @@ substitute-var-spec =
     same-length-5
     same-length-6
     returns-3
+    add-t20
     cast-substitute-in
     cast-substitute-in-2
     cast-substitute-in-3
-    cast-substitute-in-4
-    cast-substitute-in-5
     substitute-in-requires
     finish-requires
     same-length-7

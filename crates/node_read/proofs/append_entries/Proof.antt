@@ -1,35 +1,39 @@
 -- `node_read::append_entries` meets its contract: what is appended so far is what the definition appends.
 -- Assumes nothing.
-use mathlib.Core.Path.{ap, _∙_}
 use Prim.Native.Nat.{_+_, _-_}
 use native.Mathlib.Omega.{arith}
 use denote.Ref.{now}
 use Rattle.pool.specs.Pool.{nodeIn}
-use Rattle.pool.specs.Made.{poolOf}
+use Rattle.pool.specs.Made.{nextOf, poolOf}
 use Rattle.shape.specs.Shape.{rename}
-use Rattle.node_read.proofs.OneByOne.{all-below-limit, Appended, none-appended, one-appended, none-more, all-appended}
+use Rattle.node_read.proofs.OneByOne.{all-below-limit, Appended, shifted-by, none-appended, one-appended, none-more, all-appended}
 use Rattle.node_read.proofs.append_entries.Statement.{statement}
 use Rattle.node_read.proofs.append_entries.Tie as tie
 
 abbrev Inv-loop : tie.InvT-loop
-Inv-loop k w n kinds₀ words₀ by rest₀ last₀ i₀ kinds words rest last i = Appended (λ i. rename (λ j. by + j) (nodeIn k w i)) (poolOf kinds₀ words₀ rest₀) n i last (poolOf kinds words rest)
+Inv-loop k w n kinds₀ words₀ by rest₀ last₀ i₀ kinds words rest last i = Appended (λ i. rename (λ j. nextOf rest₀ + j) (nodeIn k w i)) (poolOf kinds₀ words₀ rest₀) n i last (poolOf kinds words rest)
 
 abbrev μ-loop : tie.MeasureT-loop
 μ-loop k w n kinds₀ words₀ by rest₀ last₀ i₀ kinds words rest last i = n - i
 
+next-of-requires : tie.Need-next-of-requires Inv-loop μ-loop
+next-of-requires c κs = tt
+
 loop-holds : tie.Need-loop-holds Inv-loop μ-loop
-loop-holds c = none-appended (λ i. rename (λ j. c .args .room .count + j) ((nodeIn (now (c .args .k)) (now (c .args .w))) i)) _ _
+loop-holds c =
+    let a = c .before .args in
+    none-appended (λ i. rename (λ j. nextOf (a .room) + j) (nodeIn (now (a .k)) (now (a .w)) i)) _ _ (c .next-of .ensures)
 
 cast-node-at : tie.Need-cast-node-at Inv-loop μ-loop
-cast-node-at c = omega (arith, c .before .before .pre .0 .0, c .loop-test .taken)
+cast-node-at c = omega (arith, c .before .before .before .pre .0 .0, c .loop-test .taken)
 
 node-at-requires : tie.Need-node-at-requires Inv-loop μ-loop
 node-at-requires c κs = tt
 
 shifted-requires : tie.Need-shifted-requires Inv-loop μ-loop
 shifted-requires c κs =
-    let start = c .before .before .before in
-    (start .pre .0 .1, all-below-limit (nodeIn (now (start .args .k)) (now (start .args .w))) (start .pre .1) (c .before .before .loop .i) (omega (arith, start .pre .0 .0, c .before .loop-test .taken)) (c .node-at .ensures))
+    let start = c .before .before .before .before in
+    (omega (arith, c .before .before .before .next-of .ensures, start .pre .0 .1), all-below-limit (nodeIn (now (start .args .k)) (now (start .args .w))) (start .pre .1) (c .before .before .loop .i) (omega (arith, start .pre .0 .0, c .before .loop-test .taken)) (c .node-at .ensures))
 
 append-requires : tie.Need-append-requires Inv-loop μ-loop
 append-requires c κs = tt
@@ -41,16 +45,20 @@ enum-told : tie.Need-enum-told Inv-loop μ-loop
 enum-told c = c .match .keys2
 
 returns : tie.Need-returns Inv-loop μ-loop
-returns c = none-more (c .before .before .before .before .before .before .before .before .loop .inv) (c .before .before .before .before .before .before .before .loop-test .taken) (c .before .before .before .before .before .shifted .ensures ∙ ap (rename (λ j. c .before .before .before .before .before .before .before .before .before .args .room .count + j)) (c .before .before .before .before .before .before .node-at .ensures)) _ _ _ (c .before .before .append .ensures) (c .enum-told .given .1)
+returns c =
+    let a = c .before .before .before .before .before .before .before .before .before .before .args in
+    none-more (c .before .before .before .before .before .before .before .before .loop .inv) (c .before .before .before .before .before .before .before .loop-test .taken) (shifted-by (nodeIn (now (a .k)) (now (a .w))) _ (c .before .before .before .before .before .before .before .before .before .next-of .ensures) (c .before .before .before .before .before .before .node-at .ensures) (c .before .before .before .before .before .shifted .ensures)) _ _ _ (c .before .before .append .ensures) (c .enum-told .given .1)
 
 add-i : tie.Need-add-i Inv-loop μ-loop
-add-i c = omega (arith, c .before .before .before .before .before .before .before .before .before .before .pre .0 .0, c .before .before .before .before .before .before .before .before .loop-test .taken)
+add-i c = omega (arith, c .before .before .before .before .before .before .before .before .before .before .before .pre .0 .0, c .before .before .before .before .before .before .before .before .loop-test .taken)
 
 loop-less : tie.Need-loop-less Inv-loop μ-loop
 loop-less c = omega (arith, c .before .before .before .before .before .before .before .before .loop-test .taken)
 
 loop-again : tie.Need-loop-again Inv-loop μ-loop
-loop-again c = one-appended (c .before .before .before .before .before .before .before .before .before .loop .inv) (c .before .before .before .before .before .before .before .before .loop-test .taken) (c .before .before .before .before .before .before .shifted .ensures ∙ ap (rename (λ j. c .before .before .before .before .before .before .before .before .before .before .args .room .count + j)) (c .before .before .before .before .before .before .before .node-at .ensures)) _ _ _ (c .before .before .before .append .ensures) (c .before .appended .given .1)
+loop-again c =
+    let a = c .before .before .before .before .before .before .before .before .before .before .before .args in
+    one-appended (c .before .before .before .before .before .before .before .before .before .loop .inv) (c .before .before .before .before .before .before .before .before .loop-test .taken) (shifted-by (nodeIn (now (a .k)) (now (a .w))) _ (c .before .before .before .before .before .before .before .before .before .before .next-of .ensures) (c .before .before .before .before .before .before .before .node-at .ensures) (c .before .before .before .before .before .before .shifted .ensures)) _ _ _ (c .before .before .before .append .ensures) (c .before .appended .given .1)
 
 returns-2 : tie.Need-returns-2 Inv-loop μ-loop
 returns-2 c = all-appended (c .before .loop .inv) (c .loop-test .left)
@@ -61,6 +69,7 @@ append-entries-spec =
     (tie.spec
     Inv-loop
     μ-loop
+    next-of-requires
     loop-holds
     cast-node-at
     node-at-requires

@@ -42,14 +42,11 @@ returns-2 c =
     let pool-taken = not-false _ (c .before .if1 .left) in
     demanded taken (leafWork allowed refusal node) pool-taken (rw (not-true allowed (c .if2 .taken)))
 
-cast-t20 : tie.Need-cast-t20
-cast-t20 c =
+add-t20 : tie.Need-add-t20
+add-t20 c =
     let taken = c .before .before .take-in .ensures in
     let pool-taken = not-false _ (c .before .if1 .left) in
-    record { fits = omega (arith, sizes taken pool-taken .small) }
-
-cast-t21 : tie.Need-cast-t21
-cast-t21 c = search needs
+    omega (arith, sizes taken pool-taken .small)
 
 append-requires : tie.Need-append-requires
 append-requires c κs = search needs
@@ -87,8 +84,7 @@ on-leaf-spec =
     same-length-3
     same-length-4
     returns-2
-    cast-t20
-    cast-t21
+    add-t20
     append-requires
     finish-requires
     same-length-5

@@ -45,17 +45,14 @@ returns-2 c =
     let pool-taken = not-false _ (c .before .before .if1 .left) in
     demanded taken (onOne op arg) pool-taken (rw (sym (c .before .one-given .ensures) ∙ not-true _ (c .if2 .taken)))
 
-cast-one-in : tie.Need-cast-one-in
-cast-one-in c =
+add-t19 : tie.Need-add-t19
+add-t19 c =
     let taken = c .before .before .before .take-in .ensures in
     let pool-taken = not-false _ (c .before .before .if1 .left) in
-    record { fits = omega (arith, sizes taken pool-taken .small) }
+    omega (arith, sizes taken pool-taken .small)
 
-cast-t20 : tie.Need-cast-t20
-cast-t20 c = search needs
-
-cast-one-in-2 : tie.Need-cast-one-in-2
-cast-one-in-2 c =
+cast-one-in : tie.Need-cast-one-in
+cast-one-in c =
     let arg = c .before .before .before .before .before .before .before .before .before .before .before .before .before .args .arg in
     let taken = c .before .before .before .before .before .take-in .ensures in
     let pool-taken = not-false _ (c .before .before .before .before .if1 .left) in
@@ -102,9 +99,8 @@ on-one-spec =
     same-length-3
     same-length-4
     returns-2
+    add-t19
     cast-one-in
-    cast-t20
-    cast-one-in-2
     one-in-requires
     finish-requires
     same-length-5

@@ -47,17 +47,14 @@ returns-2 c =
     let pool-taken = not-false _ (c .before .before .if1 .left) in
     demanded taken (onTwo op lhs rhs) pool-taken (rw (sym (c .before .both-given .ensures) ∙ not-true _ (c .if2 .taken)))
 
-cast-two-in : tie.Need-cast-two-in
-cast-two-in c =
+add-t20 : tie.Need-add-t20
+add-t20 c =
     let taken = c .before .before .before .take-in .ensures in
     let pool-taken = not-false _ (c .before .before .if1 .left) in
-    record { fits = omega (arith, sizes taken pool-taken .small) }
+    omega (arith, sizes taken pool-taken .small)
 
-cast-two-in-2 : tie.Need-cast-two-in-2
-cast-two-in-2 c = search needs
-
-cast-two-in-3 : tie.Need-cast-two-in-3
-cast-two-in-3 c =
+cast-two-in : tie.Need-cast-two-in
+cast-two-in c =
     let lhs = c .before .before .before .before .before .before .before .before .before .before .before .before .before .args .lhs in
     let rhs = c .before .before .before .before .before .before .before .before .before .before .before .before .before .args .rhs in
     let taken = c .before .before .before .before .before .take-in .ensures in
@@ -65,8 +62,8 @@ cast-two-in-3 c =
     let given = both-are-below (c .before .before .before .before .before .before .before .before .before .before .before .before .before .args .count .now) lhs rhs (sym (c .before .before .before .both-given .ensures) ∙ not-false _ (c .before .before .if2 .left)) in
     record { fits = omega (arith, given, sizes taken pool-taken .small) }
 
-cast-two-in-4 : tie.Need-cast-two-in-4
-cast-two-in-4 c =
+cast-two-in-2 : tie.Need-cast-two-in-2
+cast-two-in-2 c =
     let lhs = c .before .before .before .before .before .before .before .before .before .before .before .before .before .args .lhs in
     let rhs = c .before .before .before .before .before .before .before .before .before .before .before .before .before .args .rhs in
     let taken = c .before .before .before .before .before .take-in .ensures in
@@ -116,10 +113,9 @@ on-two-spec =
     same-length-3
     same-length-4
     returns-2
+    add-t20
     cast-two-in
     cast-two-in-2
-    cast-two-in-3
-    cast-two-in-4
     two-in-requires
     finish-requires
     same-length-5

@@ -1,7 +1,7 @@
 -- `engine_pairs::binary::on_two` meets its contract: the pool, the numbers and the lengths are looked at first, then the operation works on the copies.
 -- Assumes nothing.
 use borrow.Author.Needs.{needs}
-use mathlib.Core.Path.{_≡_, sym, ap, _∙_}
+use mathlib.Core.Path.{_≡_, sym, _∙_}
 use native.Mathlib.Omega.{arith}
 use borrow.Author.Tests.{not-true, not-false}
 use lib.ListN.{length}
@@ -87,14 +87,11 @@ returns-3 c =
     let given-nodes = sym (c .before .before .before .before .both-below .ensures) ∙ not-false _ (c .before .before .before .if2 .left) in
     rw (c .refused3 .ensures) (demanded taken (onTwo op s t) pool-taken (rw (given-nodes, sym (c .before .before .have-lengths .ensures) ∙ not-true _ (c .before .if3 .taken))))
 
-cast-t22 : tie.Need-cast-t22
-cast-t22 c =
+add-t22 : tie.Need-add-t22
+add-t22 c =
     let taken = c .before .before .before .before .before .take-in .ensures in
     let pool-taken = not-false _ (c .before .before .before .before .if1 .left) in
-    record { fits = omega (arith, sizes taken pool-taken .small) }
-
-cast-t23 : tie.Need-cast-t23
-cast-t23 c = search needs
+    omega (arith, sizes taken pool-taken .small)
 
 expansion-of-requires : tie.Need-expansion-of-requires
 expansion-of-requires c κs =
@@ -174,8 +171,7 @@ on-two-spec =
     same-length-5
     same-length-6
     returns-3
-    cast-t22
-    cast-t23
+    add-t22
     expansion-of-requires
     expansion-of-requires-2
     binary-in-requires

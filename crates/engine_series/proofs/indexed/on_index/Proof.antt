@@ -77,14 +77,11 @@ returns-3 c =
     let given-nodes = sym (c .before .before .before .nodes-below .ensures) ∙ not-false _ (c .before .before .if2 .left) in
     demanded taken (onIndex op s index) pool-taken (rw (given-nodes, sym (c .before .index-fits .ensures) ∙ not-true _ (c .if3 .taken)))
 
-cast-t21 : tie.Need-cast-t21
-cast-t21 c =
+add-t21 : tie.Need-add-t21
+add-t21 c =
     let taken = c .before .before .before .before .before .take-in .ensures in
     let pool-taken = not-false _ (c .before .before .before .before .if1 .left) in
-    record { fits = omega (arith, sizes taken pool-taken .small) }
-
-cast-t22 : tie.Need-cast-t22
-cast-t22 c = search needs
+    omega (arith, sizes taken pool-taken .small)
 
 expansion-of-requires : tie.Need-expansion-of-requires
 expansion-of-requires c κs =
@@ -156,8 +153,7 @@ on-index-spec =
     same-length-5
     same-length-6
     returns-3
-    cast-t21
-    cast-t22
+    add-t21
     expansion-of-requires
     indexed-in-requires
     finish-requires

@@ -1,7 +1,7 @@
 -- `engine_series::unary::on_one` meets its contract: the pool, the numbers and the length are looked at first, then the operation works on the copies.
 -- Assumes nothing.
 use borrow.Author.Needs.{needs}
-use mathlib.Core.Path.{_≡_, sym, ap, _∙_}
+use mathlib.Core.Path.{_≡_, sym, _∙_}
 use native.Mathlib.Omega.{arith}
 use borrow.Author.Tests.{not-true, not-false}
 use lib.ListN.{length}
@@ -78,14 +78,11 @@ returns-3 c =
     let given-nodes = sym (c .before .before .before .before .nodes-below .ensures) ∙ not-false _ (c .before .before .before .if2 .left) in
     rw (c .refused3 .ensures) (demanded taken (onOne op s) pool-taken (rw (given-nodes, sym (c .before .before .has-length .ensures) ∙ not-true _ (c .before .if3 .taken))))
 
-cast-t20 : tie.Need-cast-t20
-cast-t20 c =
+add-t20 : tie.Need-add-t20
+add-t20 c =
     let taken = c .before .before .before .before .before .take-in .ensures in
     let pool-taken = not-false _ (c .before .before .before .before .if1 .left) in
-    record { fits = omega (arith, sizes taken pool-taken .small) }
-
-cast-t21 : tie.Need-cast-t21
-cast-t21 c = search needs
+    omega (arith, sizes taken pool-taken .small)
 
 expansion-of-requires : tie.Need-expansion-of-requires
 expansion-of-requires c κs =
@@ -148,8 +145,7 @@ on-one-spec =
     same-length-5
     same-length-6
     returns-3
-    cast-t20
-    cast-t21
+    add-t20
     expansion-of-requires
     unary-in-requires
     finish-requires

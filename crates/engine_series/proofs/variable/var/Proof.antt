@@ -1,7 +1,7 @@
 -- `engine_series::variable::var` meets its contract: the pool, the node and the order are looked at first, then the work is done on the copies.
 -- Assumes nothing.
 use borrow.Author.Needs.{needs}
-use mathlib.Core.Path.{_≡_, sym, ap, _∙_}
+use mathlib.Core.Path.{sym, _∙_}
 use native.Mathlib.Omega.{arith}
 use borrow.Author.Tests.{not-true, not-false, lt-ltb, le-ltb}
 use Rattle.refusals.specs.Refusals.{unknownNode, wrongOrder}
@@ -71,25 +71,22 @@ returns-3 c =
     let given-node = sym (c .before .before .before .one-given .ensures) ∙ not-false _ (c .before .before .if2 .left) in
     rw (c .refused3 .ensures) (demanded taken (varWork x order) pool-taken (rw (given-node, le-ltb order terms (c .before .if3 .taken))))
 
-cast-var-in : tie.Need-cast-var-in
-cast-var-in c =
+add-t19 : tie.Need-add-t19
+add-t19 c =
     let taken = c .before .before .before .before .take-in .ensures in
     let pool-taken = not-false _ (c .before .before .before .if1 .left) in
-    record { fits = omega (arith, sizes taken pool-taken .small) }
+    omega (arith, sizes taken pool-taken .small)
 
-cast-var-in-2 : tie.Need-cast-var-in-2
-cast-var-in-2 c = search needs
-
-cast-var-in-3 : tie.Need-cast-var-in-3
-cast-var-in-3 c =
+cast-var-in : tie.Need-cast-var-in
+cast-var-in c =
     let x = c .before .before .before .before .before .before .before .before .before .before .before .before .before .before .args .x in
     let taken = c .before .before .before .before .before .before .take-in .ensures in
     let pool-taken = not-false _ (c .before .before .before .before .before .if1 .left) in
     let given-node = sym (c .before .before .before .before .one-given .ensures) ∙ not-false _ (c .before .before .before .if2 .left) in
     record { fits = omega (arith, one-is-below (c .before .before .before .before .before .before .before .before .before .before .before .before .before .before .args .count .now) x given-node, sizes taken pool-taken .small) }
 
-cast-var-in-4 : tie.Need-cast-var-in-4
-cast-var-in-4 c = search needs
+cast-var-in-2 : tie.Need-cast-var-in-2
+cast-var-in-2 c = search needs
 
 var-in-requires : tie.Need-var-in-requires
 var-in-requires c κs = search needs
@@ -137,10 +134,9 @@ var-spec =
     same-length-5
     same-length-6
     returns-3
+    add-t19
     cast-var-in
     cast-var-in-2
-    cast-var-in-3
-    cast-var-in-4
     var-in-requires
     finish-requires
     same-length-7

@@ -1,11 +1,18 @@
 -- `pool::table::append` meets its contract: the two stores are the definition's, and are made only where there is room.
 -- Assumes nothing.
-use borrow.Author.Needs.{needs}
-use mathlib.Core.Path.{_≡_, refl, sym, ap, _∙_}
-use borrow.Author.Tests.{le-leb, lt-leb, lt-ltb, le-ltb}
+use borrow.Author.Tests.{lt-ltb, le-ltb}
+use Rattle.pool.specs.Nodes.{lowOf, highOf}
 use Rattle.pool.specs.Pool.{limit, append}
+use Rattle.pool.proofs.Rooms.{next-after, end-after}
+use borrow.Author.Needs.{needs}
 use Rattle.pool.proofs.table.append.Statement.{statement}
 use Rattle.pool.proofs.table.append.Tie as tie
+
+cast-count : tie.Need-cast-count
+cast-count c = search needs
+
+cast-end : tie.Need-cast-end
+cast-end c = search needs
 
 cast-at : tie.Need-cast-at
 cast-at c = search needs
@@ -25,32 +32,41 @@ mul-words c = search needs
 element-write-words : tie.Need-element-write-words
 element-write-words c = search needs
 
-add-t17 : tie.Need-add-t17
-add-t17 c = search needs
+add-t15 : tie.Need-add-t15
+add-t15 c = search needs
 
 returns : tie.Need-returns
 unfolding append
-returns c = rw (lt-ltb (c .before .before .before .before .args .room .count) _ (c .before .before .before .if1 .taken), lt-ltb (c .before .before .before .before .args .room .count) limit (c .before .before .if2 .taken), c .before .kind-of .ensures, c .word-of .ensures)
+returns c =
+    let w = c .before .before .before .before .args .room .word in
+    let fits = c .before .before .if2 .taken in
+    rw (lt-ltb (lowOf w) (highOf w) (c .before .before .before .if1 .taken), lt-ltb (lowOf w) limit fits, next-after w fits, end-after w fits, c .before .kind-of .ensures, c .word-of .ensures)
 
 returns-2 : tie.Need-returns-2
 unfolding append
-returns-2 c = rw (lt-ltb (c .before .before .args .room .count) _ (c .before .if1 .taken), le-ltb (c .before .before .args .room .count) limit (c .if2 .left))
+returns-2 c =
+    let w = c .before .before .args .room .word in
+    rw (lt-ltb (lowOf w) (highOf w) (c .before .if1 .taken), le-ltb (lowOf w) limit (c .if2 .left))
 
 returns-3 : tie.Need-returns-3
 unfolding append
-returns-3 c = rw (le-ltb (c .before .args .room .count) _ (c .if1 .left))
+returns-3 c =
+    let w = c .before .args .room .word in
+    rw (le-ltb (lowOf w) (highOf w) (c .if1 .left))
 
 pub append-spec : {M : Type 1} → statement M
 append-spec =
     tie.close
     (tie.spec
+    cast-count
+    cast-end
     cast-at
     kind-of-requires
     element-write-kinds
     word-of-requires
     mul-words
     element-write-words
-    add-t17
+    add-t15
     returns
     returns-2
     returns-3)

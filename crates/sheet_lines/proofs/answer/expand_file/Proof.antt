@@ -7,9 +7,6 @@ use Rattle.sheet_lines.proofs.Pages.{file-refused, file-read}
 use Rattle.sheet_lines.proofs.answer.expand_file.Statement.{statement}
 use Rattle.sheet_lines.proofs.answer.expand_file.Tie as tie
 
-cast-t11 : tie.Need-cast-t11
-cast-t11 c = search needs
-
 read-file-requires : tie.Need-read-file-requires
 read-file-requires c κs = search needs
 
@@ -40,7 +37,6 @@ pub expand-file-spec : {M : Type 1} → statement M
 expand-file-spec =
     tie.close
     (tie.spec
-    cast-t11
     read-file-requires
     enum-known-made
     enum-told
