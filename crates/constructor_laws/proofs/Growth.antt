@@ -1,7 +1,7 @@
 -- Every constructor only appends, whatever the pool, the arguments and the depth: appending does, one piece of work after another does where both do, so a term does where the calls in it do, and the rest is induction on the depth.
 -- Assumes nothing.
 use mathlib.Core.Path.{_≡_, refl, sym, ap, _∙_, subst}
-use mathlib.Core.Bool.{Bool, true, false, _&&_}
+use mathlib.Core.Bool.{Bool, true, false, _&&_, cond}
 use mathlib.Core.List.{List}
 use Prim.Native.Nat.{ℕ, zero, suc, _+_, _-_, _≤_, _<_}
 use native.Mathlib.Omega.{arith}
@@ -16,7 +16,7 @@ use Rattle.literal.specs.declared.Folded.the-variants.{Value, Refused}
 use Rattle.pool.specs.declared.node.Node.{Node}
 use Rattle.pool.specs.declared.node.Node.the-variants as node
 use Rattle.pool.specs.Nodes.{kindOf, wordOf, greatestExponent}
-use Rattle.pool.specs.Pool.{Pool, pool, Out, done, refused, Run, bind, yield, refuse, append, choose, limit, nodeAt, nodeIn}
+use Rattle.pool.specs.Pool.{Pool, pool, Out, done, refused, Run, bind, yield, refuse, append, limit, nodeAt, nodeIn}
 use Rattle.constructors.specs.Terms.{Term, #, lit, lit-exp, lit-log, add, mul, exp, log, pow, Add, Mul, Div, Max, Exp, Log, Pow}
 use Rattle.constructors.specs.Tables.{addTable, mulTable, divTable, negTable, expTable, logTable, powTable, maxTable}
 use Rattle.constructors.specs.Build.{Calls, literal, exponent, build, noCalls, deeper, calls}
@@ -123,7 +123,7 @@ unfolding append
 append-comes-to H n P there full = go (ltb (P .count) (P .end)) (ltb (P .count) limit) refl refl
   where
     go :
-        (room below : Bool) → ltb (P .count) (P .end) ≡ room → ltb (P .count) limit ≡ below → H (choose (room && below) (done (P .count) (appended n P)) (refused poolFull))
+        (room below : Bool) → ltb (P .count) (P .end) ≡ room → ltb (P .count) limit ≡ below → H (cond (room && below) (done (P .count) (appended n P)) (refused poolFull))
     go true true r b = there (ltb-true (P .count) (P .end) r) (ltb-true (P .count) limit b)
     go true false r b = full
     go false below r b = full

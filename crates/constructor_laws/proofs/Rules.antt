@@ -2,7 +2,7 @@
 -- Assumes nothing.
 use mathlib.Core.Path.{_≡_, refl, sym, _∙_}
 use mathlib.Core.Logic.{_⊎_, inl, inr}
-use mathlib.Core.Bool.{Bool, true, false, _&&_, and-eq-true-iff}
+use mathlib.Core.Bool.{Bool, true, false, _&&_, and-eq-true-iff, cond}
 use mathlib.Core.List.{List, [], _∷_}
 use Prim.Native.Nat.{ℕ, zero, suc, _≤_, _<_}
 use native.Mathlib.Nat.{eq-or-lt-of-le}
@@ -12,7 +12,7 @@ use lib.ListN.{length, getD, replicate, length-replicate, getD-replicate}
 use borrow.Author.Tests.{ltb-true, ltb-false, leb-true, eqb-true, lt-ltb, le-ltb, le-leb, eq-eqb}
 use Rattle.pool.specs.declared.node.Node.{Node}
 use Rattle.pool.specs.declared.node.Node.the-variants.{Empty}
-use Rattle.pool.specs.Nodes.{decode, parts, allBelow, isNode, mayStandAt, pick}
+use Rattle.pool.specs.Nodes.{decode, parts, allBelow, isNode, mayStandAt}
 use Rattle.pool.specs.Pool.{Pool, pool, limit, nodeAt, nodeIn, entryKeeps, each, isPool}
 use Rattle.constructor_laws.specs.Keeps.{Keeps}
 
@@ -122,7 +122,7 @@ pub nothing-behind : {P : Pool} → Keeps P → (i : ℕ) → P .count ≤ i →
 unfolding nodeIn
 nothing-behind {P} k i h = go (ltb i limit) refl
   where
-    go : (t : Bool) → ltb i limit ≡ t → pick t (decode (getD (P .kinds) i 0) (getD (P .words) i 0)) Empty ≡ Empty
+    go : (t : Bool) → ltb i limit ≡ t → cond t (decode (getD (P .kinds) i 0) (getD (P .words) i 0)) Empty ≡ Empty
     go true t = empty-entry (getD (P .kinds) i 0) (getD (P .words) i 0) (sym (entry-behind (P .kinds) (P .words) (P .count) i h) ∙ rules-of k .entries i (ltb-true i limit t))
     go false t = refl
 

@@ -11,8 +11,7 @@ use Rattle.double.specs.declared.Valued.the-variants.{Double, Refused}
 use Rattle.pool.specs.Pool.{limit, nodeIn}
 use Rattle.pool.specs.declared.node.Node.{Node}
 use Rattle.walks.specs.Evaluate.{one, evaluateNode, evaluateBelow, evaluate}
-use Rattle.walks.proofs.Bounded.{below, above}
-use Rattle.walks.proofs.Instances.{evaluation-is-bounded}
+use Rattle.walks.proofs.Folds.{visits, below, above}
 use Rattle.walks.proofs.Tables.{limit-is-enough}
 use Rattle.walks.proofs.Keeping.{one-more-kept}
 use Rattle.evaluate.specs.Keeps.{Keeps}
@@ -32,15 +31,15 @@ with-part next h e = h ∙ ap (λ (q : Valued). one q next) e
 module _ (at : ℕ → Node) (values : List Float) where
   -- the value of a node is its value under any bound above it
   pub under-the-bound : {r : Valued} (k i : ℕ) → i < k → r ≡ evaluate at values i → r ≡ evaluateBelow at values k i
-  under-the-bound k i h e = e ∙ below (evaluation-is-bounded at values) k i h
+  under-the-bound k i h e = e ∙ below (Refused brokenPool) (evaluate at values) k i h
 
   pub past-the-bound : (k i : ℕ) → k ≤ i → Refused brokenPool ≡ evaluateBelow at values k i
-  past-the-bound k i h = above (evaluation-is-bounded at values) k i h
+  past-the-bound k i h = above (Refused brokenPool) (evaluate at values) k i h
 
   -- the node at i was read as n, which is the arm's
   pub visited : {r : Valued} {n arm : Node} (i : ℕ) → n ≡ at i → n ≡ arm → r ≡ evaluateNode values (evaluateBelow at values i) arm → r ≡ evaluate at values i
   visited i read told h =
-      h ∙ ap (evaluateNode values (evaluateBelow at values i)) (sym told ∙ read) ∙ sym (evaluation-is-bounded at values .visits i)
+      h ∙ ap (evaluateNode values (evaluateBelow at values i)) (sym told ∙ read) ∙ sym (visits (Refused brokenPool) (evaluateNode values) at i)
 
   -- the value of a node that was visited: it is the one asked for, and may be kept
   pub newly-kept :
@@ -51,4 +50,4 @@ module _ (at : ℕ → Node) (values : List Float) where
 -- the whole walk, under the limit
 pub whole-walk : {r : Valued} (ks ws : List ℕ) (values : List Float) (root : ℕ) → r ≡ evaluateBelow (nodeIn ks ws) values limit root → r ≡ evaluate (nodeIn ks ws) values root
 whole-walk ks ws values root e =
-    e ∙ limit-is-enough (evaluateNode values) ks ws (evaluation-is-bounded (nodeIn ks ws) values) (λ down. refl) root
+    e ∙ limit-is-enough (Refused brokenPool) (evaluateNode values) ks ws (λ down. refl) root

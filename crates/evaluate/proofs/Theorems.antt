@@ -8,9 +8,11 @@ use lib.Ieee.{Float}
 use Rattle.pool.specs.Nodes.{parts}
 use Rattle.pool.specs.declared.node.Node.{Node}
 use Rattle.pool.specs.declared.node.Node.the-variants.{Empty, Variable, Lit, Add, Mul, Div, Exp, Log, Pow, Max}
+use Rattle.refusals.specs.Refusals.{brokenPool}
+use Rattle.double.specs.declared.Valued.the-variants.{Refused}
 use Rattle.walks.specs.Evaluate.{evaluateNode, evaluate}
-use Rattle.walks.proofs.Reached.{Reached, GoesByParts, agrees-on, agrees-on-reached, agrees-up-to}
-use Rattle.walks.proofs.Instances.{evaluation-is-bounded}
+use Rattle.walks.proofs.Folds.{GoesByParts}
+use Rattle.walks.proofs.Reached.{Reached, agrees-on, agrees-on-reached, agrees-up-to}
 
 module _ (values : List Float) where
   pub goes-by-parts : GoesByParts (evaluateNode values)
@@ -30,12 +32,12 @@ module _ (values : List Float) where
     pub value-goes-by-a-closed-set :
         (S : ℕ → Type 0) → ((i a : ℕ) → S i → List·Memᴰ a (parts (at i)) → a < i → S a) → ((i : ℕ) → S i → at i ≡ at′ i) → S root → evaluate at values root ≡ evaluate at′ values root
     value-goes-by-a-closed-set S closed agree here =
-        agrees-on goes-by-parts (evaluation-is-bounded at values) (evaluation-is-bounded at′ values) S closed agree root here
+        agrees-on (Refused brokenPool) goes-by-parts at at′ S closed agree root here
 
     pub value-goes-by-the-reached : ((i : ℕ) → Reached at root i → at i ≡ at′ i) → evaluate at values root ≡ evaluate at′ values root
     value-goes-by-the-reached agree =
-        agrees-on-reached goes-by-parts (evaluation-is-bounded at values) (evaluation-is-bounded at′ values) root agree
+        agrees-on-reached (Refused brokenPool) goes-by-parts at at′ root agree
 
     pub value-goes-by-the-numbers-up-to : ((i : ℕ) → i ≤ root → at i ≡ at′ i) → evaluate at values root ≡ evaluate at′ values root
     value-goes-by-the-numbers-up-to agree =
-        agrees-up-to goes-by-parts (evaluation-is-bounded at values) (evaluation-is-bounded at′ values) root agree
+        agrees-up-to (Refused brokenPool) goes-by-parts at at′ root agree

@@ -1,7 +1,7 @@
 -- Every residue that the definition gives is below the modulus: each operation on residues ends below it, whatever its parts.
 -- Assumes nothing.
 use mathlib.Core.Path.{_≡_, refl, sym, _∙_}
-use mathlib.Core.Bool.{Bool, true, false}
+use mathlib.Core.Bool.{Bool, true, false, cond}
 use mathlib.Core.List.{List}
 use Prim.Native.Nat.{ℕ, _+_, _*_, _^_, _<_}
 use native.Mathlib.Nat.{mod-lt}
@@ -9,7 +9,7 @@ use native.Mathlib.Omega.{arith}
 use lib.Dec.{ltb}
 use lib.ListN.{length, getD}
 use borrow.Author.Tests.{ltb-true}
-use Rattle.refusals.specs.Refusals.{noValue}
+use Rattle.refusals.specs.Refusals.{brokenPool, noValue}
 use Rattle.residue.specs.Residue.{Modulus, dividesTo, provided, quotientOf}
 use Rattle.residue.specs.declared.Divided.{Divided}
 use Rattle.residue.specs.declared.Divided.the-variants.{Residue, Refused}
@@ -18,10 +18,9 @@ use Rattle.residue.proofs.Search.Sought.{found, missing}
 use Rattle.residue.proofs.Theorems.{residue-below}
 use Rattle.pool.specs.declared.node.Node.{Node}
 use Rattle.pool.specs.declared.node.Node.the-variants.{Empty, Variable, Lit, Add, Mul, Div, Exp, Log, Pow, Max}
-use Rattle.walks.specs.EvaluateResidue.{one, both, pick, residueNode, residueBelow}
-use Rattle.walks.proofs.Bounded.{throughout}
+use Rattle.walks.specs.EvaluateResidue.{one, both, residueNode, residueBelow}
+use Rattle.walks.proofs.Folds.{throughout}
 use Rattle.evaluate_residue.specs.Residues.{Residues, Below}
-use Rattle.walks.proofs.Instances.{residues-are-bounded}
 
 module _ (m : ℕ) where
   one-below : (r : Divided) (next : ℕ → Divided) → ((x : ℕ) → Below m (next x)) → Below m (one r next)
@@ -44,7 +43,7 @@ module _ (m : ℕ) where
   quotient-below x y = provided-below (dividesTo m 1 y) (dividesTo m x y) (sought-below (sought m _))
 
   module _ (modulus : Modulus m) (values : List ℕ) (residues : Residues m values) where
-    variable-below : (v : ℕ) (t : Bool) → ltb v (length values) ≡ t → Below m (pick t (Residue (getD values v 0)) (Refused noValue))
+    variable-below : (v : ℕ) (t : Bool) → ltb v (length values) ≡ t → Below m (cond t (Residue (getD values v 0)) (Refused noValue))
     variable-below v true e = residues .below v (ltb-true v (length values) e)
     variable-below v false e = tt
 
@@ -63,7 +62,7 @@ module _ (m : ℕ) where
     -- an answer of the walk is below the modulus, where it is no refusal
     pub answer-below : {r : Divided} (at : ℕ → Node) (k i : ℕ) → r ≡ residueBelow m at values k i → Below m r
     answer-below at k i is =
-        rw is (throughout (residues-are-bounded m at values) (Below m) tt (λ down j. node-below down (at j)) k i)
+        rw is (throughout (Refused brokenPool) (residueNode m values) at (Below m) tt (λ down j. node-below down (at j)) k i)
 
     pub residue-is-below : {r : Divided} {x : ℕ} (at : ℕ → Node) (k i : ℕ) → r ≡ Residue x → r ≡ residueBelow m at values k i → x < m
     residue-is-below at k i e is = answer-below at k i (sym e ∙ is)

@@ -10,8 +10,7 @@ use Rattle.residue.specs.declared.Divided.the-variants.{Residue, Refused}
 use Rattle.pool.specs.Pool.{limit, nodeIn}
 use Rattle.pool.specs.declared.node.Node.{Node}
 use Rattle.walks.specs.EvaluateResidue.{one, residueNode, residueBelow, evaluateResidue}
-use Rattle.walks.proofs.Bounded.{below, above}
-use Rattle.walks.proofs.Instances.{residues-are-bounded}
+use Rattle.walks.proofs.Folds.{visits, below, above}
 use Rattle.walks.proofs.Tables.{limit-is-enough}
 use Rattle.walks.proofs.Keeping.{one-more-kept}
 use Rattle.evaluate_residue.specs.Residues.{Keeps}
@@ -31,15 +30,15 @@ with-part next h e = h ∙ ap (λ (q : Divided). one q next) e
 module _ (m : ℕ) (at : ℕ → Node) (values : List ℕ) where
   -- the residue of a node is its residue under any bound above it
   pub under-the-bound : {r : Divided} (k i : ℕ) → i < k → r ≡ evaluateResidue m at values i → r ≡ residueBelow m at values k i
-  under-the-bound k i h e = e ∙ below (residues-are-bounded m at values) k i h
+  under-the-bound k i h e = e ∙ below (Refused brokenPool) (evaluateResidue m at values) k i h
 
   pub past-the-bound : (k i : ℕ) → k ≤ i → Refused brokenPool ≡ residueBelow m at values k i
-  past-the-bound k i h = above (residues-are-bounded m at values) k i h
+  past-the-bound k i h = above (Refused brokenPool) (evaluateResidue m at values) k i h
 
   -- the node at i was read as n, which is the arm's
   pub visited : {r : Divided} {n arm : Node} (i : ℕ) → n ≡ at i → n ≡ arm → r ≡ residueNode m values (residueBelow m at values i) arm → r ≡ evaluateResidue m at values i
   visited i read told h =
-      h ∙ ap (residueNode m values (residueBelow m at values i)) (sym told ∙ read) ∙ sym (residues-are-bounded m at values .visits i)
+      h ∙ ap (residueNode m values (residueBelow m at values i)) (sym told ∙ read) ∙ sym (visits (Refused brokenPool) (residueNode m values) at i)
 
   -- the residue of a node that was visited: it is the one asked for, and may be kept
   pub newly-kept :
@@ -50,4 +49,4 @@ module _ (m : ℕ) (at : ℕ → Node) (values : List ℕ) where
 -- the whole walk, under the limit
 pub whole-walk : {r : Divided} (m : ℕ) (ks ws values : List ℕ) (root : ℕ) → r ≡ residueBelow m (nodeIn ks ws) values limit root → r ≡ evaluateResidue m (nodeIn ks ws) values root
 whole-walk m ks ws values root e =
-    e ∙ limit-is-enough (residueNode m values) ks ws (residues-are-bounded m (nodeIn ks ws) values) (λ down. refl) root
+    e ∙ limit-is-enough (Refused brokenPool) (residueNode m values) ks ws (λ down. refl) root

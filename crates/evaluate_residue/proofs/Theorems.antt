@@ -7,9 +7,11 @@ use Prim.Native.Nat.{ℕ, _<_, _≤_}
 use Rattle.pool.specs.Nodes.{parts}
 use Rattle.pool.specs.declared.node.Node.{Node}
 use Rattle.pool.specs.declared.node.Node.the-variants.{Empty, Variable, Lit, Add, Mul, Div, Exp, Log, Pow, Max}
+use Rattle.refusals.specs.Refusals.{brokenPool}
+use Rattle.residue.specs.declared.Divided.the-variants.{Refused}
 use Rattle.walks.specs.EvaluateResidue.{residueNode, evaluateResidue}
-use Rattle.walks.proofs.Reached.{Reached, GoesByParts, agrees-on, agrees-on-reached, agrees-up-to}
-use Rattle.walks.proofs.Instances.{residues-are-bounded}
+use Rattle.walks.proofs.Folds.{GoesByParts}
+use Rattle.walks.proofs.Reached.{Reached, agrees-on, agrees-on-reached, agrees-up-to}
 
 module _ (m : ℕ) (values : List ℕ) where
   pub goes-by-parts : GoesByParts (residueNode m values)
@@ -29,12 +31,12 @@ module _ (m : ℕ) (values : List ℕ) where
     pub residue-goes-by-a-closed-set :
         (S : ℕ → Type 0) → ((i a : ℕ) → S i → List·Memᴰ a (parts (at i)) → a < i → S a) → ((i : ℕ) → S i → at i ≡ at′ i) → S root → evaluateResidue m at values root ≡ evaluateResidue m at′ values root
     residue-goes-by-a-closed-set S closed agree here =
-        agrees-on goes-by-parts (residues-are-bounded m at values) (residues-are-bounded m at′ values) S closed agree root here
+        agrees-on (Refused brokenPool) goes-by-parts at at′ S closed agree root here
 
     pub residue-goes-by-the-reached : ((i : ℕ) → Reached at root i → at i ≡ at′ i) → evaluateResidue m at values root ≡ evaluateResidue m at′ values root
     residue-goes-by-the-reached agree =
-        agrees-on-reached goes-by-parts (residues-are-bounded m at values) (residues-are-bounded m at′ values) root agree
+        agrees-on-reached (Refused brokenPool) goes-by-parts at at′ root agree
 
     pub residue-goes-by-the-numbers-up-to : ((i : ℕ) → i ≤ root → at i ≡ at′ i) → evaluateResidue m at values root ≡ evaluateResidue m at′ values root
     residue-goes-by-the-numbers-up-to agree =
-        agrees-up-to goes-by-parts (residues-are-bounded m at values) (residues-are-bounded m at′ values) root agree
+        agrees-up-to (Refused brokenPool) goes-by-parts at at′ root agree

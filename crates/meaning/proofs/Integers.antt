@@ -4,7 +4,8 @@ use mathlib.Core.Path.{_≡_, refl, sym, ap, _∙_}
 use Prim.Native.Nat.{zero}
 use lib.IntN.{ℤ, pos, negℤ, ℤ-ind, _+ℤ_, _*ℤ_, +ℤ-comm, +ℤ-assoc, +ℤ-idr, +ℤ-idl, +ℤ-one, -ℤ-one, +ℤ-invl, +ℤ-negℤ-cancel, *ℤ-comm, *ℤ-one, *ℤ-zero, zero-*ℤ, sucℤ-*ℤ, predℤ-*ℤ, negℤ-+ℤ, one}
 use Rattle.meaning.specs.Model.{Model, Distributive}
-use Rattle.meaning.specs.Value.{valueNode, valueBelow, value}
+use Rattle.meaning.specs.Value.{valueNode, value}
+use Rattle.walks.specs.Fold.{under, foldWithin, fold}
 use Rattle.meaning.specs.Integers.{integers}
 use Rattle.meaning.specs.Examples.{smallTable}
 
@@ -95,5 +96,5 @@ integers-ring = record { distributes = times-plus }
 
 -- (2 + 5) × 3, computed
 computed : value integers (λ v. pos 5) smallTable 4 ≡ pos 21
-unfolding value valueBelow valueNode smallTable
+unfolding fold foldWithin under valueNode smallTable
 computed = refl

@@ -1,10 +1,12 @@
 -- What a value depends on: a node's value is had from its parts' values, it goes by the reachable nodes alone, and appending changes none.
 -- Assumes nothing.
-use mathlib.Core.Path.{_≡_, refl, ap, _∙_}
+use mathlib.Core.Path.{_≡_, refl, sym, ap, _∙_}
 use mathlib.Core.Bool.{Bool, true, false}
 use mathlib.Core.List.{List, [], _∷_}
 use Prim.Native.Nat.{ℕ, zero, suc, _<_}
+use native.Mathlib.Omega.{arith}
 use lib.Dec.{ltb}
+use lib.IntN.{pos}
 use borrow.Author.Tests.{ltb-true, ltb-false}
 use Rattle.pool.specs.declared.node.Node.{Node}
 use Rattle.pool.specs.declared.node.Node.the-variants.{Empty, Variable, Lit, Add, Mul, Div, Exp, Log, Pow, Max}
@@ -17,8 +19,9 @@ use Rattle.constructor_laws.proofs.Rules.{AllBelow, node-stands, nothing-behind
 use Rattle.shape.specs.Shape.{has, Reach, root, part}
 use Rattle.shape.proofs.Lists.{here, further}
 use Rattle.meaning.specs.Model.{Algebra, power}
-use Rattle.meaning.specs.Value.{Values, valueNode, valueBelow, value}
-use Rattle.meaning.proofs.Recursion.{recursion-solves}
+use Rattle.walks.specs.Fold.{under}
+use Rattle.walks.proofs.Folds.{below, same-at, visits}
+use Rattle.meaning.specs.Value.{Values, valueNode, value}
 
 -- a fact of each number in a list
 abbrev pub Each : (ℕ → Type 0) → List ℕ → Type 0
@@ -67,29 +70,35 @@ module _ (A : Algebra) (env : Values A) where
   node-same f g (Pow a e) h = ap (λ x. power A x e) (h .0)
   node-same f g (Max a b) h = same-op (A .max) (h .0) (h .1 .0)
 
+  abbrev none : A .carrier
+  none = A .int (pos 0)
+
   -- a node's value, from its parts' values
   pub value-law : (at : ℕ → Node) → Falling at → (i : ℕ) → value A env at i ≡ valueNode A env (value A env at) (at i)
-  unfolding value valueBelow
-  value-law at f =
-      recursion-solves (λ v i. valueNode A env v (at i)) (valueBelow A env at) (λ k i. refl)
-      (record { same = λ v w i h. node-same v w (at i) (each-below (parts (at i)) (f i) h) })
+  value-law at f i =
+      visits none (valueNode A env) at i
+      ∙ node-same (under none (value A env at) i) (value A env at) (at i) (each-below (parts (at i)) (f i) (λ a l. sym (below none (value A env at) i a l)))
 
   -- two tables with the same nodes at all numbers of which C holds, C going on to the parts
   closed-same :
-      {p q : ℕ → Node} (C : ℕ → Type 0) → ((i : ℕ) → C i → Each C (parts (p i))) → ((i : ℕ) → C i → q i ≡ p i) → (k i : ℕ) → C i → valueBelow A env q k i ≡ valueBelow A env p k i
-  unfolding valueBelow
-  closed-same C down same zero i c = refl
-  closed-same {p} {q} C down same (suc k) i c =
-      ap (valueNode A env (valueBelow A env q k)) (same i c) ∙ node-same (valueBelow A env q k) (valueBelow A env p k) (p i) (each-from (parts (p i)) (down i c) (λ a d. closed-same C down same k a d))
+      {p q : ℕ → Node} (C : ℕ → Type 0) → ((i : ℕ) → C i → Each C (parts (p i))) → ((i : ℕ) → C i → q i ≡ p i) → (k i : ℕ) → i < k → C i → value A env q i ≡ value A env p i
+  closed-same C down same zero i h c = absurd (never i h)
+    where
+      never : (i : ℕ) → i < 0 → ⊥
+      never i h = omega arith
+  closed-same {p} {q} C down same (suc k) i h c =
+      visits none (valueNode A env) q i
+      ∙ ap (valueNode A env (under none (value A env q) i)) (same i c)
+      ∙ node-same (under none (value A env q) i) (under none (value A env p) i) (p i)
+      (each-from (parts (p i)) (down i c) (λ a d. same-at none (value A env q) (value A env p) i a (λ l. closed-same C down same k a (omega arith) d)))
+      ∙ sym (visits none (valueNode A env) p i)
 
   -- a value goes by the reachable nodes alone
   pub reachable-same : (p q : ℕ → Node) (r : ℕ) → ((i : ℕ) → Reach p (r ∷ []) i → q i ≡ p i) → value A env q r ≡ value A env p r
-  unfolding value
   reachable-same p q r same =
-      closed-same (Reach p (r ∷ [])) (λ i c. each-had (parts (p i)) (λ a h. part c h)) same (suc r) r (root (here r []))
+      closed-same (Reach p (r ∷ [])) (λ i c. each-had (parts (p i)) (λ a h. part c h)) same (suc r) r (omega arith) (root (here r []))
 
   -- it is kept by everything that only appends
   pub value-kept : {P Q : Pool} → Keeps P → Grown P Q → (i : ℕ) → i < P .count → value A env (nodeAt Q) i ≡ value A env (nodeAt P) i
-  unfolding value
   value-kept {P} k g i h =
-      closed-same (λ a. a < P .count) (λ a l. each-below (parts (nodeAt P a)) (parts-below k a) (λ b s. s)) (earlier-same g) (suc i) i h
+      closed-same (λ a. a < P .count) (λ a l. each-below (parts (nodeAt P a)) (parts-below k a) (λ b s. s)) (earlier-same g) (suc i) i (omega arith) h

@@ -1,11 +1,12 @@
 -- The value of a node in an algebra, for given values of the variables, and what it is for an answer to mean a value.
 -- Assumes nothing.
 use mathlib.Core.Path.{_≡_}
-use Prim.Native.Nat.{ℕ, zero, suc, _<_}
+use Prim.Native.Nat.{ℕ, _<_}
 use lib.IntN.{pos}
 use Rattle.pool.specs.declared.node.Node.{Node}
 use Rattle.pool.specs.declared.node.Node.the-variants.{Empty, Variable, Lit, Add, Mul, Div, Exp, Log, Pow, Max}
 use Rattle.pool.specs.Pool.{Pool, nodeAt}
+use Rattle.walks.specs.Fold.{fold}
 use Rattle.meaning.specs.Model.{Algebra, power}
 
 module _ (A : Algebra) where
@@ -27,13 +28,8 @@ module _ (A : Algebra) where
     valueNode down (Pow a e) = power A (down a) e
     valueNode down (Max a b) = A .max (down a) (down b)
 
-    -- the value of node i, where i is below the bound: parts have smaller numbers
-    unfoldable pub valueBelow : (ℕ → Node) → ℕ → ℕ → A .carrier
-    valueBelow at zero i = A .int (pos 0)
-    valueBelow at (suc k) i = valueNode (valueBelow at k) (at i)
-
-    unfoldable pub value : (ℕ → Node) → ℕ → A .carrier
-    value at i = valueBelow at (suc i) i
+    abbrev pub value : (ℕ → Node) → ℕ → A .carrier
+    value at = fold (A .int (pos 0)) valueNode at
 
     -- an accepted answer, node i of the pool Q: it has the value x, and every node of P has in Q the value that it had
     pub record Means (P : Pool) (x : A .carrier) (i : ℕ) (Q : Pool) : Type 0 where

@@ -2,7 +2,7 @@
 -- Assumes nothing.
 use mathlib.Core.Path.{_≡_, refl, sym, ap, ap₂, _∙_, subst⁻¹, fun-ext}
 use mathlib.Core.Logic.{⊎-elim}
-use mathlib.Core.Bool.{true, false, false≢true}
+use mathlib.Core.Bool.{true, false, false≢true, cond}
 use mathlib.Core.List.{List}
 use Prim.Native.Nat.{ℕ, _+_, _*_, _<_, _≤_}
 use native.Mathlib.Nat.{not-suc-le-zero}
@@ -11,7 +11,7 @@ use lib.Dec.{ltb}
 use lib.ListN.{length, getD, set, length-set, replicate}
 use lib.Seq.{getD-set-same, getD-set-other}
 use borrow.Author.Tests.{lt-ltb, le-ltb}
-use Rattle.pool.specs.Nodes.{decode, mayStandAt, pick}
+use Rattle.pool.specs.Nodes.{decode, mayStandAt}
 use Rattle.pool.specs.Pool.{limit, nodeIn, each}
 use Rattle.pool.specs.declared.node.Node.{Node}
 use Rattle.pool.specs.declared.node.Node.the-variants.{Empty}
@@ -72,11 +72,11 @@ module _ (bs : List ℕ) {n : ℕ} (s : SizeIs bs n) where
   entry-is : (j : ℕ) → j < n → entryOf bs j ≡ decode (kindIn bs j) (wordIn n bs j)
   unfolding entryIn
   entry-is j l =
-      ap (λ m. pick (ltb j m) (decode (kindIn bs j) (wordIn m bs j)) Empty) (sym (s .is)) ∙ ap (λ t. pick t (decode (kindIn bs j) (wordIn n bs j)) Empty) (lt-ltb j n l)
+      ap (λ m. cond (ltb j m) (decode (kindIn bs j) (wordIn m bs j)) Empty) (sym (s .is)) ∙ ap (λ t. cond t (decode (kindIn bs j) (wordIn n bs j)) Empty) (lt-ltb j n l)
 
   past-the-last : (j : ℕ) → n ≤ j → entryOf bs j ≡ Empty
   unfolding entryIn
-  past-the-last j l = ap (λ m. pick (ltb j m) (decode (kindIn bs j) (wordIn m bs j)) Empty) (sym (s .is)) ∙ ap (λ t. pick t (decode (kindIn bs j) (wordIn n bs j)) Empty) (le-ltb j n l)
+  past-the-last j l = ap (λ m. cond (ltb j m) (decode (kindIn bs j) (wordIn m bs j)) Empty) (sym (s .is)) ∙ ap (λ t. cond t (decode (kindIn bs j) (wordIn n bs j)) Empty) (le-ltb j n l)
 
   tests-are : areNodes bs ≡ each n (λ j. mayStandAt j (entryOf bs j))
   unfolding areNodes
@@ -127,7 +127,7 @@ module _ (bs : List ℕ) {n : ℕ} (s : SizeIs bs n) where
     unfolding nodeIn
     holds-the-entries j =
         ⊎-elim
-        (λ m. let few : n ≤ limit = s .few in ap (λ t. pick t (decode (getD k j 0) (getD w j 0)) Empty) (lt-ltb j limit (omega arith)) ∙ decoded-is j m ∙ sym (entry-is j m))
+        (λ m. let few : n ≤ limit = s .few in ap (λ t. cond t (decode (getD k j 0) (getD w j 0)) Empty) (lt-ltb j limit (omega arith)) ∙ decoded-is j m ∙ sym (entry-is j m))
         (λ m. node-free k w n is-a-pool j m ∙ sym (past-the-last j m))
         (below-or-not j n)
 

@@ -1,6 +1,6 @@
 -- The table of kinds of document 01: a node's kind and word, read and written. It stands here once.
 -- Assumes nothing.
-use mathlib.Core.Bool.{Bool, true, false, _&&_}
+use mathlib.Core.Bool.{Bool, true, false, _&&_, cond}
 use mathlib.Core.List.{List, [], _∷_}
 use Prim.Native.Nat.{ℕ, _+_, _*_, _/_, _%_, _^_}
 use lib.Dec.{leb, ltb, eqb}
@@ -32,28 +32,24 @@ lowOf w = w % half
 abbrev pub highOf : ℕ → ℕ
 highOf w = w / half
 
-abbrev pub pick : Bool → Node → Node → Node
-pick true a b = a
-pick false a b = b
-
 -- the node of a kind and a word, Empty where there is none
 unfoldable pub decode : ℕ → ℕ → Node
 decode kind w =
     -- 1: Variable, its number, 0 to 65,535
-    pick (eqb kind 1) (pick (leb w greatestVariable) (Variable w) Empty)
+    cond (eqb kind 1) (cond (leb w greatestVariable) (Variable w) Empty)
     -- 2: Lit, signed whole number, two's complement, in the literal range
-    (pick (eqb kind 2) (pick (isLiteral (signed w)) (Lit (signed w)) Empty)
+    (cond (eqb kind 2) (cond (isLiteral (signed w)) (Lit (signed w)) Empty)
     -- 3, 4, 5: Add, Mul, Div, left + 2^32 × right
-    (pick (eqb kind 3) (Add (lowOf w) (highOf w))
-    (pick (eqb kind 4) (Mul (lowOf w) (highOf w))
-    (pick (eqb kind 5) (Div (lowOf w) (highOf w))
+    (cond (eqb kind 3) (Add (lowOf w) (highOf w))
+    (cond (eqb kind 4) (Mul (lowOf w) (highOf w))
+    (cond (eqb kind 5) (Div (lowOf w) (highOf w))
     -- 6, 7: Exp, Log, the argument
-    (pick (eqb kind 6) (pick (ltb w half) (Exp w) Empty)
-    (pick (eqb kind 7) (pick (ltb w half) (Log w) Empty)
+    (cond (eqb kind 6) (cond (ltb w half) (Exp w) Empty)
+    (cond (eqb kind 7) (cond (ltb w half) (Log w) Empty)
     -- 8: Pow, base + 2^32 × exponent, exponent 2 to 4,294,967,295
-    (pick (eqb kind 8) (pick (leb leastExponent (highOf w)) (Pow (lowOf w) (highOf w)) Empty)
+    (cond (eqb kind 8) (cond (leb leastExponent (highOf w)) (Pow (lowOf w) (highOf w)) Empty)
     -- 9: Max, left + 2^32 × right
-    (pick (eqb kind 9) (Max (lowOf w) (highOf w)) Empty))))))))
+    (cond (eqb kind 9) (Max (lowOf w) (highOf w)) Empty))))))))
 
 abbrev pub kindOf : Node → ℕ
 kindOf Empty = 0

@@ -1,12 +1,12 @@
 -- The pool of document 01: "a lent table of 4,096 kinds, one of 4,096 words, and a count from 0 to 4,096". The state of every definition is these two tables and the count.
 -- Assumes nothing.
-use mathlib.Core.Bool.{Bool, true, false, _&&_}
+use mathlib.Core.Bool.{Bool, true, false, _&&_, cond}
 use mathlib.Core.List.{List}
 use Prim.Native.Nat.{ℕ, zero, suc, _+_}
 use lib.Dec.{leb, ltb, eqb}
 use lib.ListN.{length, getD, set}
 use Rattle.refusals.specs.Refusals.{poolFull}
-use Rattle.pool.specs.Nodes.{decode, kindOf, wordOf, mayStandAt, pick}
+use Rattle.pool.specs.Nodes.{decode, kindOf, wordOf, mayStandAt}
 use Rattle.pool.specs.declared.node.Node.{Node}
 use Rattle.pool.specs.declared.node.Node.the-variants.{Empty}
 
@@ -26,7 +26,7 @@ pool ks ws n m = record { kinds = ks; words = ws; count = n; end = m }
 
 -- the node at number i
 unfoldable pub nodeIn : List ℕ → List ℕ → ℕ → Node
-nodeIn ks ws i = pick (ltb i limit) (decode (getD ks i 0) (getD ws i 0)) Empty
+nodeIn ks ws i = cond (ltb i limit) (decode (getD ks i 0) (getD ws i 0)) Empty
 
 abbrev pub nodeAt : Pool → ℕ → Node
 nodeAt P i = nodeIn (P .kinds) (P .words) i
@@ -56,10 +56,6 @@ yield i P = done i P
 abbrev pub refuse : ℕ → Run
 refuse k P = refused k
 
-abbrev pub choose : Bool → Out → Out → Out
-choose true a b = a
-choose false a b = b
-
 -- 18. "One more node is needed and the count is 4,096"
 abbrev pub hasRoom : Pool → Bool
 hasRoom P = ltb (P .count) (P .end) && ltb (P .count) limit
@@ -67,17 +63,13 @@ hasRoom P = ltb (P .count) (P .end) && ltb (P .count) limit
 -- "Every `Rc::new` of the source appends one node"
 unfoldable pub append : Node → Run
 append n P =
-    choose (hasRoom P)
+    cond (hasRoom P)
     (done (P .count) (pool (set (P .kinds) (P .count) (kindOf n)) (set (P .words) (P .count) (wordOf n)) (P .count + 1) (P .end)))
     (refused poolFull)
 
 -- "entries from the count on are 0 in both tables"
-abbrev pub pickTest : Bool → Bool → Bool → Bool
-pickTest true a b = a
-pickTest false a b = b
-
 abbrev pub entryKeeps : ℕ → ℕ → ℕ → ℕ → Bool
-entryKeeps n i kind w = pickTest (ltb i n) (mayStandAt i (decode kind w)) (eqb kind 0 && eqb w 0)
+entryKeeps n i kind w = cond (ltb i n) (mayStandAt i (decode kind w)) (eqb kind 0 && eqb w 0)
 
 -- a test at each of 0, .., m - 1
 unfoldable pub each : ℕ → (ℕ → Bool) → Bool

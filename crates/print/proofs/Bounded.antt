@@ -6,26 +6,32 @@ use mathlib.Core.List.{List, []}
 use Prim.Native.Nat.{ℕ, _<_, _≤_}
 use lib.Dec.{ltb}
 use Rattle.pool.specs.declared.node.Node.{Node}
-use Rattle.walks.specs.Print.{precedence, bracketed, nodeText, textBelow, nodeHasMax, hasMaxBelow}
-use Rattle.walks.proofs.Bounded.{below, above}
-use Rattle.walks.proofs.Instances.{text-is-bounded, max-is-bounded}
+use Rattle.walks.specs.Fold.{fold}
+use Rattle.walks.specs.Print.{precedence, bracketed, nodeText, textNode, textBelow, nodeHasMax, hasMaxBelow, hasMax}
+use Rattle.walks.proofs.Folds.{visits, below, above}
 
 module _ (at : ℕ → Node) where
   -- node_fmt, the parts being below the node's own number
   abbrev pub nodeFmt : ℕ → ℕ → List ℕ
   nodeFmt parent a = bracketed (ltb (precedence (at a)) parent) (nodeText (textBelow at a) (at a))
 
+  pub text-is : (parent a : ℕ) → fold (λ around. []) textNode at a parent ≡ nodeFmt parent a
+  text-is parent a = ap (λ (text : ℕ → List ℕ). text parent) (visits (λ around. []) textNode at a)
+
   pub text-below : (k parent a : ℕ) → a < k → textBelow at k parent a ≡ nodeFmt parent a
-  text-below k parent a h = ap (λ (text : ℕ → List ℕ). text parent) (sym (below (text-is-bounded at) k a h) ∙ text-is-bounded at .visits a)
+  text-below k parent a h = ap (λ (text : ℕ → List ℕ). text parent) (sym (below (λ around. []) (fold (λ around. []) textNode at) k a h) ∙ visits (λ around. []) textNode at a)
 
   pub no-text-above : (k parent a : ℕ) → k ≤ a → textBelow at k parent a ≡ []
-  no-text-above k parent a h = ap (λ (text : ℕ → List ℕ). text parent) (sym (above (text-is-bounded at) k a h))
+  no-text-above k parent a h = ap (λ (text : ℕ → List ℕ). text parent) (sym (above (λ around. []) (fold (λ around. []) textNode at) k a h))
 
   abbrev pub maxAt : ℕ → Bool
   maxAt a = nodeHasMax (hasMaxBelow at a) (at a)
 
+  pub max-is : (a : ℕ) → hasMax at a ≡ maxAt a
+  max-is a = visits false nodeHasMax at a
+
   pub max-below : (k a : ℕ) → a < k → hasMaxBelow at k a ≡ maxAt a
-  max-below k a h = sym (below (max-is-bounded at) k a h) ∙ max-is-bounded at .visits a
+  max-below k a h = sym (below false (hasMax at) k a h) ∙ visits false nodeHasMax at a
 
   pub no-max-above : (k a : ℕ) → k ≤ a → hasMaxBelow at k a ≡ false
-  no-max-above k a h = sym (above (max-is-bounded at) k a h)
+  no-max-above k a h = sym (above false (hasMax at) k a h)

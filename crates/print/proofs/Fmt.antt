@@ -1,15 +1,15 @@
 -- The text of a node as node_fmt writes it: its parts one after the other, in brackets where its precedence is less than the parent's.
 -- Assumes nothing.
-use mathlib.Core.Path.{_≡_, sym}
+use mathlib.Core.Path.{_≡_, sym, _∙_}
 use mathlib.Core.List.{List, []}
 use Prim.Native.Nat.{ℕ, _+_, _<_, _≤_}
-use native.Mathlib.Numerals.{add-one}
+use native.Mathlib.Omega.{arith}
 use borrow.Author.Tests.{lt-ltb, le-ltb}
 use Rattle.pool.specs.declared.node.Node.{Node}
 use Rattle.walks.specs.Print.{precedence, nodeText, textBelow, textOf, opening, closing}
 use Rattle.print.specs.Output.{Wrote, pastLongest}
 use Rattle.print.proofs.Writing.{three-written, written-as, none-written}
-use Rattle.print.proofs.Bounded.{text-below, no-text-above}
+use Rattle.print.proofs.Bounded.{text-is, text-below, no-text-above}
 
 pub for-node : (down : ℕ → ℕ → List ℕ) {at to : ℕ} {l l′ : List ℕ} {n m : Node} → n ≡ m → Wrote at l (nodeText down m) to l′ → Wrote at l (nodeText down n) to l′
 for-node down e w = rw e w
@@ -35,4 +35,4 @@ module _ (node : ℕ → Node) (k parent a : ℕ) where
 
 -- the root is below the bound that is one more
 pub whole-text : (node : ℕ → Node) (root : ℕ) {at to : ℕ} {l l′ : List ℕ} → Wrote at l (textBelow node (root + 1) 0 root) to l′ → Wrote at l (textOf node root) to l′
-whole-text node root w = rw (add-one root) at w
+whole-text node root w = written-as _ _ (text-below node (root + 1) 0 root (omega arith) ∙ sym (text-is node 0 root)) w

@@ -3,7 +3,7 @@
 use mathlib.Core.Path.{_≡_, sym, ap, _∙_, fun-ext}
 use mathlib.Core.Bool.{Bool, true, false, _||_}
 use mathlib.Core.List.{List}
-use Prim.Native.Nat.{ℕ, suc, _+_, _<_, _≤_}
+use Prim.Native.Nat.{ℕ, _+_, _<_, _≤_}
 use native.Mathlib.Omega.{arith}
 use native.Mathlib.Decide.{decLt, ℕ-discrete}
 use lib.ListN.{length, getD, set, length-set}
@@ -13,7 +13,7 @@ use Rattle.pool.specs.Pool.{limit, nodeIn}
 use Rattle.pool.specs.declared.node.Node.{Node}
 use Rattle.walks.specs.Print.{nodeHasMax, hasMaxBelow, hasMax}
 use Rattle.print.specs.Kept.{keptBelow, FoundBelow}
-use Rattle.print.proofs.Bounded.{max-below, no-max-above}
+use Rattle.print.proofs.Bounded.{max-is, max-below, no-max-above}
 
 pub kept-smaller : (found : List Bool) (i a : ℕ) → a < i → getD found a false ≡ keptBelow found i a
 kept-smaller found i a h = rw (lt-ltb a i h)
@@ -41,11 +41,11 @@ module _ {at : ℕ → Node} {i : ℕ} {found : List Bool} (f : FoundBelow at i 
   kept-is = fun-ext (λ a. go a (decLt a i))
     where
       go : (a : ℕ) → Dec (a < i) → keptBelow found i a ≡ hasMaxBelow at i a
-      go a (yes h) = sym (kept-smaller found i a h) ∙ f .answer a h ∙ max-below at (suc a) a (omega arith) ∙ sym (max-below at i a h)
+      go a (yes h) = sym (kept-smaller found i a h) ∙ f .answer a h ∙ max-is at a ∙ sym (max-below at i a h)
       go a (no n) = sym (kept-other found i a (omega arith)) ∙ sym (no-max-above at i a (omega arith))
 
   answer-is : nodeHasMax (keptBelow found i) (at i) ≡ hasMax at i
-  answer-is = ap (λ (down : ℕ → Bool). nodeHasMax down (at i)) kept-is ∙ sym (max-below at (suc i) i (omega arith))
+  answer-is = ap (λ (down : ℕ → Bool). nodeHasMax down (at i)) kept-is ∙ sym (max-is at i)
 
   pub one-more-found : (r : Bool) → i < limit → r ≡ nodeHasMax (keptBelow found i) (at i) → FoundBelow at (i + 1) (set found i r)
   one-more-found r small e =
@@ -61,4 +61,4 @@ module _ {at : ℕ → Node} {i : ℕ} {found : List Bool} (f : FoundBelow at i 
 -- past the tables there is no node
 pub no-node : (ks ws : List ℕ) (root : ℕ) → limit ≤ root → false ≡ hasMax (nodeIn ks ws) root
 unfolding nodeIn
-no-node ks ws root h = sym (max-below (nodeIn ks ws) (suc root) root (omega arith) ∙ rw (le-ltb root limit h))
+no-node ks ws root h = sym (max-is (nodeIn ks ws) root ∙ rw (le-ltb root limit h))

@@ -1,18 +1,18 @@
 -- The table that is filled while looking for a Max: its answers, and what it says of a part.
 -- Assumes nothing.
 use mathlib.Core.Path.{_≡_}
-use mathlib.Core.Bool.{Bool, false}
+use mathlib.Core.Bool.{Bool, false, cond}
 use mathlib.Core.List.{List}
 use Prim.Native.Nat.{ℕ, _<_}
 use lib.Dec.{ltb}
 use lib.ListN.{length, getD}
 use Rattle.pool.specs.Pool.{limit}
 use Rattle.pool.specs.declared.node.Node.{Node}
-use Rattle.walks.specs.Print.{pickTest, hasMax}
+use Rattle.walks.specs.Print.{hasMax}
 
 -- the answer for a part of node i
 abbrev pub keptBelow : List Bool → ℕ → ℕ → Bool
-keptBelow found i a = pickTest (ltb a i) (getD found a false) false
+keptBelow found i a = cond (ltb a i) (getD found a false) false
 
 -- the table has the answer of each node before number i
 pub record FoundBelow (at : ℕ → Node) (i : ℕ) (found : List Bool) : Type 0 where

@@ -1,7 +1,7 @@
 -- Evaluation by residues, where it is accepted, gives the value in the algebra of residues.
 -- Assumes nothing.
 use mathlib.Core.Path.{_≡_, refl, sym, ap, _∙_}
-use mathlib.Core.Bool.{Bool, true, false}
+use mathlib.Core.Bool.{Bool, true, false, cond}
 use mathlib.Core.List.{List}
 use Prim.Native.Nat.{ℕ, zero, suc, _+_, _*_, _%_, _^_, _≤_, _<_}
 use native.Mathlib.Nat.{mod-eq-of-lt, pow-zero, pow-suc}
@@ -9,7 +9,7 @@ use native.Mathlib.Omega.{arith}
 use lib.Dec.{ltb}
 use lib.ListN.{length, getD}
 use borrow.Author.Tests.{ltb-true}
-use Rattle.refusals.specs.Refusals.{noValue, notEvaluated}
+use Rattle.refusals.specs.Refusals.{brokenPool, noValue, notEvaluated}
 use Rattle.residue.specs.Residue.{residue, sumOf, productOf, powerOf, quotientOf}
 use Rattle.residue.specs.declared.Divided.{Divided}
 use Rattle.residue.specs.declared.Divided.the-variants.{Residue, Refused}
@@ -20,9 +20,8 @@ use Rattle.pool.specs.declared.node.Node.the-variants.{Empty, Variable, Lit, Ad
 use Rattle.pool.specs.Nodes.{parts}
 use Rattle.pool.specs.Pool.{Pool, nodeAt}
 use Rattle.constructor_laws.specs.Keeps.{Keeps}
-use Rattle.walks.specs.EvaluateResidue.{one, both, pick, valueOfVariable, residueNode, residueBelow, evaluateResidue}
-use Rattle.walks.proofs.Bounded.{below}
-use Rattle.walks.proofs.Instances.{residues-are-bounded}
+use Rattle.walks.specs.EvaluateResidue.{one, both, valueOfVariable, residueNode, residueBelow, evaluateResidue}
+use Rattle.walks.proofs.Folds.{visits, below}
 use Rattle.meaning.specs.Model.{power}
 use Rattle.meaning.specs.Value.{Values, valueNode, value}
 use Rattle.meaning.proofs.Values.{Each, each-below, Falling, falling, value-law}
@@ -83,7 +82,7 @@ module _ (m : ℕ) (some : 2 ≤ m) (values : List ℕ) (small : (v : ℕ) → g
   variable-agrees : (v r : ℕ) → valueOfVariable values v ≡ Residue r → env v .0 ≡ r
   variable-agrees v r e = go (ltb v (length values)) e
     where
-      go : (t : Bool) → pick t (Residue (getD values v 0)) (Refused noValue) ≡ Residue r → env v .0 ≡ r
+      go : (t : Bool) → cond t (Residue (getD values v 0)) (Refused noValue) ≡ Residue r → env v .0 ≡ r
       go true e = number m some (getD values v 0) ∙ mod-eq-of-lt (small v) ∙ residue-inside e
       go false e = not-refused e
 
@@ -123,9 +122,9 @@ module _ (m : ℕ) (some : 2 ≤ m) (values : List ℕ) (small : (v : ℕ) → g
   agrees-below at falls (suc k) i h r e =
       ap (λ (a : Residues m). a .0) (value-law (residues m some) env at falls i)
       ∙ node-agrees (residueBelow m at values i) (value (residues m some) env at) (at i)
-      (each-below (parts (at i)) (falls i) (λ a l s q. agrees-below at falls k a (omega arith) s (below (residues-are-bounded m at values) i a l ∙ q)))
+      (each-below (parts (at i)) (falls i) (λ a l s q. agrees-below at falls k a (omega arith) s (below (Refused brokenPool) (evaluateResidue m at values) i a l ∙ q)))
       r
-      (sym (residues-are-bounded m at values .visits i) ∙ e)
+      (sym (visits (Refused brokenPool) (residueNode m values) at i) ∙ e)
 
   -- an accepted evaluation by residues gives the value in the algebra of residues
   pub residue-is-value : {P : Pool} → Keeps P → (root r : ℕ) → evaluateResidue m (nodeAt P) values root ≡ Residue r → value (residues m some) (fromTable m some values) (nodeAt P) root .0 ≡ r

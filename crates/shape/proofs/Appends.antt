@@ -2,7 +2,7 @@
 -- Assumes nothing.
 use mathlib.Core.Path.{_≡_, refl, sym, ap, ap₂, _∙_, subst⁻¹}
 use mathlib.Core.Logic.{_⊎_, inl, inr, ⊎-elim}
-use mathlib.Core.Bool.{true, false}
+use mathlib.Core.Bool.{true, false, cond}
 use Prim.Native.Nat.{ℕ, zero, suc, _+_, _^_, _<_, _≤_}
 use native.Mathlib.Nat.{not-suc-le-zero}
 use native.Mathlib.Omega.{arith}
@@ -11,7 +11,7 @@ use lib.ListN.{getD, set, length-set}
 use lib.Seq.{getD-set-same, getD-set-other}
 use borrow.Author.Tests.{lt-ltb, ltb-true}
 use Rattle.refusals.specs.Refusals.{poolFull}
-use Rattle.pool.specs.Nodes.{decode, kindOf, wordOf, parts, isNode, allBelow, mayStandAt, pick}
+use Rattle.pool.specs.Nodes.{decode, kindOf, wordOf, parts, isNode, allBelow, mayStandAt}
 use Rattle.pool.specs.Pool.{limit, Pool, pool, nodeIn, nodeAt, done, refused, hasRoom, append, bind}
 use Rattle.pool.specs.declared.node.Node.{Node}
 use Rattle.pool.specs.declared.node.Node.the-variants.{Empty}
@@ -67,7 +67,7 @@ module _ (e : Node) (P : Pool) (k : KeepsRules P) (v : Valid e) (lower : All (λ
 
   pub grown-old : (i : ℕ) → i < P .count → nodeAt (grown e P) i ≡ nodeAt P i
   unfolding nodeIn
-  grown-old i l = ap (λ n. pick (ltb i limit) n Empty) (decoded-old i (not-the-count i (P .count) l))
+  grown-old i l = ap (λ n. cond (ltb i limit) n Empty) (decoded-old i (not-the-count i (P .count) l))
     where
       not-the-count : (i c : ℕ) → i < c → i ≡ c → ⊥
       not-the-count i c l e = omega arith

@@ -2,7 +2,7 @@
 -- Assumes nothing.
 use mathlib.Core.Path.{_≡_, refl, sym, ap, ap₂, _∙_, subst, subst⁻¹, fun-ext}
 use mathlib.Core.Logic.{⊎-elim}
-use mathlib.Core.Bool.{true}
+use mathlib.Core.Bool.{true, cond}
 use mathlib.Core.List.{List, [], _∷_, _++_, map, append-assoc, append-nil, reverse-cons}
 use Prim.Native.Nat.{ℕ, zero, suc, _+_, _*_, _^_, _<_, _≤_}
 use native.Mathlib.Nat.{not-suc-le-zero}
@@ -11,7 +11,7 @@ use lib.Dec.{ltb}
 use lib.ListN.{length, getD, take, drop, length-append, length-map, List·getD-append, List·getD-map, List·getD-eq-default, take-append-drop, length-reverse, length-drop}
 use lib.Seq.{getD-append-add, ext-getD, take-suc, take-add, drop-drop, getD-drop, take-all}
 use borrow.Author.Tests.{lt-ltb, le-ltb}
-use Rattle.pool.specs.Nodes.{decode, kindOf, wordOf, isNode, pick}
+use Rattle.pool.specs.Nodes.{decode, kindOf, wordOf, isNode}
 use Rattle.pool.specs.declared.node.Node.{Node}
 use Rattle.pool.specs.declared.node.Node.the-variants.{Empty}
 use Rattle.shape.specs.File.{bytes, wordBytes, fileOf, numberAt, sizeOf, entryIn, entryOf}
@@ -89,14 +89,14 @@ word-in-file es i l v =
 pub entry-of-file : (es : List Node) → Entries es → (i : ℕ) → entryOf (fileOf es) i ≡ tableOf es i
 unfolding entryIn
 entry-of-file es ok i =
-    ap (λ n. pick (ltb i n) (decode (getD (fileOf es) (4 + i) 0) (numberAt 8 (fileOf es) (4 + n + 8 * i))) Empty) (size-of-file es (ok .few))
+    ap (λ n. cond (ltb i n) (decode (getD (fileOf es) (4 + i) 0) (numberAt 8 (fileOf es) (4 + n + 8 * i))) Empty) (size-of-file es (ok .few))
     ∙ ⊎-elim
     (λ l.
-    ap (λ t. pick t (decode (getD (fileOf es) (4 + i) 0) (numberAt 8 (fileOf es) (4 + length es + 8 * i))) Empty) (lt-ltb i (length es) l)
+    ap (λ t. cond t (decode (getD (fileOf es) (4 + i) 0) (numberAt 8 (fileOf es) (4 + length es + 8 * i))) Empty) (lt-ltb i (length es) l)
     ∙ ap₂ decode (kind-in-file es i l) (word-in-file es i l (ok .valid i l))
     ∙ decode-own (tableOf es i) (ok .valid i l))
     (λ l.
-    ap (λ t. pick t (decode (getD (fileOf es) (4 + i) 0) (numberAt 8 (fileOf es) (4 + length es + 8 * i))) Empty) (le-ltb i (length es) l)
+    ap (λ t. cond t (decode (getD (fileOf es) (4 + i) 0) (numberAt 8 (fileOf es) (4 + length es + 8 * i))) Empty) (le-ltb i (length es) l)
     ∙ sym (List·getD-eq-default es Empty l))
     (below-or-not i (length es))
 

@@ -2,7 +2,7 @@
 -- Assumes nothing.
 use mathlib.Core.Path.{_≡_, refl, ap, _∙_, subst, subst⁻¹}
 use mathlib.Core.Logic.{⊎-elim}
-use mathlib.Core.Bool.{Bool, true, false, _&&_}
+use mathlib.Core.Bool.{Bool, true, false, _&&_, cond}
 use mathlib.Core.List.{List}
 use Prim.Native.Nat.{ℕ, _^_, _<_, _≤_}
 use native.Mathlib.Nat.{not-suc-le-zero}
@@ -10,8 +10,8 @@ use native.Mathlib.Omega.{arith}
 use lib.Dec.{leb, eqb}
 use lib.ListN.{length, getD, replicate, length-replicate, getD-replicate, List·getD-eq-default}
 use borrow.Author.Tests.{lt-ltb, le-ltb, le-leb, leb-true, eq-eqb, eqb-true}
-use Rattle.pool.specs.Nodes.{decode, parts, isNode, allBelow, mayStandAt, pick}
-use Rattle.pool.specs.Pool.{limit, Pool, nodeIn, nodeAt, pickTest, entryKeeps, isPool}
+use Rattle.pool.specs.Nodes.{decode, parts, isNode, allBelow, mayStandAt}
+use Rattle.pool.specs.Pool.{limit, Pool, nodeIn, nodeAt, entryKeeps, isPool}
 use Rattle.pool.specs.declared.node.Node.the-variants.{Empty}
 use Rattle.shape.specs.Demand.{KeepsRules, emptyPool}
 use Rattle.shape.specs.Walked.{Falls}
@@ -29,7 +29,7 @@ pub record Rules (ks ws : List ℕ) (n : ℕ) : Type 0 where
 
 -- what is tested of an entry with or without a node
 abbrev Keeps : Bool → ℕ → ℕ → ℕ → Type 0
-Keeps t i k w = pickTest t (mayStandAt i (decode k w)) (eqb k 0 && eqb w 0) ≡ true
+Keeps t i k w = cond t (mayStandAt i (decode k w)) (eqb k 0 && eqb w 0) ≡ true
 
 module _ (ks ws : List ℕ) (n : ℕ) where
   pub rules-of-test : isPool ks ws n ≡ true → Rules ks ws n
@@ -72,8 +72,8 @@ module _ (ks ws : List ℕ) (n : ℕ) where
     unfolding nodeIn decode
     node-free i l =
         ⊎-elim
-        (λ m. ap (λ t. pick t (decode (getD ks i 0) (getD ws i 0)) Empty) (lt-ltb i limit m) ∙ ap (λ k. decode k (getD ws i 0)) (r .free i l m .0))
-        (λ m. ap (λ t. pick t (decode (getD ks i 0) (getD ws i 0)) Empty) (le-ltb i limit m))
+        (λ m. ap (λ t. cond t (decode (getD ks i 0) (getD ws i 0)) Empty) (lt-ltb i limit m) ∙ ap (λ k. decode k (getD ws i 0)) (r .free i l m .0))
+        (λ m. ap (λ t. cond t (decode (getD ks i 0) (getD ws i 0)) Empty) (le-ltb i limit m))
         (below-or-not i limit)
 
     pub node-falls : Falls (nodeIn ks ws)

@@ -1,7 +1,7 @@
 -- The table of kinds both ways: which nodes it has, that a node's kind and word give the node back, and that a kind and a word that give a node are the node's own.
 -- Assumes nothing.
 use mathlib.Core.Path.{_≡_, refl, sym, ap, ap₂, _∙_, subst⁻¹}
-use mathlib.Core.Bool.{Bool, true, false, false≢true}
+use mathlib.Core.Bool.{Bool, true, false, false≢true, cond}
 use mathlib.Core.List.{[], _∷_}
 use Prim.Native.Nat.{ℕ, _+_, _*_, _/_, _%_, _^_, _<_, _≤_}
 use native.Mathlib.Omega.{arith}
@@ -13,7 +13,7 @@ use mir.ValLaws.{ofZ-fits}
 use Rattle.literal.specs.Literal.{isLiteral, signed, greatest}
 use Rattle.literal.proofs.Theorems.{literal-word-read, word-of-number-of}
 use Rattle.literal.proofs.Folds.{literal-fits}
-use Rattle.pool.specs.Nodes.{decode, kindOf, wordOf, parts, isNode, pick, half, lowOf, highOf, greatestVariable, leastExponent}
+use Rattle.pool.specs.Nodes.{decode, kindOf, wordOf, parts, isNode, half, lowOf, highOf, greatestVariable, leastExponent}
 use Rattle.pool.specs.declared.node.Node.{Node}
 use Rattle.pool.specs.declared.node.Node.the-variants.{Empty, Variable, Lit, Add, Mul, Div, Exp, Log, Pow, Max}
 use Rattle.shape.specs.Shape.{rename}
@@ -36,7 +36,7 @@ Valid (Max a b) = (a < half) × (b < half)
 abbrev Own : ℕ → ℕ → Node → Type 0
 Own k w n = Valid n × (kindOf n ≡ k) × (wordOf n ≡ w)
 
-by-test : (R : Node → Type 0) (t : Bool) (x y : Node) → (t ≡ true → isNode x ≡ true → R x) → (isNode y ≡ true → R y) → isNode (pick t x y) ≡ true → R (pick t x y)
+by-test : (R : Node → Type 0) (t : Bool) (x y : Node) → (t ≡ true → isNode x ≡ true → R x) → (isNode y ≡ true → R y) → isNode (cond t x y) ≡ true → R (cond t x y)
 by-test R true x y f g h = f refl h
 by-test R false x y f g h = g h
 
@@ -79,14 +79,14 @@ pub decode-own : (n : Node) → Valid n → decode (kindOf n) (wordOf n) ≡ n
 unfolding decode
 decode-own Empty v = absurd v
 decode-own (Variable i) v = rw (le-leb i greatestVariable v)
-decode-own (Lit z) v = subst⁻¹ (λ x. pick (isLiteral x) (Lit x) Empty ≡ Lit z) (literal-word-read z v) (rw v)
+decode-own (Lit z) v = subst⁻¹ (λ x. cond (isLiteral x) (Lit x) Empty ≡ Lit z) (literal-word-read z v) (rw v)
 decode-own (Add a b) v = both-of-pair Add a b (v .0)
 decode-own (Mul a b) v = both-of-pair Mul a b (v .0)
 decode-own (Div a b) v = both-of-pair Div a b (v .0)
 decode-own (Exp a) v = rw (lt-ltb a half v)
 decode-own (Log a) v = rw (lt-ltb a half v)
 decode-own (Pow a n) v =
-    both-of-pair (λ i m. pick (leb leastExponent m) (Pow i m) Empty) a n (v .0) ∙ ap (λ t. pick t (Pow a n) Empty) (le-leb leastExponent n (v .2))
+    both-of-pair (λ i m. cond (leb leastExponent m) (Pow i m) Empty) a n (v .0) ∙ ap (λ t. cond t (Pow a n) Empty) (le-leb leastExponent n (v .2))
 decode-own (Max a b) v = both-of-pair Max a b (v .0)
 
 pair-fits : (a b : ℕ) → a < half → b < half → a + half * b < 2 ^ 64

@@ -1,12 +1,12 @@
 -- nodes.bin: its bytes, written from a root and read back into a pool.
 -- Assumes nothing.
-use mathlib.Core.Bool.{Bool, true, false, _&&_}
+use mathlib.Core.Bool.{Bool, true, false, _&&_, cond}
 use mathlib.Core.List.{List, [], _∷_, _++_, map}
 use Prim.Native.Nat.{ℕ, zero, suc, _+_, _-_, _*_, _/_, _%_}
 use lib.Dec.{leb, ltb, eqb}
 use lib.ListN.{length, getD}
 use Rattle.refusals.specs.Refusals.{wrongLength, wrongEntry, wrongSequence}
-use Rattle.pool.specs.Nodes.{decode, kindOf, wordOf, mayStandAt, pick}
+use Rattle.pool.specs.Nodes.{decode, kindOf, wordOf, mayStandAt}
 use Rattle.pool.specs.Pool.{limit, Pool, nodeIn, Run, done, yield, refuse, append, each, _>>=_}
 use Rattle.pool.specs.declared.node.Node.{Node}
 use Rattle.pool.specs.declared.node.Node.the-variants.{Empty}
@@ -45,7 +45,7 @@ sizeOf bs = numberAt 4 bs 0
 
 -- entry i of a file of n: its kind byte and its word by the table of kinds
 unfoldable pub entryIn : ℕ → List ℕ → ℕ → Node
-entryIn n bs i = pick (ltb i n) (decode (getD bs (4 + i) 0) (numberAt 8 bs (4 + n + 8 * i))) Empty
+entryIn n bs i = cond (ltb i n) (decode (getD bs (4 + i) 0) (numberAt 8 bs (4 + n + 8 * i))) Empty
 
 abbrev pub entryOf : List ℕ → ℕ → Node
 entryOf bs = entryIn (sizeOf bs) bs

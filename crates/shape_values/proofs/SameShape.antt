@@ -1,22 +1,25 @@
 -- Values and texts go by the shape of an expression alone: a bounded walk gives one answer at paired nodes of two tables, by induction on the node's number, because parts fall on both sides.
 -- Assumes nothing.
 use mathlib.Core.Path.{_≡_, refl, sym, ap, _∙_, subst⁻¹, fun-ext}
-use mathlib.Core.Bool.{true}
+use mathlib.Core.Bool.{true, false}
 use mathlib.Core.List.{List, [], _∷_}
 use Prim.Native.Nat.{ℕ, zero, suc, _<_}
 use native.Mathlib.Nat.{not-suc-le-zero}
 use native.Mathlib.Omega.{arith}
 use lib.Ieee.{Float}
 use lib.ListN.{getD}
+use Rattle.refusals.specs.Refusals.{brokenPool}
+use Rattle.double.specs.declared.Valued.the-variants as valued
+use Rattle.residue.specs.declared.Divided.the-variants as divided
 use Rattle.pool.specs.Nodes.{parts}
 use Rattle.pool.specs.Pool.{Pool, nodeAt}
 use Rattle.pool.specs.declared.node.Node.{Node}
 use Rattle.pool.specs.declared.node.Node.the-variants.{Empty, Variable, Lit, Add, Mul, Div, Exp, Log, Pow, Max}
 use Rattle.walks.specs.Evaluate.{evaluateNode, evaluate}
 use Rattle.walks.specs.EvaluateResidue.{residueNode, evaluateResidue}
-use Rattle.walks.specs.Print.{textOf, nodeHasMax, hasMax}
-use Rattle.walks.proofs.Bounded.{Bounded, below}
-use Rattle.walks.proofs.Instances.{textNode, evaluation-is-bounded, residues-are-bounded, text-is-bounded, max-is-bounded}
+use Rattle.walks.specs.Print.{textNode, textOf, nodeHasMax, hasMax}
+use Rattle.walks.specs.Fold.{under, fold}
+use Rattle.walks.proofs.Folds.{visits, below}
 use Rattle.shape.specs.Shape.{rename, has, Reach, root, part, OneShape}
 use Rattle.shape.specs.Walked.{Falls}
 use Rattle.shape.specs.Demand.{KeepsRules, SameShape}
@@ -36,10 +39,7 @@ first a more h = h a (here a more)
 second : {P : ℕ → Type 0} (a b : ℕ) → All P (a ∷ b ∷ []) → P b
 second a b h = h b (further a (b ∷ []) b (here b []))
 
-module _ {A : Type 0} {none : A} {node : (ℕ → A) → Node → A} (goes : GoesByShape node)
-    {p q : ℕ → Node} {walk walk′ : ℕ → ℕ → A}
-    (bounded : Bounded none (λ down k. node down (p k)) walk) (bounded′ : Bounded none (λ down k. node down (q k)) walk′)
-    (falls : Falls p) (falls′ : Falls q) where
+module _ {A : Type 0} (none : A) {node : (ℕ → A) → Node → A} (goes : GoesByShape node) {p q : ℕ → Node} (falls : Falls p) (falls′ : Falls q) where
   module _ {roots others : List ℕ} (shape : OneShape p roots q others) where
     abbrev there : ℕ → ℕ
     there = shape .there
@@ -51,29 +51,29 @@ module _ {A : Type 0} {none : A} {node : (ℕ → A) → Node → A} (goes : Goe
 
     -- one answer at the parts, so one at the node
     from-parts :
-        (i : ℕ) → Reach p roots i → All (λ a. walk (suc a) a ≡ walk′ (suc (there a)) (there a)) (parts (p i)) → walk (suc i) i ≡ walk′ (suc (there i)) (there i)
+        (i : ℕ) → Reach p roots i → All (λ a. fold none node p a ≡ fold none node q (there a)) (parts (p i)) → fold none node p i ≡ fold none node q (there i)
     from-parts i r less =
-        bounded .visits i
-        ∙ goes there (walk i) (walk′ (there i)) (p i) (λ a m.
-        sym (below bounded i a (falls i a m))
+        visits none node p i
+        ∙ goes there (under none (fold none node p) i) (under none (fold none node q) (there i)) (p i) (λ a m.
+        sym (below none (fold none node p) i a (falls i a m))
         ∙ less a m
-        ∙ below bounded′ (there i) (there a) (falls′ (there i) (there a) (part-there i a r m)))
-        ∙ ap (node (walk′ (there i))) (sym (shape .agree i r))
-        ∙ sym (bounded′ .visits (there i))
+        ∙ below none (fold none node q) (there i) (there a) (falls′ (there i) (there a) (part-there i a r m)))
+        ∙ ap (node (under none (fold none node q) (there i))) (sym (shape .agree i r))
+        ∙ sym (visits none node q (there i))
 
-    paired-below : (k i : ℕ) → i < k → Reach p roots i → walk (suc i) i ≡ walk′ (suc (there i)) (there i)
+    paired-below : (k i : ℕ) → i < k → Reach p roots i → fold none node p i ≡ fold none node q (there i)
     paired-below zero i h r = absurd (not-suc-le-zero h)
     paired-below (suc k) i h r =
         from-parts i r (λ a m. let l : a < i = falls i a m in paired-below k a (omega arith) (part r m))
 
     -- one answer at each pair of nodes
-    pub paired : (i : ℕ) → Reach p roots i → walk (suc i) i ≡ walk′ (suc (there i)) (there i)
+    pub paired : (i : ℕ) → Reach p roots i → fold none node p i ≡ fold none node q (there i)
     paired i r = paired-below (suc i) i (omega arith) r
 
   -- one answer at two roots of one shape
-  pub at-the-root : (r s : ℕ) → OneShape p (r ∷ []) q (s ∷ []) → walk (suc r) r ≡ walk′ (suc s) s
+  pub at-the-root : (r s : ℕ) → OneShape p (r ∷ []) q (s ∷ []) → fold none node p r ≡ fold none node q s
   at-the-root r s shape =
-      paired shape r (root (here r [])) ∙ ap (λ j. walk′ (suc j) j) (ap (λ js. getD js 0 0) (shape .roots-pair))
+      paired shape r (root (here r [])) ∙ ap (fold none node q) (ap (λ js. getD js 0 0) (shape .roots-pair))
 
 -- the four walks that build nothing
 module _ (values : List Float) where
@@ -130,18 +130,18 @@ max-by-shape f down down′ (Max a b) same = refl
 module _ (p q : ℕ → Node) (falls : Falls p) (falls′ : Falls q) (r s : ℕ) (shape : OneShape p (r ∷ []) q (s ∷ [])) where
   pub one-shape-one-value : (values : List Float) → evaluate p values r ≡ evaluate q values s
   one-shape-one-value values =
-      at-the-root (value-by-shape values) (evaluation-is-bounded p values) (evaluation-is-bounded q values) falls falls′ r s shape
+      at-the-root (valued.Refused brokenPool) (value-by-shape values) falls falls′ r s shape
 
   pub one-shape-one-residue : (m : ℕ) (values : List ℕ) → evaluateResidue m p values r ≡ evaluateResidue m q values s
   one-shape-one-residue m values =
-      at-the-root (residue-by-shape m values) (residues-are-bounded m p values) (residues-are-bounded m q values) falls falls′ r s shape
+      at-the-root (divided.Refused brokenPool) (residue-by-shape m values) falls falls′ r s shape
 
   pub one-shape-one-text : textOf p r ≡ textOf q s
   one-shape-one-text =
-      ap (λ text. text 0) (at-the-root text-by-shape (text-is-bounded p) (text-is-bounded q) falls falls′ r s shape)
+      ap (λ text. text 0) (at-the-root (λ around. []) text-by-shape falls falls′ r s shape)
 
   pub one-shape-one-max : hasMax p r ≡ hasMax q s
-  one-shape-one-max = at-the-root max-by-shape (max-is-bounded p) (max-is-bounded q) falls falls′ r s shape
+  one-shape-one-max = at-the-root false max-by-shape falls falls′ r s shape
 
 -- two pools that keep the rules: there parts fall
 module _ (P Q : Pool) (keeps : KeepsRules P) (keeps′ : KeepsRules Q) (r s : ℕ) (shape : SameShape P r Q s) where

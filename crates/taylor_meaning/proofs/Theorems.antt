@@ -2,7 +2,7 @@
 -- Assumes nothing.
 use mathlib.Core.Path as path
 use mathlib.Core.Path.{_≡_, refl, sym}
-use mathlib.Core.Bool.{Bool, true, false}
+use mathlib.Core.Bool.{Bool, true, false, cond}
 use mathlib.Core.List.{List}
 use Prim.Native.Nat.{ℕ, zero, suc, _^_, _≤_, _<_}
 use native.Mathlib.Omega.{arith}
@@ -12,7 +12,7 @@ use lib.ListN.{length, getD}
 use Rattle.literal.specs.Literal.{isLiteral, signed}
 use Rattle.pool.specs.declared.node.Node.{Node}
 use Rattle.pool.specs.declared.node.Node.the-variants.{Empty, Variable, Lit, Add, Mul, Div, Exp, Log, Pow, Max}
-use Rattle.pool.specs.Nodes.{parts, decode, pick, lowOf, highOf, half, leastExponent, greatestExponent, greatestVariable}
+use Rattle.pool.specs.Nodes.{parts, decode, lowOf, highOf, half, leastExponent, greatestExponent, greatestVariable}
 use Rattle.pool.specs.Pool.{Pool, nodeAt, nodeIn, limit}
 use Rattle.constructor_laws.specs.Keeps.{Keeps}
 use Rattle.constructor_laws.proofs.Coding.{Short}
@@ -35,7 +35,7 @@ use Rattle.taylor_meaning.proofs.Compositions.{subst-list-gives, coeff-
 use Rattle.taylor_meaning.proofs.Expanding.{Allowed, expansion-gives}
 
 -- in words of 64 bits exponents have 32
-short-pick : (t : Bool) (a b : Node) → Short a → Short b → Short (pick t a b)
+short-pick : (t : Bool) (a b : Node) → Short a → Short b → Short (cond t a b)
 short-pick true a b ha hb = ha
 short-pick false a b ha hb = hb
 

@@ -1,5 +1,6 @@
 -- Derivation only appends, and keeps the rules of a pool that has its root: what is done at a node of each kind does.
 -- Assumes nothing.
+use mathlib.Core.Bool.{cond}
 use Prim.Native.Nat.{ℕ, _-_, _≤_, _<_}
 use native.Mathlib.Nat.{le-refl}
 use native.Mathlib.Omega.{arith}
@@ -21,7 +22,7 @@ use Rattle.constructor_laws.proofs.Growth as runs
 use Rattle.constructor_laws.proofs.Keeping.{calls-keep, build-keeps}
 use Rattle.constructor_laws.proofs.Keeping as kept
 use Rattle.walks.specs.Walk.{Walk}
-use Rattle.walks.specs.Derive.{lit, add, mul, div, neg, pow, pick, quotientRule, deriveNode, deriveAt, derive}
+use Rattle.walks.specs.Derive.{lit, add, mul, div, neg, pow, quotientRule, deriveNode, deriveAt, derive}
 use Rattle.walk_laws.proofs.Growth.{Growing, _>>=_, refuse-grows, lift-grows, GrowsAt, walk-grows}
 use Rattle.walk_laws.proofs.Keeping.{Keeping, refuse-keeps, next-keeps, lift-keeps, KeepsFrom, KeepsAt, parts-keep, walk-kept}
 
@@ -58,7 +59,7 @@ module _ (var : ℕ) where
   module _ {down : ℕ → Walk} (g : (i : ℕ) → Growing (down i)) (term : ℕ) where
     node-grows : (x : Node) → Growing (deriveNode var down term x)
     node-grows Empty = refuse-grows brokenPool
-    node-grows (Variable v) = lit-grows (pick (eqb v var) (pos 1) (pos 0))
+    node-grows (Variable v) = lit-grows (cond (eqb v var) (pos 1) (pos 0))
     node-grows (Lit z) = lit-grows (pos 0)
     node-grows (Add a b) = do
       da ← g a
@@ -134,7 +135,7 @@ module _ (var : ℕ) where
   module _ {n₀ n : ℕ} {down : ℕ → Walk} (keeps : KeepsFrom n₀ down) (more : n₀ ≤ n) (term : ℕ) (h : term < n) where
     node-keeps : (x : Node) → AllBelow n (parts x) → Keeping n (deriveNode var down term x)
     node-keeps Empty l = refuse-keeps brokenPool
-    node-keeps (Variable v) l = lit-keeps (pick (eqb v var) (pos 1) (pos 0))
+    node-keeps (Variable v) l = lit-keeps (cond (eqb v var) (pos 1) (pos 0))
     node-keeps (Lit z) l = lit-keeps (pos 0)
     node-keeps (Add a b) (la, (lb, _)) = parts-keep keeps more (la, lb) (λ m da db s lda ldb. add-keeps lda ldb)
     node-keeps (Mul a b) (la, (lb, _)) =

@@ -1,6 +1,6 @@
 -- Every walk only appends, if what it does at a node does: one step after another, a constructor called by a walk, and a result that is kept; the rest is induction on the bound.
 -- Assumes nothing.
-use mathlib.Core.Bool.{Bool, true, false}
+use mathlib.Core.Bool.{Bool, true, false, cond}
 use Prim.Native.Nat.{ℕ, zero, suc}
 use lib.Dec.{eqb}
 use lib.ListN.{getD, replicate}
@@ -8,7 +8,7 @@ use Rattle.pool.specs.Pool.{Pool, Out, done, refused, Run, limit}
 use Rattle.constructor_laws.specs.Grown as pools
 use Rattle.constructor_laws.proofs.Growth as runs
 use Rattle.constructor_laws.proofs.Growth.{grown-by-nothing, grown-by-both}
-use Rattle.walks.specs.Walk.{State, state, Went, went, refused-walk, Walk, bind, yield, refuse, lifted, lift, keep, once, choose, walkBelow, built, walkFrom}
+use Rattle.walks.specs.Walk.{State, state, Went, went, refused-walk, Walk, bind, yield, refuse, lifted, lift, keep, once, walkBelow, built, walkFrom}
 use Rattle.walk_laws.specs.Promised.{Grows}
 
 -- a walk that only appends, from any state
@@ -60,7 +60,7 @@ module _ {visit : (ℕ → Walk) → ℕ → Walk} (at : GrowsAt visit) where
   unfolding walkBelow
   more-grows k less i = record { grows = λ S. go S (eqb i k) }
     where
-      go : (S : State) (here : Bool) → Grows S (choose here (once (visit (walkBelow visit k)) k (getD (S .kept) k 0) S) (walkBelow visit k i S))
+      go : (S : State) (here : Bool) → Grows S (cond here (once (visit (walkBelow visit k)) k (getD (S .kept) k 0) S) (walkBelow visit k i S))
       go S true = once-grows (visit (walkBelow visit k)) k (getD (S .kept) k 0) (at (walkBelow visit k) less k) .grows S
       go S false = less i .grows S
 

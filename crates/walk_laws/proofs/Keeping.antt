@@ -1,7 +1,7 @@
 -- Every walk keeps the rules of the pool and answers a node of it, if what it does at a node does; results that are kept are nodes of the pool all along.
 -- Assumes nothing.
 use mathlib.Core.Path.{_≡_, refl}
-use mathlib.Core.Bool.{Bool, true, false}
+use mathlib.Core.Bool.{Bool, true, false, cond}
 use mathlib.Core.List.{List, [], _∷_}
 use Prim.Native.Nat.{ℕ, zero, suc, _≤_, _<_}
 use native.Mathlib.Nat.{le-refl}
@@ -15,7 +15,7 @@ use Rattle.constructor_laws.specs.Keeps.{Keeps}
 use Rattle.constructor_laws.specs.Keeps as pools
 use Rattle.constructor_laws.proofs.Growth.{grown-by-nothing, grown-by-both}
 use Rattle.constructor_laws.proofs.Keeping as runs
-use Rattle.walks.specs.Walk.{State, state, Went, went, refused-walk, Walk, bind, yield, refuse, lifted, lift, keep, once, choose, walkBelow, built, walkFrom}
+use Rattle.walks.specs.Walk.{State, state, Went, went, refused-walk, Walk, bind, yield, refuse, lifted, lift, keep, once, walkBelow, built, walkFrom}
 use Rattle.walk_laws.specs.Promised.{Rightful, Walked, KeptBy}
 
 -- a walk that keeps the rules of every pool with n nodes or more
@@ -111,7 +111,7 @@ module _ {n₀ : ℕ} {visit : (ℕ → Walk) → ℕ → Walk} (at : KeepsAt n�
       here S l e = omega arith
 
       go :
-          (S : State) → Rightful S → m ≤ S .pool .count → (t : Bool) → eqb i k ≡ t → KeptBy S (choose t (once (visit (walkBelow visit k)) k (getD (S .kept) k 0) S) (walkBelow visit k i S))
+          (S : State) → Rightful S → m ≤ S .pool .count → (t : Bool) → eqb i k ≡ t → KeptBy S (cond t (once (visit (walkBelow visit k)) k (getD (S .kept) k 0) S) (walkBelow visit k i S))
       go S s l true e =
           once-kept (visit (walkBelow visit k)) S s k (getD (S .kept) k 0) (s .results k)
           (at (walkBelow visit k) less (S .pool .count) k (omega arith) (here S l (eqb-true i k e)))

@@ -1,6 +1,6 @@
 -- Substitution only appends, and keeps the rules of a pool that has its root and the node put in: what is done at a node of each kind does.
 -- Assumes nothing.
-use mathlib.Core.Bool.{Bool, true, false, _&&_}
+use mathlib.Core.Bool.{Bool, true, false, _&&_, cond}
 use Prim.Native.Nat.{ℕ, _≤_, _<_}
 use native.Mathlib.Nat.{le-refl}
 use native.Mathlib.Omega.{arith}
@@ -18,7 +18,7 @@ use Rattle.constructor_laws.proofs.Growth.{calls-grow}
 use Rattle.constructor_laws.proofs.Growth as runs
 use Rattle.constructor_laws.proofs.Keeping.{calls-keep}
 use Rattle.walks.specs.Walk.{Walk}
-use Rattle.walks.specs.Substitute.{unless, pick, substituteNode, substituteAt, substituteVar}
+use Rattle.walks.specs.Substitute.{unless, substituteNode, substituteAt, substituteVar}
 use Rattle.walk_laws.proofs.Growth.{Growing, _>>=_, yield-grows, refuse-grows, lift-grows, GrowsAt, walk-grows}
 use Rattle.walk_laws.proofs.Keeping.{Keeping, yield-keeps, refuse-keeps, next-keeps, lift-keeps, KeepsFrom, KeepsAt, parts-keep, walk-kept}
 
@@ -32,7 +32,7 @@ module _ (var value : ℕ) where
   module _ {down : ℕ → Walk} (g : (i : ℕ) → Growing (down i)) (term : ℕ) where
     node-grows : (x : Node) → Growing (substituteNode var value down term x)
     node-grows Empty = refuse-grows brokenPool
-    node-grows (Variable v) = yield-grows (pick (eqb v var) value term)
+    node-grows (Variable v) = yield-grows (cond (eqb v var) value term)
     node-grows (Lit z) = yield-grows term
     node-grows (Add a b) = do
       a2 ← g a
@@ -73,7 +73,7 @@ unless-keeps : {n : ℕ} (same : Bool) {term : ℕ} {rebuilt : Walk} → term < 
 unless-keeps true h k = yield-keeps h
 unless-keeps false h k = k
 
-picked : (t : Bool) {a b n : ℕ} → a < n → b < n → pick t a b < n
+picked : (t : Bool) {a b n : ℕ} → a < n → b < n → cond t a b < n
 picked true ha hb = ha
 picked false ha hb = hb
 

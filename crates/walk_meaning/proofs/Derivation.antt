@@ -18,7 +18,7 @@ use Rattle.constructor_laws.specs.Keeps.{Keeps}
 use Rattle.constructor_laws.proofs.Growth.{earlier-same}
 use Rattle.constructor_laws.proofs.Rules.{AllBelow, parts-below}
 use Rattle.walks.specs.Walk.{State, Went, Walk, bind, lift}
-use Rattle.walks.specs.Derive.{lit, add, mul, div, neg, pow, pick, quotientRule, deriveNode, deriveAt, derive}
+use Rattle.walks.specs.Derive.{lit, add, mul, div, neg, pow, quotientRule, deriveNode, deriveAt, derive}
 use Rattle.meaning.specs.Model.{Algebra, Model, power}
 use Rattle.meaning.specs.Value.{Values, valueNode, value, Means}
 use Rattle.meaning.proofs.Values.{falling, same-op, value-law, value-kept}
@@ -107,7 +107,7 @@ module _ {A : Algebra} (M : Model A) (env : Values A) {P₀ : Pool} (keeps : Kee
         next (walks a la S good) (λ da T good-T gT hda.
         next (walks b lb T good-T) (λ db U good-U gU hdb. go da db U good-U (has-later M env (good-T .keeps) gU hda) hdb))
 
-    picked : (t : Bool) → int (pick t (pos 1) (pos 0)) ≡ int (cond t (pos 1) (pos 0))
+    picked : (t : Bool) → int (cond t (pos 1) (pos 0)) ≡ int (cond t (pos 1) (pos 0))
     picked true = refl
     picked false = refl
 
@@ -121,7 +121,7 @@ module _ {A : Algebra} (M : Model A) (env : Values A) {P₀ : Pool} (keeps : Kee
     node-gives : (x : Node) → nodeAt P₀ term ≡ x → AllBelow (P₀ .count) (parts x) → (S : State) → Fit S → Gives S (slopeNode A env var (val P₀) goal x) (deriveNode var down term x S)
     unfolding slopeNode valueNode
     node-gives Empty e l S good = ended-walk
-    node-gives (Variable v) e l S good = rw (sym (picked (eqb v var))) (lit-gives good (pick (eqb v var) (pos 1) (pos 0)))
+    node-gives (Variable v) e l S good = rw (sym (picked (eqb v var))) (lit-gives good (cond (eqb v var) (pos 1) (pos 0)))
     node-gives (Lit z) e l S good = lit-gives good (pos 0)
     node-gives (Add a b) e (la, (lb, _)) S good = both a b good la lb (λ da db T good-T hda hdb. add-gives good-T hda hdb)
     node-gives (Mul a b) e (la, (lb, _)) S good =

@@ -15,7 +15,7 @@ use Rattle.constructor_laws.specs.Keeps.{Keeps}
 use Rattle.constructor_laws.proofs.Growth.{earlier-same}
 use Rattle.constructor_laws.proofs.Rules.{AllBelow, parts-below}
 use Rattle.walks.specs.Walk.{State, Walk, bind, yield, lift}
-use Rattle.walks.specs.Substitute.{unless, pick, substituteNode, substituteAt, substituteVar}
+use Rattle.walks.specs.Substitute.{unless, substituteNode, substituteAt, substituteVar}
 use Rattle.meaning.specs.Model.{Algebra, Model, power}
 use Rattle.meaning.specs.Value.{Values, valueNode, value, Means}
 use Rattle.meaning.proofs.Values.{falling, same-op, value-law, value-kept}
@@ -97,11 +97,11 @@ module _ {A : Algebra} (M : Model A) (env : Values A) {P₀ : Pool} (keeps : Kee
         go a2 U good-U l2 ea false t =
             lift-walked M env P₀ goal (make a2) good-U (after-weaker M env (λ y e. e ∙ ap op ea ∙ sym there) (means (U .pool) (good-U .keeps) a2 l2))
 
-    variable-walked : (v : ℕ) → nodeAt P₀ term ≡ Variable v → (S : State) → Good M env P₀ goal S → Walked M env P₀ goal S (goal term) (yield (pick (eqb v var) given term) S)
+    variable-walked : (v : ℕ) → nodeAt P₀ term ≡ Variable v → (S : State) → Good M env P₀ goal S → Walked M env P₀ goal S (goal term) (yield (cond (eqb v var) given term) S)
     unfolding valueNode
     variable-walked v e S good = go (eqb v var) (from-parts term e) (goal-from-parts term e)
       where
-        go : (t : Bool) → val P₀ term ≡ env v → goal term ≡ cond t (val P₀ given) (env v) → Walked M env P₀ goal S (goal term) (yield (pick t given term) S)
+        go : (t : Bool) → val P₀ term ≡ env v → goal term ≡ cond t (val P₀ given) (env v) → Walked M env P₀ goal S (goal term) (yield (cond t given term) S)
         go true here there = walked-here M env P₀ goal good (omega (arith, good .grown .no-fewer)) (stands good given below ∙ sym there)
         go false here there = walked-here M env P₀ goal good (later good) (stands good term h ∙ here ∙ sym there)
 

@@ -1,7 +1,7 @@
 -- A walk that builds gives at each node a node of the value that it should have, if what it does at a node does, and so does every result that it keeps.
 -- Assumes nothing.
 use mathlib.Core.Path.{_≡_, refl, sym, _∙_, subst}
-use mathlib.Core.Bool.{Bool, true, false}
+use mathlib.Core.Bool.{Bool, true, false, cond}
 use mathlib.Core.List.{List, [], _∷_}
 use Prim.Native.Nat.{ℕ, zero, suc, _<_}
 use native.Mathlib.Omega.{arith}
@@ -12,7 +12,7 @@ use Rattle.pool.specs.Pool.{Pool, Out, Run, limit, nodeAt}
 use Rattle.constructor_laws.specs.Grown.{Grown}
 use Rattle.constructor_laws.specs.Keeps.{Keeps}
 use Rattle.constructor_laws.proofs.Growth.{grown-by-nothing, grown-by-both}
-use Rattle.walks.specs.Walk.{State, state, Went, went, refused-walk, Walk, bind, lifted, lift, keep, once, choose, walkBelow, built, walkFrom}
+use Rattle.walks.specs.Walk.{State, state, Went, went, refused-walk, Walk, bind, lifted, lift, keep, once, walkBelow, built, walkFrom}
 use Rattle.meaning.specs.Model.{Algebra, Model}
 use Rattle.meaning.specs.Value.{Values, value}
 use Rattle.meaning.proofs.Values.{value-kept}
@@ -111,7 +111,7 @@ module _ {A : Algebra} (M : Model A) (env : Values A) where
           here : eqb i k ≡ true → k < P₀ .count
           here e = let same = eqb-true i k e in omega arith
 
-          go : (t : Bool) → eqb i k ≡ t → Walked S (goal i) (choose t (once (visit (walkBelow visit k)) k (getD (S .kept) k 0) S) (walkBelow visit k i S))
+          go : (t : Bool) → eqb i k ≡ t → Walked S (goal i) (cond t (once (visit (walkBelow visit k)) k (getD (S .kept) k 0) S) (walkBelow visit k i S))
           go true e =
               subst (λ j. Walked S (goal j) (once (visit (walkBelow visit k)) k (getD (S .kept) k 0) S)) (sym (eqb-true i k e))
               (once-walked (visit (walkBelow visit k)) k (getD (S .kept) k 0) good (good .results k) (at (walkBelow visit k) less k (here e) S good))

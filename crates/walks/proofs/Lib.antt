@@ -1,5 +1,4 @@
-pub mod Bounded
-pub mod Instances
+pub mod Folds
 pub mod Reached
 pub mod Tables
 pub mod Keeping

@@ -2,30 +2,33 @@
 -- Assumes nothing.
 use mathlib.Core.Path.{_≡_, sym, ap, _∙_}
 use mathlib.Core.List.{List}
-use Prim.Native.Nat.{ℕ, suc, _<_, _≤_}
+use Prim.Native.Nat.{ℕ, _<_, _≤_}
 use native.Mathlib.Omega.{arith}
 use native.Mathlib.Decide.{decLt}
 use borrow.Author.Tests.{le-ltb}
 use Rattle.pool.specs.Pool.{limit, nodeIn}
 use Rattle.pool.specs.declared.node.Node.{Node}
 use Rattle.pool.specs.declared.node.Node.the-variants.{Empty}
-use Rattle.walks.proofs.Bounded.{Bounded, below, above}
+use Rattle.walks.specs.Fold.{under, fold}
+use Rattle.walks.proofs.Folds.{visits, below, above}
 
 pub none-past-the-limit : (ks ws : List ℕ) (i : ℕ) → limit ≤ i → nodeIn ks ws i ≡ Empty
 unfolding nodeIn
 none-past-the-limit ks ws i h = rw (le-ltb i limit h)
 
-module _ {A : Type 0} {none : A} (node : (ℕ → A) → Node → A) {walk : ℕ → ℕ → A} (ks ws : List ℕ)
-    (bounded : Bounded none (λ down k. node down (nodeIn ks ws k)) walk) (at-empty : (down : ℕ → A) → node down Empty ≡ none) where
-  pub limit-is-enough : (root : ℕ) → walk limit root ≡ walk (suc root) root
+module _ {A : Type 0} (none : A) (node : (ℕ → A) → Node → A) (ks ws : List ℕ) (at-empty : (down : ℕ → A) → node down Empty ≡ none) where
+  abbrev walk : ℕ → A
+  walk = fold none node (nodeIn ks ws)
+
+  pub limit-is-enough : (root : ℕ) → under none walk limit root ≡ walk root
   limit-is-enough root = go (decLt root limit)
     where
-      go : Dec (root < limit) → walk limit root ≡ walk (suc root) root
-      go (yes h) = sym (below bounded limit root h)
+      go : Dec (root < limit) → under none walk limit root ≡ walk root
+      go (yes h) = sym (below none walk limit root h)
       go (no n) =
           let past : limit ≤ root = omega arith in
           sym
-          (bounded .visits root
-          ∙ ap (node (walk root)) (none-past-the-limit ks ws root past)
-          ∙ at-empty (walk root)
-          ∙ above bounded limit root past)
+          (visits none node (nodeIn ks ws) root
+          ∙ ap (node (under none walk root)) (none-past-the-limit ks ws root past)
+          ∙ at-empty (under none walk root)
+          ∙ above none walk limit root past)

@@ -1,6 +1,6 @@
 -- `derive_with` of src/symbolic.rs.
 -- Assumes nothing.
-use mathlib.Core.Bool.{Bool, true, false}
+use mathlib.Core.Bool.{Bool, true, false, cond}
 use Prim.Native.Nat.{ℕ, _-_}
 use lib.Dec.{eqb}
 use lib.IntN.{ℤ, pos}
@@ -30,10 +30,6 @@ neg a = lift (calls depth .neg-at a)
 abbrev pub pow : ℕ → ℕ → Walk
 pow a e = lift (calls depth .pow-at a e)
 
-abbrev pub pick : Bool → ℤ → ℤ → ℤ
-pick true a b = a
-pick false a b = b
-
 -- the rule of a quotient, with the Rust's sign: (a × db - b × da) / b^2
 abbrev pub quotientRule : ℕ → ℕ → ℕ → ℕ → Walk
 quotientRule a b da db = do
@@ -48,7 +44,7 @@ quotientRule a b da db = do
 abbrev pub deriveNode : ℕ → (ℕ → Walk) → ℕ → Node → Walk
 deriveNode var down term Empty = refuse brokenPool
 -- Variable(v) => if v == var { one() } else { zero() }
-deriveNode var down term (Variable v) = lit (pick (eqb v var) (pos 1) (pos 0))
+deriveNode var down term (Variable v) = lit (cond (eqb v var) (pos 1) (pos 0))
 -- Lit(_) => zero()
 deriveNode var down term (Lit z) = lit (pos 0)
 -- Add(a, b) => { da; db; add(da, db) }

@@ -1,9 +1,9 @@
 -- Evaluation as doubles, from document 01's "Values, from a table of one value per variable". No result is kept in the definition: a node has one value.
 -- Assumes nothing.
-use mathlib.Core.Bool.{Bool, true, false}
+use mathlib.Core.Bool.{Bool, true, false, cond}
 use mathlib.Core.List.{List}
-use Prim.Native.Nat.{ℕ, zero, suc}
-use lib.Dec.{eqb, ltb}
+use Prim.Native.Nat.{ℕ}
+use lib.Dec.{ltb}
 use lib.ListN.{length, getD}
 use lib.Ieee.{Float, binary64, nan, add, mul, div}
 use Rattle.refusals.specs.Refusals.{brokenPool, noValue, notEvaluated}
@@ -12,6 +12,7 @@ use Rattle.double.specs.declared.Valued.{Valued}
 use Rattle.double.specs.declared.Valued.the-variants.{Double, Refused}
 use Rattle.pool.specs.declared.node.Node.{Node}
 use Rattle.pool.specs.declared.node.Node.the-variants.{Empty, Variable, Lit, Add, Mul, Div, Exp, Log, Pow, Max}
+use Rattle.walks.specs.Fold.{under, fold}
 
 -- once a part is done: its refusal, or on with its value
 abbrev pub one : Valued → (Float → Valued) → Valued
@@ -22,13 +23,9 @@ one (Refused k) next = Refused k
 abbrev pub both : Valued → Valued → (Float → Float → Valued) → Valued
 both x y next = one x (λ a. one y (λ b. next a b))
 
-abbrev pub pick : Bool → Valued → Valued → Valued
-pick true a b = a
-pick false a b = b
-
 -- 15. "A variable that is reached has no entry in the table of values."
 abbrev pub valueOfVariable : List Float → ℕ → Valued
-valueOfVariable values v = pick (ltb v (length values)) (Double (getD values v nan)) (Refused noValue)
+valueOfVariable values v = cond (ltb v (length values)) (Double (getD values v nan)) (Refused noValue)
 
 -- "each operation rounds once"; 16. "Evaluation comes to Exp or Log .. its parts being done."
 abbrev pub evaluateNode : List Float → (ℕ → Valued) → Node → Valued
@@ -43,10 +40,8 @@ evaluateNode values down (Log a) = one (down a) (λ x. Refused notEvaluated)
 evaluateNode values down (Pow a e) = one (down a) (λ x. Double (powOf x e))
 evaluateNode values down (Max a b) = both (down a) (down b) (λ x y. Double (maxOf x y))
 
--- the value of node i, where i is below the bound: parts have smaller numbers
-unfoldable pub evaluateBelow : (ℕ → Node) → List Float → ℕ → ℕ → Valued
-evaluateBelow at values zero i = Refused brokenPool
-evaluateBelow at values (suc k) i = pick (eqb i k) (evaluateNode values (evaluateBelow at values k) (at k)) (evaluateBelow at values k i)
-
 abbrev pub evaluate : (ℕ → Node) → List Float → ℕ → Valued
-evaluate at values root = evaluateBelow at values (suc root) root
+evaluate at values = fold (Refused brokenPool) (evaluateNode values) at
+
+abbrev pub evaluateBelow : (ℕ → Node) → List Float → ℕ → ℕ → Valued
+evaluateBelow at values = under (Refused brokenPool) (evaluate at values)

@@ -1,9 +1,9 @@
 -- Evaluation by residues, from document 01's "By residues ..", the modulus as a parameter (02, C-17).
 -- Assumes nothing.
-use mathlib.Core.Bool.{Bool, true, false}
+use mathlib.Core.Bool.{Bool, true, false, cond}
 use mathlib.Core.List.{List}
-use Prim.Native.Nat.{ℕ, zero, suc}
-use lib.Dec.{eqb, ltb}
+use Prim.Native.Nat.{ℕ}
+use lib.Dec.{ltb}
 use lib.ListN.{length, getD}
 use Rattle.refusals.specs.Refusals.{brokenPool, noValue, notEvaluated}
 use Rattle.residue.specs.Residue.{residue, sumOf, productOf, powerOf, quotientOf}
@@ -11,6 +11,7 @@ use Rattle.residue.specs.declared.Divided.{Divided}
 use Rattle.residue.specs.declared.Divided.the-variants.{Residue, Refused}
 use Rattle.pool.specs.declared.node.Node.{Node}
 use Rattle.pool.specs.declared.node.Node.the-variants.{Empty, Variable, Lit, Add, Mul, Div, Exp, Log, Pow, Max}
+use Rattle.walks.specs.Fold.{under, fold}
 
 -- once a part is done: its refusal, or on with its residue
 abbrev pub one : Divided → (ℕ → Divided) → Divided
@@ -21,13 +22,9 @@ one (Refused k) next = Refused k
 abbrev pub both : Divided → Divided → (ℕ → ℕ → Divided) → Divided
 both x y next = one x (λ a. one y (λ b. next a b))
 
-abbrev pub pick : Bool → Divided → Divided → Divided
-pick true a b = a
-pick false a b = b
-
 -- 15. "A variable that is reached has no entry in the table of values."
 abbrev pub valueOfVariable : List ℕ → ℕ → Divided
-valueOfVariable values v = pick (ltb v (length values)) (Residue (getD values v 0)) (Refused noValue)
+valueOfVariable values v = cond (ltb v (length values)) (Residue (getD values v 0)) (Refused noValue)
 
 -- 16. "Evaluation comes to Exp or Log, or by residues to Max, its parts being done." 17 is the quotient's own.
 abbrev pub residueNode : ℕ → List ℕ → (ℕ → Divided) → Node → Divided
@@ -42,10 +39,8 @@ residueNode m values down (Log a) = one (down a) (λ x. Refused notEvaluated)
 residueNode m values down (Pow a e) = one (down a) (λ x. Residue (powerOf m x e))
 residueNode m values down (Max a b) = both (down a) (down b) (λ x y. Refused notEvaluated)
 
--- the residue of node i, where i is below the bound: parts have smaller numbers
-unfoldable pub residueBelow : ℕ → (ℕ → Node) → List ℕ → ℕ → ℕ → Divided
-residueBelow m at values zero i = Refused brokenPool
-residueBelow m at values (suc k) i = pick (eqb i k) (residueNode m values (residueBelow m at values k) (at k)) (residueBelow m at values k i)
-
 abbrev pub evaluateResidue : ℕ → (ℕ → Node) → List ℕ → ℕ → Divided
-evaluateResidue m at values root = residueBelow m at values (suc root) root
+evaluateResidue m at values = fold (Refused brokenPool) (residueNode m values) at
+
+abbrev pub residueBelow : ℕ → (ℕ → Node) → List ℕ → ℕ → ℕ → Divided
+residueBelow m at values = under (Refused brokenPool) (evaluateResidue m at values)

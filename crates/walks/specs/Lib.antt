@@ -1,3 +1,4 @@
+pub mod Fold
 pub mod Walk
 pub mod Substitute
 pub mod Derive

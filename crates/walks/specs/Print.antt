@@ -2,11 +2,12 @@
 -- Assumes nothing.
 use mathlib.Core.Bool.{Bool, true, false, _||_}
 use mathlib.Core.List.{List, [], _∷_, _++_}
-use Prim.Native.Nat.{ℕ, zero, suc, _+_}
-use lib.Dec.{eqb, ltb}
+use Prim.Native.Nat.{ℕ, _+_}
+use lib.Dec.{ltb}
 use Rattle.text.specs.Text.{decimal, signedDecimal, display}
 use Rattle.pool.specs.declared.node.Node.{Node}
 use Rattle.pool.specs.declared.node.Node.the-variants.{Empty, Variable, Lit, Add, Mul, Div, Exp, Log, Pow, Max}
+use Rattle.walks.specs.Fold.{under, fold}
 
 -- fn precedence(&self): Variable | Lit | Exp | Log | Max => 10, Add => 0, Mul | Div => 1, Pow => 2
 abbrev pub precedence : Node → ℕ
@@ -46,10 +47,6 @@ exp-opening = 101 ∷ 120 ∷ 112 ∷ 40 ∷ []
 abbrev pub log-opening : List ℕ
 log-opening = 108 ∷ 111 ∷ 103 ∷ 40 ∷ []
 
-abbrev pub pick : Bool → List ℕ → List ℕ → List ℕ
-pick true a b = a
-pick false a b = b
-
 -- if cur_precedence < parent_precedence { "(" .. ")" }
 abbrev pub bracketed : Bool → List ℕ → List ℕ
 bracketed true text = opening ++ text ++ closing
@@ -71,20 +68,17 @@ nodeText down (Log a) = log-opening ++ down 0 a ++ closing
 nodeText down (Pow a e) = down 3 a ++ hat ++ decimal e
 nodeText down (Max a b) = []
 
--- fn node_fmt(node, parent_precedence), of node i below the bound: parts have smaller numbers
-unfoldable pub textBelow : (ℕ → Node) → ℕ → ℕ → ℕ → List ℕ
-textBelow at zero parent i = []
-textBelow at (suc k) parent i =
-    pick (eqb i k) (bracketed (ltb (precedence (at k)) parent) (nodeText (textBelow at k) (at k))) (textBelow at k parent i)
+-- fn node_fmt(node, parent_precedence): a text waits for the precedence around it
+abbrev pub textNode : (ℕ → ℕ → List ℕ) → Node → ℕ → List ℕ
+textNode down n parent = bracketed (ltb (precedence n) parent) (nodeText (λ around a. down a around) n)
+
+abbrev pub textBelow : (ℕ → Node) → ℕ → ℕ → ℕ → List ℕ
+textBelow at k parent i = under (λ around. []) (fold (λ around. []) textNode at) k i parent
 
 abbrev pub textOf : (ℕ → Node) → ℕ → List ℕ
-textOf at root = textBelow at (suc root) 0 root
+textOf at root = fold (λ around. []) textNode at root 0
 
 -- 10. "Printing meets 10 if any reachable node is Max."
-abbrev pub pickTest : Bool → Bool → Bool → Bool
-pickTest true a b = a
-pickTest false a b = b
-
 abbrev pub nodeHasMax : (ℕ → Bool) → Node → Bool
 nodeHasMax down Empty = false
 nodeHasMax down (Variable v) = false
@@ -97,12 +91,11 @@ nodeHasMax down (Log a) = down a
 nodeHasMax down (Pow a e) = down a
 nodeHasMax down (Max a b) = true
 
-unfoldable pub hasMaxBelow : (ℕ → Node) → ℕ → ℕ → Bool
-hasMaxBelow at zero i = false
-hasMaxBelow at (suc k) i = pickTest (eqb i k) (nodeHasMax (hasMaxBelow at k) (at k)) (hasMaxBelow at k i)
-
 abbrev pub hasMax : (ℕ → Node) → ℕ → Bool
-hasMax at root = hasMaxBelow at (suc root) root
+hasMax at = fold false nodeHasMax at
+
+abbrev pub hasMaxBelow : (ℕ → Node) → ℕ → ℕ → Bool
+hasMaxBelow at = under false (hasMax at)
 
 -- 19. "a text has more than 65,535 bytes"
 abbrev pub longestText : ℕ

@@ -1,6 +1,6 @@
 -- `substitute_with` of src/symbolic.rs, with the map that takes one variable to one node.
 -- Assumes nothing.
-use mathlib.Core.Bool.{Bool, true, false, _&&_}
+use mathlib.Core.Bool.{Bool, true, false, _&&_, cond}
 use Prim.Native.Nat.{ℕ}
 use lib.Dec.{eqb}
 use Rattle.refusals.specs.Refusals.{brokenPool}
@@ -15,15 +15,11 @@ abbrev pub unless : Bool → ℕ → Walk → Walk
 unless true term rebuilt = yield term
 unless false term rebuilt = rebuilt
 
-abbrev pub pick : Bool → ℕ → ℕ → ℕ
-pick true a b = a
-pick false a b = b
-
 -- match term
 abbrev pub substituteNode : ℕ → ℕ → (ℕ → Walk) → ℕ → Node → Walk
 substituteNode var value down term Empty = refuse brokenPool
 -- Variable(v) => if let Some(val) = map(v) { val } else { term }
-substituteNode var value down term (Variable v) = yield (pick (eqb v var) value term)
+substituteNode var value down term (Variable v) = yield (cond (eqb v var) value term)
 -- Lit(_) => term
 substituteNode var value down term (Lit z) = yield term
 -- Add(a, b) => { a2; b2; if same_ref(a, a2) && same_ref(b, b2) { term } else { add(a2, b2) } }

@@ -1,6 +1,6 @@
 -- A walk over an expression that builds: left before right, "and keep each visited node's result for that call, so a shared part stays shared".
 -- Assumes nothing.
-use mathlib.Core.Bool.{Bool, true, false}
+use mathlib.Core.Bool.{Bool, true, false, cond}
 use mathlib.Core.List.{List}
 use Prim.Native.Nat.{ℕ, zero, suc}
 use lib.Dec.{eqb}
@@ -55,15 +55,11 @@ abbrev pub once : (ℕ → Walk) → ℕ → ℕ → Walk
 once visit i zero S = (visit i >>= keep i) S
 once visit i (suc r) S = went r S
 
-abbrev pub choose : Bool → Went → Went → Went
-choose true a b = a
-choose false a b = b
-
 -- the walk from node i, where i is below the bound; `visit` says what is done at a node, given the walk of its parts, whose numbers are smaller
 unfoldable pub walkBelow : ((ℕ → Walk) → ℕ → Walk) → ℕ → ℕ → Walk
 walkBelow visit zero i S = refused-walk brokenPool
 walkBelow visit (suc k) i S =
-    choose (eqb i k) (once (visit (walkBelow visit k)) k (getD (S .kept) k 0) S) (walkBelow visit k i S)
+    cond (eqb i k) (once (visit (walkBelow visit k)) k (getD (S .kept) k 0) S) (walkBelow visit k i S)
 
 abbrev pub built : Went → Out
 built (went i S) = done i (S .pool)
