@@ -3,6 +3,8 @@
 use mathlib.Core.Bool.{Bool, true, false, _||_}
 use mathlib.Core.List.{List, [], _∷_, _++_}
 use Prim.Native.Nat.{ℕ, _+_}
+use Prim.Native.String as String
+use Prim.Native.Char.{code}
 use lib.Dec.{ltb}
 use Rattle.text.specs.Text.{decimal, signedDecimal, display}
 use Rattle.pool.specs.declared.node.Node.{Node}
@@ -22,30 +24,34 @@ precedence (Log a) = 10
 precedence (Pow a e) = 2
 precedence (Max a b) = 10
 
--- the bytes of " + ", "*", "/", "^", "(", ")", "exp(" and "log("
+-- the bytes of a text
+abbrev pub bytes : String.String → List ℕ
+bytes String.[] = []
+bytes (String._∷_ c s) = code c ∷ bytes s
+
 abbrev pub plus : List ℕ
-plus = 32 ∷ 43 ∷ 32 ∷ []
+plus = bytes " + "
 
 abbrev pub times : List ℕ
-times = 42 ∷ []
+times = bytes "*"
 
 abbrev pub over : List ℕ
-over = 47 ∷ []
+over = bytes "/"
 
 abbrev pub hat : List ℕ
-hat = 94 ∷ []
+hat = bytes "^"
 
 abbrev pub opening : List ℕ
-opening = 40 ∷ []
+opening = bytes "("
 
 abbrev pub closing : List ℕ
-closing = 41 ∷ []
+closing = bytes ")"
 
 abbrev pub exp-opening : List ℕ
-exp-opening = 101 ∷ 120 ∷ 112 ∷ 40 ∷ []
+exp-opening = bytes "exp("
 
 abbrev pub log-opening : List ℕ
-log-opening = 108 ∷ 111 ∷ 103 ∷ 40 ∷ []
+log-opening = bytes "log("
 
 -- if cur_precedence < parent_precedence { "(" .. ")" }
 abbrev pub bracketed : Bool → List ℕ → List ℕ
@@ -58,14 +64,14 @@ nodeText down Empty = []
 nodeText down (Variable v) = display v
 nodeText down (Lit z) = signedDecimal z
 -- a at cur_precedence, " + ", b at cur_precedence
-nodeText down (Add a b) = down 0 a ++ plus ++ down 0 b
-nodeText down (Mul a b) = down 1 a ++ times ++ down 1 b
+nodeText down (Add a b) = down (precedence (Add a b)) a ++ plus ++ down (precedence (Add a b)) b
+nodeText down (Mul a b) = down (precedence (Mul a b)) a ++ times ++ down (precedence (Mul a b)) b
 -- b at cur_precedence + 1
-nodeText down (Div a b) = down 1 a ++ over ++ down 2 b
+nodeText down (Div a b) = down (precedence (Div a b)) a ++ over ++ down (precedence (Div a b) + 1) b
 nodeText down (Exp a) = exp-opening ++ down 0 a ++ closing
 nodeText down (Log a) = log-opening ++ down 0 a ++ closing
 -- a at cur_precedence + 1, "^", exp
-nodeText down (Pow a e) = down 3 a ++ hat ++ decimal e
+nodeText down (Pow a e) = down (precedence (Pow a e) + 1) a ++ hat ++ decimal e
 nodeText down (Max a b) = []
 
 -- fn node_fmt(node, parent_precedence): a text waits for the precedence around it
