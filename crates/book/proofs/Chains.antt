@@ -4,8 +4,8 @@ use mathlib.Core.Path.{_≡_, refl, sym, ap, _∙_}
 use mathlib.Core.List.{List}
 use Prim.Native.Nat.{ℕ, zero, suc, _+_, _-_, _≤_, _<_}
 use native.Mathlib.Omega.{arith}
-use Rattle.pool.specs.Pool.{Pool}
-use Rattle.taylor.specs.Work.{Result, gives, refused-work, Work, bind, yield, from, add, sub, mul, div, at, fold}
+use Rattle.pool.specs.Pool.{Pool, done, refused}
+use Rattle.taylor.specs.Work.{Result, Work, bind, yield, from, add, sub, mul, div, at, fold}
 use Rattle.taylor.specs.Expansion.{productTerm, productAt, quotientTerm, quotientAt, expTerm, expAt, logTerm, logAt}
 use Rattle.taylor_base.proofs.Steps.{bind-same, bind-assoc}
 use Rattle.book.specs.Formula.{Formula, #, whole, _⊕_, _⊖_, _⊗_, work, chain}
@@ -13,8 +13,8 @@ use Rattle.book.specs.Book.{list}
 use Rattle.book.specs.Order.{productOrdered, quotientOrdered, expOrdered, logOrdered}
 
 bind-yield : {A : Type 0} (x : Result A) → bind x yield ≡ x
-bind-yield (gives v P) = refl
-bind-yield (refused-work k) = refl
+bind-yield (done v P) = refl
+bind-yield (refused k) = refl
 
 -- the last turn of a loop
 fold-last : (step : ℕ → ℕ → Work ℕ) (first n acc : ℕ) (P : Pool) → fold step first (suc n) acc P ≡ bind (fold step first n acc P) (λ a. step a (first + n))
@@ -78,19 +78,19 @@ exp-is us z res k P =
 log-steps : (x : Result ℕ) (k uₖ u₀ : ℕ)
     → bind x (λ s Q. bind (from k Q) (λ n R. bind (mul uₖ n R) (λ p S. bind (sub p s S) (λ d T. bind (div d u₀ T) (λ q U. bind (from k U) (div q))))))
     ≡ bind (bind (bind x (λ s Q. bind (bind (from k Q) (mul uₖ)) (λ p. sub p s))) (λ d. div d u₀)) (λ q U. bind (from k U) (div q))
-log-steps (refused-work i) k uₖ u₀ = refl
-log-steps (gives s Q) k uₖ u₀ = go (from k Q)
+log-steps (refused i) k uₖ u₀ = refl
+log-steps (done s Q) k uₖ u₀ = go (from k Q)
   where
     last : ℕ → Work ℕ
     last q U = bind (from k U) (div q)
 
     two : (x : Result ℕ) → bind x (λ p S. bind (sub p s S) (λ d T. bind (div d u₀ T) last)) ≡ bind (bind (bind x (λ p. sub p s)) (λ d. div d u₀)) last
-    two (refused-work i) = refl
-    two (gives p S) = sym (bind-assoc (sub p s S) (λ d. div d u₀) last)
+    two (refused i) = refl
+    two (done p S) = sym (bind-assoc (sub p s S) (λ d. div d u₀) last)
 
     go : (y : Result ℕ) → bind y (λ n R. bind (mul uₖ n R) (λ p S. bind (sub p s S) (λ d T. bind (div d u₀ T) last))) ≡ bind (bind (bind (bind y (mul uₖ)) (λ p. sub p s)) (λ d. div d u₀)) last
-    go (refused-work i) = refl
-    go (gives n R) = two (mul uₖ n R)
+    go (refused i) = refl
+    go (done n R) = two (mul uₖ n R)
 
 pub log-is : (us : List ℕ) (z : ℕ) (res : List ℕ) (k : ℕ) (P : Pool) → logAt us z res (suc k) P ≡ work (logOrdered (list us) (list res) z (suc k)) P
 unfolding work

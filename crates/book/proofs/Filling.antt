@@ -6,8 +6,8 @@ use Prim.Native.Nat.{ℕ, zero, suc, _≤_, _<_}
 use native.Mathlib.Omega.{arith}
 use lib.ListN.{length, length-append}
 use lib.Seq.{append-snoc}
-use Rattle.pool.specs.Pool.{Pool}
-use Rattle.taylor.specs.Work.{gives, Work, at, each, fill}
+use Rattle.pool.specs.Pool.{Pool, done}
+use Rattle.taylor.specs.Work.{Work, at, each, fill}
 use Rattle.book.specs.Formula.{Formula, work, works, row}
 use Rattle.book.proofs.Work.{Came, came-weaker, came-next, came-here, Appends, work-appends, one-more}
 
@@ -20,7 +20,7 @@ pub record Filled (formula : List ℕ → ℕ → Formula) (todo : ℕ) (res cs 
   pub new : List ℕ
   pub is : cs ≡ res ++ new
   pub long : length new ≡ todo
-  pub in-turn : works (row (formula cs) (length res) todo) P ≡ gives new Q
+  pub in-turn : works (row (formula cs) (length res) todo) P ≡ done new Q
 
 -- the earlier coefficients stay
 at-earlier : (res new : List ℕ) (j : ℕ) → j < length res → at (res ++ new) j ≡ at res j
@@ -44,11 +44,11 @@ module _ (f : List ℕ → ℕ → Work ℕ) (formula : List ℕ → ℕ → For
       this : Appends P (f res (length res) P)
       this = subst (Appends P) (sym (is res (length res) l P)) (work-appends (formula res (length res)) P)
 
-      more : (c : ℕ) (A : Pool) (cs : List ℕ) (Q : Pool) → f res (length res) P ≡ gives c A → Filled formula todo (res ++ (c ∷ [])) cs A Q → Filled formula (suc todo) res cs P Q
+      more : (c : ℕ) (A : Pool) (cs : List ℕ) (Q : Pool) → f res (length res) P ≡ done c A → Filled formula todo (res ++ (c ∷ [])) cs A Q → Filled formula (suc todo) res cs P Q
       more c A cs Q e h =
           let joined : cs ≡ res ++ c ∷ h .new = h .is ∙ append-snoc res c (h .new) in
           let earlier : formula cs (length res) ≡ formula res (length res) = back (length res) cs res (λ j l. ap (λ (r : List ℕ). at r j) joined ∙ at-earlier res (c ∷ h .new) j l) in
-          let first : work (formula cs (length res)) P ≡ gives c A = ap (λ (g : Formula). work g P) earlier ∙ sym (is res (length res) l P) ∙ e in
+          let first : work (formula cs (length res)) P ≡ done c A = ap (λ (g : Formula). work g P) earlier ∙ sym (is res (length res) l P) ∙ e in
           let one : length (res ++ (c ∷ [])) ≡ suc (length res) = length-append res (c ∷ []) ∙ omega arith in
           record {
             new = c ∷ h .new;
@@ -60,16 +60,16 @@ module _ (f : List ℕ → ℕ → Work ℕ) (formula : List ℕ → ℕ → For
 -- all n coefficients, by the formulas 0, 1, ..
 pub record Row (formula : List ℕ → ℕ → Formula) (n : ℕ) (cs : List ℕ) (P Q : Pool) : Type 0 where
   pub long : length cs ≡ n
-  pub in-turn : works (row (formula cs) 0 n) P ≡ gives cs Q
+  pub in-turn : works (row (formula cs) 0 n) P ≡ done cs Q
 
 -- where none was there at first
 pub from-none : (formula : List ℕ → ℕ → Formula) {n : ℕ} {cs : List ℕ} {P Q : Pool} → Filled formula n [] cs P Q → Row formula n cs P Q
-from-none formula {n} {P = P} {Q} h = record { long = ap length (h .is) ∙ h .long; in-turn = h .in-turn ∙ ap (λ (r : List ℕ). gives r Q) (sym (h .is)) }
+from-none formula {n} {P = P} {Q} h = record { long = ap length (h .is) ∙ h .long; in-turn = h .in-turn ∙ ap (λ (r : List ℕ). done r Q) (sym (h .is)) }
 
 -- where coefficient 0 was there at first, by its own formula
 pub from-first :
     (formula : List ℕ → ℕ → Formula) {todo r : ℕ} {cs : List ℕ} (A : Pool) {P Q : Pool}
-    → LooksBack formula → work (formula [] 0) A ≡ gives r P → Filled formula todo (r ∷ []) cs P Q → Row formula (suc todo) cs A Q
+    → LooksBack formula → work (formula [] 0) A ≡ done r P → Filled formula todo (r ∷ []) cs P Q → Row formula (suc todo) cs A Q
 unfolding row
 from-first formula {todo} {r} {cs} A {Q = Q} back e h =
     let none : (j : ℕ) → j < 0 → at cs j ≡ at [] j = λ j l. omega arith in
@@ -77,7 +77,7 @@ from-first formula {todo} {r} {cs} A {Q = Q} back e h =
       long = ap length (h .is) ∙ ap suc (h .long);
       in-turn =
           one-more (formula cs 0) (row (formula cs) 1 todo) A (ap (λ (g : Formula). work g A) (back 0 cs [] none) ∙ e) (h .in-turn)
-          ∙ ap (λ (l : List ℕ). gives l Q) (sym (h .is));
+          ∙ ap (λ (l : List ℕ). done l Q) (sym (h .is));
     }
 
 -- ---- each coefficient from its like
@@ -96,7 +96,7 @@ module _ (f : ℕ → Work ℕ) (formula : ℕ → Formula) (is : (u : ℕ) (P :
       this : Appends P (f u P)
       this = subst (Appends P) (sym (is u P)) (work-appends (formula u) P)
 
-      more : (c : ℕ) (A : Pool) (cs : List ℕ) (Q : Pool) → f u P ≡ gives c A → Row (λ vs k. formula (at us k)) (length us) cs A Q → Row (λ vs k. formula (at (u ∷ us) k)) (length (u ∷ us)) (c ∷ cs) P Q
+      more : (c : ℕ) (A : Pool) (cs : List ℕ) (Q : Pool) → f u P ≡ done c A → Row (λ vs k. formula (at us k)) (length us) cs A Q → Row (λ vs k. formula (at (u ∷ us) k)) (length (u ∷ us)) (c ∷ cs) P Q
       more c A cs Q e h =
           let shifted : row (λ k. formula (at (u ∷ us) k)) 1 (length us) ≡ row (λ k. formula (at us k)) 0 (length us) = row-shifted (λ k. formula (at (u ∷ us) k)) 0 (length us) in
           record {

@@ -5,8 +5,8 @@ use mathlib.Core.List.{List, [], _∷_}
 use Prim.Native.Nat.{ℕ, zero, suc, _-_, _≤_, min}
 use native.Mathlib.Omega.{arith}
 use lib.ListN.{length}
-use Rattle.pool.specs.Pool.{Pool}
-use Rattle.taylor.specs.Work.{Result, gives, refused-work, Work, bind, yield, zeroLit, oneLit, mul, div, at, each, fill}
+use Rattle.pool.specs.Pool.{Pool, done, refused}
+use Rattle.taylor.specs.Work.{Result, Work, bind, yield, zeroLit, oneLit, mul, div, at, each, fill}
 use Rattle.taylor.specs.Expansion.{Expansion, Constant, Polynomial, productAt, times, quotientAt, quotient, expAt, exponential, logAt, logarithm}
 use Rattle.book.specs.Formula.{Formula, #, whole, _⊕_, _⊖_, _⊗_, _⊘_, _⊟_, work, works, row, chain}
 use Rattle.book.specs.Book.{Coefficients, list, constant, productBook, scaledBook, quotientBook, expBook, logBook}
@@ -42,22 +42,22 @@ log-looks-back u z (suc k) vs vs′ h =
 -- ---- a list as an answer
 
 listIn : Result Expansion → Result (List ℕ)
-listIn (gives (Polynomial cs) Q) = gives cs Q
-listIn (gives (Constant c) Q) = refused-work 0
-listIn (refused-work k) = refused-work k
+listIn (done (Polynomial cs) Q) = done cs Q
+listIn (done (Constant c) Q) = refused 0
+listIn (refused k) = refused k
 
-list-given : (x : Result (List ℕ)) {cs : List ℕ} {Q : Pool} → bind x (λ cs. yield (Polynomial cs)) ≡ gives (Polynomial cs) Q → x ≡ gives cs Q
+list-given : (x : Result (List ℕ)) {cs : List ℕ} {Q : Pool} → bind x (λ cs. yield (Polynomial cs)) ≡ done (Polynomial cs) Q → x ≡ done cs Q
 unfolding listIn
 list-given x e = sym (go x) ∙ ap listIn e
   where
     go : (x : Result (List ℕ)) → listIn (bind x (λ cs. yield (Polynomial cs))) ≡ x
-    go (gives cs Q) = refl
-    go (refused-work k) = refl
+    go (done cs Q) = refl
+    go (refused k) = refl
 
 -- ---- what is shared, then all coefficients
 recurrence :
     (shared : List Formula) {nodes : List ℕ} (book ordered : ℕ → Formula) {n : ℕ} {cs : List ℕ} (P : Pool) {A Q : Pool}
-    → works shared P ≡ gives nodes A → length cs ≡ n → works (row ordered 0 n) A ≡ gives cs Q → ((k : ℕ) → _≈_ shared nodes (book k) (ordered k))
+    → works shared P ≡ done nodes A → length cs ≡ n → works (row ordered 0 n) A ≡ done cs Q → ((k : ℕ) → _≈_ shared nodes (book k) (ordered k))
     → Recurrence shared nodes book ordered n cs P Q
 recurrence shared book ordered {n} {cs} P {Q = Q} e l d same =
     record {
@@ -71,7 +71,7 @@ recurrence shared book ordered {n} {cs} P {Q = Q} e l d same =
 module _ (n : ℕ) (some : 1 ≤ n) (P : Pool) where
   rest-follows :
       (step : List ℕ → ℕ → Work ℕ) (book formula : List ℕ → ℕ → Formula) (shared : List Formula) {nodes : List ℕ} (A : Pool)
-      → works shared P ≡ gives nodes A
+      → works shared P ≡ done nodes A
       → ((res : List ℕ) (k : ℕ) (Q : Pool) → step res (suc k) Q ≡ work (formula res (suc k)) Q)
       → LooksBack formula
       → ((vs : List ℕ) (k : ℕ) → _≈_ shared nodes (book vs k) (formula vs k))
@@ -122,8 +122,8 @@ module _ (n : ℕ) (some : 1 ≤ n) (P : Pool) where
       (rest-follows (step z scale) book (formula z scale) (whole 0 ∷ (whole 1 ⊘ list ws 0) ∷ []) C (shared-are z A o B scale C e e′ e″) (is z scale) (back z scale) (same z scale)))))
     where
       shared-are :
-          (z : ℕ) (A : Pool) (o : ℕ) (B : Pool) (scale : ℕ) (C : Pool) → zeroLit P ≡ gives z A → oneLit A ≡ gives o B → div o (at ws 0) B ≡ gives scale C
-          → works (whole 0 ∷ (whole 1 ⊘ list ws 0) ∷ []) P ≡ gives (z ∷ scale ∷ []) C
+          (z : ℕ) (A : Pool) (o : ℕ) (B : Pool) (scale : ℕ) (C : Pool) → zeroLit P ≡ done z A → oneLit A ≡ done o B → div o (at ws 0) B ≡ done scale C
+          → works (whole 0 ∷ (whole 1 ⊘ list ws 0) ∷ []) P ≡ done (z ∷ scale ∷ []) C
       shared-are z A o B scale C e e′ e″ =
           one-more (whole 0) ((whole 1 ⊘ list ws 0) ∷ []) P e (one-more (whole 1 ⊘ list ws 0) [] A (ap (λ r. bind r (λ o. div o (at ws 0))) e′ ∙ e″) refl)
 
@@ -139,7 +139,7 @@ each-follows f book formula us P is same =
 module _ (P : Pool) {cs : List ℕ} {Q : Pool} where
   -- list × list: v_k = Σ_(j=0..k) u_j × w_(k-j)
   pub product-follows-the-book :
-      (us ws : List ℕ) → times (Polynomial us) (Polynomial ws) P ≡ gives (Polynomial cs) Q
+      (us ws : List ℕ) → times (Polynomial us) (Polynomial ws) P ≡ done (Polynomial cs) Q
       → WithZero (productBook (list us) (list ws)) (productOrdered (list us) (list ws)) (min (length us) (length ws)) cs P Q
   unfolding times work works
   product-follows-the-book us ws eq = holds-then answer (list-given _ eq)
@@ -150,7 +150,7 @@ module _ (P : Pool) {cs : List ℕ} {Q : Pool} where
       formula : ℕ → List ℕ → ℕ → Formula
       formula z vs = productOrdered (list us) (list ws) z
 
-      call : (z : ℕ) (A : Pool) (cs : List ℕ) (Q : Pool) → zeroLit P ≡ gives z A → Row (formula z) n cs A Q → WithZero (productBook (list us) (list ws)) (productOrdered (list us) (list ws)) n cs P Q
+      call : (z : ℕ) (A : Pool) (cs : List ℕ) (Q : Pool) → zeroLit P ≡ done z A → Row (formula z) n cs A Q → WithZero (productBook (list us) (list ws)) (productOrdered (list us) (list ws)) n cs P Q
       call z A cs Q e h = (
         z,
         recurrence (whole 0 ∷ []) (productBook (list us) (list ws)) (formula z cs) P (one-more (whole 0) [] P e refl) (h .long) (h .in-turn)
@@ -165,21 +165,21 @@ module _ (P : Pool) {cs : List ℕ} {Q : Pool} where
 
   -- constant × list and list × constant: v_k = c × u_k
   pub constant-product-follows-the-book :
-      (c : ℕ) (ws : List ℕ) → times (Constant c) (Polynomial ws) P ≡ gives (Polynomial cs) Q
+      (c : ℕ) (ws : List ℕ) → times (Constant c) (Polynomial ws) P ≡ done (Polynomial cs) Q
       → Recurrence [] [] (scaledBook (# c) (list ws)) (scaledOrdered (# c) (list ws)) (length ws) cs P Q
   unfolding times work
   constant-product-follows-the-book c ws eq =
       holds-then (each-follows (λ w. mul w c) (λ w. # c ⊗ # w) (λ w. # w ⊗ # c) ws P (λ w Q. refl) (λ w. scaled-same [] [] (# c) (λ k. # w) 0)) (list-given _ eq)
 
   pub product-with-constant-follows-the-book :
-      (us : List ℕ) (c : ℕ) → times (Polynomial us) (Constant c) P ≡ gives (Polynomial cs) Q
+      (us : List ℕ) (c : ℕ) → times (Polynomial us) (Constant c) P ≡ done (Polynomial cs) Q
       → Recurrence [] [] (scaledBook (# c) (list us)) (scaledOrdered (# c) (list us)) (length us) cs P Q
   unfolding times
   product-with-constant-follows-the-book us c eq = constant-product-follows-the-book c us eq
 
   -- list / list: v_k = (1/w_0) × (u_k - Σ_(j=0..k-1) v_j × w_(k-j))
   pub quotient-follows-the-book :
-      (us ws : List ℕ) → 1 ≤ length us → 1 ≤ length ws → quotient (Polynomial us) (Polynomial ws) P ≡ gives (Polynomial cs) Q
+      (us ws : List ℕ) → 1 ≤ length us → 1 ≤ length ws → quotient (Polynomial us) (Polynomial ws) P ≡ done (Polynomial cs) Q
       → WithScale (list ws) (quotientBook (list us) (list ws) (list cs)) (λ z. quotientOrdered (list us) (list ws) (list cs)) (min (length us) (length ws)) cs P Q
   unfolding work chain
   quotient-follows-the-book us ws some some′ eq =
@@ -192,7 +192,7 @@ module _ (P : Pool) {cs : List ℕ} {Q : Pool} where
 
   -- constant / list: the same with u_0 = c and 0 for the other u_k
   pub constant-quotient-follows-the-book :
-      (c : ℕ) (ws : List ℕ) → 1 ≤ length ws → quotient (Constant c) (Polynomial ws) P ≡ gives (Polynomial cs) Q
+      (c : ℕ) (ws : List ℕ) → 1 ≤ length ws → quotient (Constant c) (Polynomial ws) P ≡ done (Polynomial cs) Q
       → WithScale (list ws) (quotientBook (constant c) (list ws) (list cs)) (constantQuotientOrdered c (list ws) (list cs)) (length ws) cs P Q
   unfolding work chain
   constant-quotient-follows-the-book c ws some eq =
@@ -205,7 +205,7 @@ module _ (P : Pool) {cs : List ℕ} {Q : Pool} where
 
   -- list / constant: v_k = (1/c) × u_k
   pub quotient-by-constant-follows-the-book :
-      (us : List ℕ) (c : ℕ) → quotient (Polynomial us) (Constant c) P ≡ gives (Polynomial cs) Q
+      (us : List ℕ) (c : ℕ) → quotient (Polynomial us) (Constant c) P ≡ done (Polynomial cs) Q
       → Recurrence [] [] (scaledBook (whole 1 ⊘ # c) (list us)) (dividedOrdered (# c) (list us)) (length us) cs P Q
   unfolding work
   quotient-by-constant-follows-the-book us c eq =
@@ -213,7 +213,7 @@ module _ (P : Pool) {cs : List ℕ} {Q : Pool} where
 
   -- exp: k × v_k = Σ_(j=1..k) v_(k-j) × ũ_j
   pub exponential-follows-the-book :
-      (us : List ℕ) → 1 ≤ length us → exponential (Polynomial us) P ≡ gives (Polynomial cs) Q
+      (us : List ℕ) → 1 ≤ length us → exponential (Polynomial us) P ≡ done (Polynomial cs) Q
       → WithZero (expBook (list us) (list cs)) (expOrdered (list us) (list cs)) (length us) cs P Q
   unfolding work
   exponential-follows-the-book us some eq =
@@ -224,7 +224,7 @@ module _ (P : Pool) {cs : List ℕ} {Q : Pool} where
 
   -- log: k × v_k = (1/u_0) × (ũ_k - Σ_(j=1..k-1) u_(k-j) × ṽ_j)
   pub logarithm-follows-the-book :
-      (us : List ℕ) → 1 ≤ length us → logarithm (Polynomial us) P ≡ gives (Polynomial cs) Q
+      (us : List ℕ) → 1 ≤ length us → logarithm (Polynomial us) P ≡ done (Polynomial cs) Q
       → WithZero (logBook (list us) (list cs)) (logOrdered (list us) (list cs)) (length us) cs P Q
   unfolding work
   logarithm-follows-the-book us some eq =

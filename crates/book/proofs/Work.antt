@@ -10,20 +10,20 @@ use Rattle.pool.specs.Pool.{Pool, Out, done, refused, Run}
 use Rattle.constructors.specs.Build.{depth}
 use Rattle.constructor_laws.specs.Grown.{Grown, Grows}
 use Rattle.constructor_laws.proofs.Growth.{Growing, grown-by-nothing, grown-by-both, literal-grows, calls-grow}
-use Rattle.taylor.specs.Work.{Result, gives, refused-work, Work, bind, yield, answered, node, sub, at}
+use Rattle.taylor.specs.Work.{Result, Work, bind, yield, answered, node, sub, at}
 use Rattle.book.specs.Formula.{Formula, #, whole, _⊕_, _⊖_, _⊗_, _⊘_, _⊟_, Exp, Log, work, works, row}
 use Rattle.book.specs.Recurrence.{Coefficient}
 
 -- work on P that was refused, or only appended and came to a result of which H holds
 pub data Came {A : Type 0} (P : Pool) (H : A → Pool → Type 0) : Result A → Type 0 where
-  came : {v : A} {Q : Pool} → Grown P Q → H v Q → Came P H (gives v Q)
-  ended : {k : ℕ} → Came P H (refused-work k)
+  came : {v : A} {Q : Pool} → Grown P Q → H v Q → Came P H (done v Q)
+  ended : {k : ℕ} → Came P H (refused k)
 
 pub came-from : {A : Type 0} {P Q : Pool} {H : A → Pool → Type 0} {r : Result A} → Grown P Q → Came Q H r → Came P H r
 came-from g (came h x) = came (grown-by-both g h) x
 came-from g ended = ended
 
-pub came-here : {A : Type 0} {P : Pool} {H : A → Pool → Type 0} {v : A} → H v P → Came P H (gives v P)
+pub came-here : {A : Type 0} {P : Pool} {H : A → Pool → Type 0} {v : A} → H v P → Came P H (done v P)
 came-here {P = P} x = came (grown-by-nothing P) x
 
 pub came-weaker : {A : Type 0} {P : Pool} {H K : A → Pool → Type 0} {r : Result A} → ((v : A) (Q : Pool) → H v Q → K v Q) → Came P H r → Came P K r
@@ -33,23 +33,23 @@ came-weaker f ended = ended
 pub came-next :
     {A B : Type 0} {P : Pool} {H : A → Pool → Type 0} {K : B → Pool → Type 0} {r : Result A} {next : A → Work B}
     → Came P H r
-    → ((v : A) (Q : Pool) → r ≡ gives v Q → Grown P Q → H v Q → Came Q K (next v Q))
+    → ((v : A) (Q : Pool) → r ≡ done v Q → Grown P Q → H v Q → Came Q K (next v Q))
     → Came P K (bind r next)
 came-next (came {v} {Q} g x) go = came-from g (go v Q refl g x)
 came-next ended go = ended
 
 -- an accepted answer
-module _ {A : Type 0} {P : Pool} {H : A → Pool → Type 0} {r : Result A} {v : A} {Q : Pool} (h : Came P H r) (e : r ≡ gives v Q) where
+module _ {A : Type 0} {P : Pool} {H : A → Pool → Type 0} {r : Result A} {v : A} {Q : Pool} (h : Came P H r) (e : r ≡ done v Q) where
   pub grown-since : Grown P Q
   grown-since = go (subst (Came P H) e h)
     where
-      go : Came P H (gives v Q) → Grown P Q
+      go : Came P H (done v Q) → Grown P Q
       go (came g x) = g
 
   pub holds-then : H v Q
   holds-then = go (subst (Came P H) e h)
     where
-      go : Came P H (gives v Q) → H v Q
+      go : Came P H (done v Q) → H v Q
       go (came g x) = x
 
 -- ---- formulas only append
@@ -91,13 +91,13 @@ work-appends (Log f) = λ P. appends-next (work-appends f P) (λ a. node-appends
 -- ---- formulas in turn
 
 pub one-more :
-    (f : Formula) (fs : List Formula) (P : Pool) {c : ℕ} {cs : List ℕ} {A Q : Pool} → work f P ≡ gives c A → works fs A ≡ gives cs Q → works (f ∷ fs) P ≡ gives (c ∷ cs) Q
+    (f : Formula) (fs : List Formula) (P : Pool) {c : ℕ} {cs : List ℕ} {A Q : Pool} → work f P ≡ done c A → works fs A ≡ done cs Q → works (f ∷ fs) P ≡ done (c ∷ cs) Q
 unfolding works
 one-more f fs P {c} e d = ap (λ x. bind x (λ c A. bind (works fs A) (λ cs. yield (c ∷ cs)))) e ∙ ap (λ x. bind x (λ cs. yield (c ∷ cs))) d
 
 -- whatever comes after them
 pub works-then :
-    (fs gs : List Formula) (P : Pool) → Came P (λ xs A. (ys : List ℕ) (Q : Pool) → works gs A ≡ gives ys Q → works (fs ++ gs) P ≡ gives (xs ++ ys) Q) (works fs P)
+    (fs gs : List Formula) (P : Pool) → Came P (λ xs A. (ys : List ℕ) (Q : Pool) → works gs A ≡ done ys Q → works (fs ++ gs) P ≡ done (xs ++ ys) Q) (works fs P)
 unfolding works
 works-then [] gs P = came-here (λ ys Q d. d)
 works-then (f ∷ fs) gs P = came-next (work-appends f P) (λ c A e g x. came-next (works-then fs gs A) (λ cs B e′ g′ h. came-here (λ ys Q d. one-more f (fs ++ gs) P e (h ys Q d))))
@@ -117,7 +117,7 @@ row-each f first (suc n) P =
     came-next (row-each f (suc first) n A) (λ cs Q e′ g′ h. came-here (this c A cs Q e g g′ h)))
   where
     this :
-        (c : ℕ) (A : Pool) (cs : List ℕ) (Q : Pool) → work (f first) P ≡ gives c A → Grown P A → Grown A Q
+        (c : ℕ) (A : Pool) (cs : List ℕ) (Q : Pool) → work (f first) P ≡ done c A → Grown P A → Grown A Q
         → ((k : ℕ) → k < n → Coefficient A Q (f (suc first + k)) (at cs k)) → (k : ℕ) → k < suc n → Coefficient P Q (f (first + k)) (at (c ∷ cs) k)
     this c A cs Q e g g′ h zero l =
         let same : first + 0 ≡ first = omega arith in
@@ -129,7 +129,7 @@ row-each f first (suc n) P =
 -- of a whole call: what is shared, then the coefficients
 pub coefficients-in-turn :
     (shared : List Formula) (f : ℕ → Formula) (n : ℕ) {nodes cs : List ℕ} (P : Pool) {A Q : Pool}
-    → works shared P ≡ gives nodes A → works (row f 0 n) A ≡ gives cs Q → (k : ℕ) → k < n → Coefficient P Q (f k) (at cs k)
+    → works shared P ≡ done nodes A → works (row f 0 n) A ≡ done cs Q → (k : ℕ) → k < n → Coefficient P Q (f k) (at cs k)
 coefficients-in-turn shared f n P {A} e d k l =
     let same : 0 + k ≡ k = omega arith in
     from-earlier (grown-since (works-then shared [] P) e) (rw same at (holds-then (row-each f 0 n A) d k l))

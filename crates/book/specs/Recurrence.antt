@@ -4,9 +4,9 @@ use mathlib.Core.Path.{_≡_}
 use mathlib.Core.List.{List, [], _∷_, _++_}
 use Prim.Native.Nat.{ℕ, _<_}
 use lib.ListN.{length}
-use Rattle.pool.specs.Pool.{Pool}
+use Rattle.pool.specs.Pool.{Pool, done}
 use Rattle.constructor_laws.specs.Grown.{Grown}
-use Rattle.taylor.specs.Work.{gives, at}
+use Rattle.taylor.specs.Work.{at}
 use Rattle.book.specs.Formula.{Formula, whole, _⊘_, work, works, row}
 use Rattle.book.specs.Book.{Coefficients}
 use Rattle.book.specs.Order.{_≈_}
@@ -16,7 +16,7 @@ pub record Coefficient (P Q : Pool) (f : Formula) (c : ℕ) : Type 0 where
   pub start : Pool
   pub finish : Pool
   pub earlier : Grown P start
-  pub is : work f start ≡ gives c finish
+  pub is : work f start ≡ done c finish
   pub later : Grown finish Q
 
 -- the n coefficients cs, in the pool Q, that were asked for in the pool P
@@ -27,7 +27,7 @@ pub record Recurrence (shared : List Formula) (nodes : List ℕ) (book ordered :
   -- which is the book's recurrence by the laws of arithmetic
   pub same : (k : ℕ) → k < n → _≈_ shared nodes (book k) (ordered k)
   -- and nothing else is worked: first what is shared, then coefficient 0, 1, ..
-  pub in-turn : works (shared ++ row ordered 0 n) P ≡ gives (nodes ++ cs) Q
+  pub in-turn : works (shared ++ row ordered 0 n) P ≡ done (nodes ++ cs) Q
 
 -- a call that shares one literal 0 among all coefficients
 abbrev pub WithZero : (book : ℕ → Formula) (ordered : ℕ → ℕ → Formula) (n : ℕ) (cs : List ℕ) → Pool → Pool → Type 0

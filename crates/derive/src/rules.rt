@@ -1,12 +1,13 @@
 // What is made of the parts of a node and their derivatives, by its kind.
 ghost use mathlib.Core.Path.{_≡_};
+ghost use mathlib.Core.Bool.{cond};
 ghost use mathlib.Core.List.{List};
 ghost use Prim.Native.Nat.{ℕ, _-_};
 ghost use lib.Dec.{eqb};
 ghost use lib.IntN.{pos};
 ghost use Rattle.pool.specs.Made.{made, poolOf};
 ghost use Rattle.walks.specs.Walk.{state, lifted};
-ghost use Rattle.walks.specs.Derive.{lit, pick};
+ghost use Rattle.walks.specs.Derive.{lit};
 ghost use Rattle.derive.specs.Rules.{productRule, powerRule, ruleTwo, ruleOne};
 use constructors::DEPTH;
 use pool::LIMIT;
@@ -29,7 +30,7 @@ pub enum One {
 
 // if v == var { 1 } else { 0 }
 pub fn slope(v: u32, var: u32) -> i64
-    ensures { λ r. ⌜ r ≡ pick (eqb v var) (pos 1) (pos 0) ⌝ }
+    ensures { λ r. ⌜ r ≡ cond (eqb v var) (pos 1) (pos 0) ⌝ }
 {
     if v == var {
         return 1;

@@ -9,7 +9,7 @@ use lib.ListN.{replicate}
 use Rattle.pool.specs.declared.node.Node.the-variants as node
 use Rattle.pool.specs.Pool.{Pool, pool, Out, done, refused, Run, _>>=_, append, nodeAt, limit}
 use Rattle.walks.specs.Print.{textOf}
-use Rattle.taylor.specs.Work.{Result, gives, refused-work}
+use Rattle.taylor.specs.Work.{Result}
 use Rattle.taylor.specs.Expansion.{Expansion, Constant, Polynomial}
 
 -- the bytes of a text
@@ -46,6 +46,6 @@ textsOf P [] = []
 textsOf P (c ∷ cs) = textOf (nodeAt P) c ∷ textsOf P cs
 
 abbrev pub shownExpansion : Result Expansion → Shown
-shownExpansion (gives (Constant c) P) = texts (textOf (nodeAt P) c ∷ [])
-shownExpansion (gives (Polynomial cs) P) = texts (textsOf P cs)
-shownExpansion (refused-work k) = refusal k
+shownExpansion (done (Constant c) P) = texts (textOf (nodeAt P) c ∷ [])
+shownExpansion (done (Polynomial cs) P) = texts (textsOf P cs)
+shownExpansion (refused k) = refusal k

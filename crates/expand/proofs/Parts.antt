@@ -5,12 +5,12 @@ use mathlib.Core.Path.{_≡_, refl, sym, ap, subst, _∙_}
 use mathlib.Core.List.{List}
 use Prim.Native.Nat.{ℕ}
 use lib.Dec.{eqb}
-use Rattle.pool.specs.Pool.{Pool}
+use Rattle.pool.specs.Pool.{Pool, done, refused}
 use Rattle.pool.specs.declared.node.Node.{Node}
 use Rattle.pool.specs.declared.node.Node.the-variants.{Empty, Variable, Lit, Add, Mul, Div, Exp, Log, Pow, Max}
 use Rattle.taylor.specs.Work.{Work}
 use Rattle.taylor.specs.Expansion.{Expansion, addTo, times, quotient, exponential, logarithm, power}
-use Rattle.taylor.specs.Expand.{State, Went, went, refused-walk, Walk, bind, lifted, lift, Point, ofVariable, expandNode}
+use Rattle.taylor.specs.Expand.{State, Went, Walk, bind, lifted, lift, Point, ofVariable, expandNode}
 use Rattle.expand.specs.Points.{leafWork}
 use Rattle.expand.specs.Nodes.{visits, Visited, nodeWork}
 use Rattle.expand.specs.declared.node.Parts.{Parts}
@@ -70,10 +70,10 @@ module _ (v : ℕ) (x : Point) (order term : ℕ) where
       the-one : OnePart node a
       the-one = subst (Step node) e (step node)
 
-      pub one-stopped : {k : ℕ} → down a S ≡ refused-walk k → refused-walk k ≡ expandNode v x order down term node S
+      pub one-stopped : {k : ℕ} → down a S ≡ refused k → refused k ≡ expandNode v x order down term node S
       one-stopped h = sym (the-one .walks down S ∙ ap (λ (w : Went). bind w (λ s. lift (the-one .next s))) h)
 
-      pub one-made : (part : ℕ → Expansion) {T : State} → down a S ≡ went (part a) T → lift (nodeWork v x order part term node) T ≡ expandNode v x order down term node S
+      pub one-made : (part : ℕ → Expansion) {T : State} → down a S ≡ done (part a) T → lift (nodeWork v x order part term node) T ≡ expandNode v x order down term node S
       one-made part {T} h =
           ap (lifted (T .results)) (the-one .works part (T .pool))
           ∙ sym (the-one .walks down S ∙ ap (λ (w : Went). bind w (λ s. lift (the-one .next s))) h)
@@ -82,17 +82,17 @@ module _ (v : ℕ) (x : Point) (order term : ℕ) where
       the-two : TwoParts node a b
       the-two = subst (Step node) e (step node)
 
-      pub left-stopped : {k : ℕ} → down a S ≡ refused-walk k → refused-walk k ≡ expandNode v x order down term node S
+      pub left-stopped : {k : ℕ} → down a S ≡ refused k → refused k ≡ expandNode v x order down term node S
       left-stopped h = sym (the-two .walks down S ∙ ap (λ (w : Went). bind w (λ s T. bind (down b T) (λ t. lift (the-two .next s t)))) h)
 
-      pub right-stopped : {s : Expansion} {T : State} {k : ℕ} → down a S ≡ went s T → down b T ≡ refused-walk k → refused-walk k ≡ expandNode v x order down term node S
+      pub right-stopped : {s : Expansion} {T : State} {k : ℕ} → down a S ≡ done s T → down b T ≡ refused k → refused k ≡ expandNode v x order down term node S
       right-stopped {s} {T} h g =
           sym
           (the-two .walks down S
           ∙ ap (λ (w : Went). bind w (λ s T. bind (down b T) (λ t. lift (the-two .next s t)))) h
           ∙ ap (λ (w : Went). bind w (λ t. lift (the-two .next s t))) g)
 
-      pub two-made : (part : ℕ → Expansion) {T U : State} → down a S ≡ went (part a) T → down b T ≡ went (part b) U → lift (nodeWork v x order part term node) U ≡ expandNode v x order down term node S
+      pub two-made : (part : ℕ → Expansion) {T U : State} → down a S ≡ done (part a) T → down b T ≡ done (part b) U → lift (nodeWork v x order part term node) U ≡ expandNode v x order down term node S
       two-made part {T} {U} h g =
           ap (lifted (U .results)) (the-two .works part (U .pool))
           ∙ sym

@@ -8,13 +8,12 @@ use native.Mathlib.Numerals.{add-one}
 use native.Mathlib.Omega.{arith}
 use lib.ListN.{getD, replicate}
 use Rattle.refusals.specs.Refusals.{brokenPool}
-use Rattle.pool.specs.Pool.{Pool, limit, nodeAt}
+use Rattle.pool.specs.Pool.{Pool, limit, nodeAt, done, refused}
 use Rattle.pool.specs.Made.{poolOf}
 use Rattle.pool.specs.declared.node.Node.{Node}
 use Rattle.pool.specs.declared.table.Room.{Room}
-use Rattle.taylor.specs.Work.{gives}
 use Rattle.taylor.specs.Expansion.{Expansion}
-use Rattle.taylor.specs.Expand.{Kept, nothing, kept, State, state, Went, went, refused-walk, bind, lifted, lift, keep, once, Point, expandNode, expandAt, expandBelow}
+use Rattle.taylor.specs.Expand.{Kept, nothing, kept, State, state, Went, bind, lifted, lift, keep, once, Point, expandNode, expandAt, expandBelow}
 use Rattle.taylor_base.specs.Answers.{expanded, Answers, TidyOf}
 use Rattle.taylor_base.specs.declared.answer.Expansion as coded
 use Rattle.taylor_base.specs.declared.answer.Status.{Status}
@@ -32,10 +31,10 @@ module _ {r : Status} {ks ws marks : List ℕ} {rows : List (List ℕ)} {i : ℕ
   pub walks-same : {x y : Went} → Walks r ks ws marks rows i x → x ≡ y → Walks r ks ws marks rows i y
   walks-same w e = record { is = w .is ∙ e; sized = w .sized }
 
-  was-done : {x : Went} {room : Room} → Walks r ks ws marks rows i x → r ≡ Done room → x ≡ went (expansionAt marks rows i) (stateOf ks ws marks rows room)
+  was-done : {x : Went} {room : Room} → Walks r ks ws marks rows i x → r ≡ Done room → x ≡ done (expansionAt marks rows i) (stateOf ks ws marks rows room)
   was-done w d = sym (w .is) ∙ ap (λ (s : Status). walked s ks ws marks rows i) d
 
-  was-refused : {x : Went} {k : ℕ} → Walks r ks ws marks rows i x → r ≡ Refused k → x ≡ refused-walk k
+  was-refused : {x : Went} {k : ℕ} → Walks r ks ws marks rows i x → r ≡ Refused k → x ≡ refused k
   was-refused w d = sym (w .is) ∙ ap (λ (s : Status). walked s ks ws marks rows i) d
 
 -- ---- an answer is kept
@@ -51,12 +50,12 @@ module _ (answer : Expanded) (ks ws : List ℕ) {marks : List ℕ} {rows : List 
 -- ---- the answer of a whole walk
 module _ {marks : List ℕ} {rows : List (List ℕ)} {root : ℕ} {e t : coded.Expansion} (room : Room) (ks ws : List ℕ) where
   pub root-answers : {s : Status} → s ≡ Done room → Loaded marks rows root e → TidyOf e t → Answers (record { status = Done room; expansion = t }) ks ws (rootResult (walked s ks ws marks rows root))
-  root-answers d l t = rw d (record { is = ap (λ (f : Expansion). gives f (poolOf ks ws room)) (t .same ∙ l .is); tidy = t .tidy })
+  root-answers d l t = rw d (record { is = ap (λ (f : Expansion). done f (poolOf ks ws room)) (t .same ∙ l .is); tidy = t .tidy })
 
 -- ---- a node
 module _ (v : ℕ) (x : Point) (order : ℕ) (P : Pool) {marks : List ℕ} {rows : List (List ℕ)} (i : ℕ) (sized : Sized marks rows) where
   -- what is kept for it is left
-  given-again : getD marks i 0 ≢ 0 → went (expansionAt marks rows i) (state P (resultsOf marks rows)) ≡ expandBelow v x order (i + 1) i (state P (resultsOf marks rows))
+  given-again : getD marks i 0 ≢ 0 → done (expansionAt marks rows i) (state P (resultsOf marks rows)) ≡ expandBelow v x order (i + 1) i (state P (resultsOf marks rows))
   given-again h =
       sym
       (expand-here v x order (state P (resultsOf marks rows)) i
@@ -139,7 +138,7 @@ module _ (v : ℕ) (x : Point) (order : ℕ) (P : Pool) {term : ℕ} {marks : Li
   two-visited node e = rw e (walked-marked (w₂ .sized) within left-walked, walked-marked (w₂ .sized) within right-walked)
 
   -- the first part's is the same as before the walk of the second
-  left-same : expandBelow v x order term a (state P (resultsOf marks rows)) ≡ went (expansionAt marks₂ rows₂ a) (stateOf ks₁ ws₁ marks₁ rows₁ room₁)
+  left-same : expandBelow v x order term a (state P (resultsOf marks rows)) ≡ done (expansionAt marks₂ rows₂ a) (stateOf ks₁ ws₁ marks₁ rows₁ room₁)
   left-same = rw (stands-there (w₂ .sized) a (left-walked .kept)) (was-done w₁ d₁)
 
   pub two-ends :
@@ -156,7 +155,7 @@ module _ (v : ℕ) (x : Point) (order : ℕ) (P : Pool) {term : ℕ} {marks : Li
 module _ (v : ℕ) (x : Point) (order term : ℕ) (node : Node) (S : State) where
   refused-kept :
       {r : Status} {ks ws marks : List ℕ} {rows : List (List ℕ)} {k : ℕ}
-      → Sized marks rows → r ≡ Refused k → refused-walk k ≡ expandNode v x order (expandBelow v x order term) term node S
+      → Sized marks rows → r ≡ Refused k → refused k ≡ expandNode v x order (expandBelow v x order term) term node S
       → Walks r ks ws marks rows term (bind (expandNode v x order (expandBelow v x order term) term node S) (keep term))
   refused-kept {r} {ks} {ws} {marks} {rows} z d h =
       record { is = ap (λ (s : Status). walked s ks ws marks rows term) d ∙ ap (λ (o : Went). bind o (keep term)) h; sized = z }

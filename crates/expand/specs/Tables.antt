@@ -6,12 +6,12 @@ use mathlib.Core.List.{List, [], _∷_}
 use Prim.Native.Nat.{ℕ, zero, suc, _<_}
 use lib.Dec.{leb}
 use lib.ListN.{length, take, getD, set}
-use Rattle.pool.specs.Pool.{limit}
+use Rattle.pool.specs.Pool.{limit, done, refused}
 use Rattle.pool.specs.Made.{poolOf}
 use Rattle.pool.specs.declared.table.Room.{Room}
 use Rattle.taylor.specs.Work.{Result, at}
 use Rattle.taylor.specs.Expansion.{Expansion}
-use Rattle.taylor.specs.Expand.{Kept, nothing, kept, State, state, Went, went, refused-walk, expanded}
+use Rattle.taylor.specs.Expand.{Kept, nothing, kept, State, state, Went, expanded}
 use Rattle.taylor_base.specs.Answers.{terms, shape, expansionOf, Given}
 use Rattle.taylor_base.specs.declared.answer.Expansion as coded
 use Rattle.taylor_base.specs.declared.answer.Status.{Status}
@@ -77,8 +77,8 @@ stateOf ks ws marks rows room = state (poolOf ks ws room) (resultsOf marks rows)
 
 -- an answer at node i and what the tables hold then: the expansion stands at the node's number
 abbrev pub walked : Status → List ℕ → List ℕ → List ℕ → List (List ℕ) → ℕ → Went
-walked (Done room) ks ws marks rows i = went (expansionAt marks rows i) (stateOf ks ws marks rows room)
-walked (Refused k) ks ws marks rows i = refused-walk k
+walked (Done room) ks ws marks rows i = done (expansionAt marks rows i) (stateOf ks ws marks rows room)
+walked (Refused k) ks ws marks rows i = refused k
 
 -- an answer at node i that is right
 pub record Walks (r : Status) (ks ws marks : List ℕ) (rows : List (List ℕ)) (i : ℕ) (out : Went) : Type 0 where

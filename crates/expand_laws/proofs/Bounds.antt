@@ -10,11 +10,10 @@ use mathlib.Core.List.{List}
 use lib.ListN.{getD, replicate, length-replicate, List·getD-eq-default}
 use borrow.Author.Tests.{eq-eqb, ne-eqb, le-ltb}
 use Rattle.refusals.specs.Refusals.{brokenPool}
-use Rattle.pool.specs.Pool.{Pool, limit, nodeIn}
+use Rattle.pool.specs.Pool.{Pool, limit, nodeIn, refused}
 use Rattle.pool.specs.declared.node.Node.{Node}
 use Rattle.pool.specs.declared.node.Node.the-variants.{Empty}
-use Rattle.taylor.specs.Work.{refused-work}
-use Rattle.taylor.specs.Expand.{Kept, nothing, State, state, refused-walk, Point, bind, keep, once, expandNode, expandAt, expandBelow, expanded, expand}
+use Rattle.taylor.specs.Expand.{Kept, nothing, State, state, Point, bind, keep, once, expandNode, expandAt, expandBelow, expanded, expand}
 
 module _ (v : ℕ) (x : Point) (order : ℕ) (S : State) where
   here : (i : ℕ) → expandBelow v x order (suc i) i S ≡ once (expandAt v x order (expandBelow v x order i)) i (getD (S .results) i nothing) S
@@ -48,7 +47,7 @@ module _ (v : ℕ) (x : Point) (order : ℕ) (S : State) where
   below k a h = rw (add-one a) (same-below k a h)
 
   -- a part that is not
-  pub above : (k a : ℕ) → k ≤ a → refused-walk brokenPool ≡ expandBelow v x order k a S
+  pub above : (k a : ℕ) → k ≤ a → refused brokenPool ≡ expandBelow v x order k a S
   unfolding expandBelow
   above zero a h = refl
   above (suc k) a h = rw (ne-eqb a k (other a k h)) (above k a (less a k h))
@@ -64,7 +63,7 @@ unfolding nodeIn
 no-node ks ws i past = rw (le-ltb i limit past)
 
 -- a walk from a number past the tables comes to no node
-pub nowhere : (v : ℕ) (x : Point) (order root : ℕ) (P : Pool) → limit ≤ root → refused-work brokenPool ≡ expand root v x order P
+pub nowhere : (v : ℕ) (x : Point) (order root : ℕ) (P : Pool) → limit ≤ root → refused brokenPool ≡ expand root v x order P
 nowhere v x order root P past =
     let S = state P (replicate limit nothing) in
     let none : getD (replicate limit nothing) root nothing ≡ nothing = List·getD-eq-default (replicate limit nothing) nothing {n = root} (rw (length-replicate {A = Kept} limit nothing) past) in

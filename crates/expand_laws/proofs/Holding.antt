@@ -12,11 +12,11 @@ use borrow.Author.Tests.{eq-eqb, ne-eqb}
 use Rattle.refusals.specs.Refusals.{brokenPool, maxReached}
 use Rattle.pool.specs.declared.node.Node.{Node}
 use Rattle.pool.specs.declared.node.Node.the-variants.{Empty, Variable, Lit, Add, Mul, Div, Exp, Log, Pow, Max}
-use Rattle.pool.specs.Pool.{nodeAt}
-use Rattle.taylor.specs.Work.{Result, gives, refused-work, Work}
+use Rattle.pool.specs.Pool.{nodeAt, done, refused}
+use Rattle.taylor.specs.Work.{Result, Work}
 use Rattle.taylor.specs.Work as work
 use Rattle.taylor.specs.Expansion.{Expansion, Constant, var, addTo, times, quotient, exponential, logarithm, power}
-use Rattle.taylor.specs.Expand.{Kept, nothing, kept, State, state, Went, went, refused-walk, Walk, bind, yield, refuse, lifted, lift, keep, once, Point, pointNode, ofVariable, expandNode, expandAt, expandBelow}
+use Rattle.taylor.specs.Expand.{Kept, nothing, kept, State, state, Went, Walk, bind, yield, refuse, lifted, lift, keep, once, Point, pointNode, ofVariable, expandNode, expandAt, expandBelow}
 
 -- from one state to another, what was kept has stayed, and the table is as long
 pub record Held (S T : State) : Type 0 where
@@ -30,20 +30,20 @@ pub held-by-both : {S T U : State} → Held S T → Held T U → Held S U
 held-by-both g h = record { long = h .long ∙ g .long; stays = λ j d k. h .stays j d (g .stays j d k) }
 
 abbrev Holds : State → Went → Type 0
-Holds S (went e T) = Held S T
-Holds S (refused-walk k) = Unit {0}
+Holds S (done e T) = Held S T
+Holds S (refused k) = Unit {0}
 
 -- a walk that holds on to what is kept, from any state
 record Holding (walk : Walk) : Type 0 where
   pub holds : (S : State) → Holds S (walk S)
 
 holds-from : (S T : State) → Held S T → (w : Went) → Holds T w → Holds S w
-holds-from S T g (went e U) h = held-by-both g h
-holds-from S T g (refused-walk k) h = tt
+holds-from S T g (done e U) h = held-by-both g h
+holds-from S T g (refused k) h = tt
 
 bind-holds : (S : State) (w : Went) {next : Expansion → Walk} → Holds S w → ((e : Expansion) → Holding (next e)) → Holds S (bind w next)
-bind-holds S (went e T) {next} g h = holds-from S T g (next e T) (h e .holds T)
-bind-holds S (refused-walk k) g h = tt
+bind-holds S (done e T) {next} g h = holds-from S T g (next e T) (h e .holds T)
+bind-holds S (refused k) g h = tt
 
 -- one step after the other, so that a proof is the same `do` block as the walk
 infixl 1 _>>=_
@@ -57,8 +57,8 @@ refuse-holds : (k : ℕ) → Holding (refuse k)
 refuse-holds k = record { holds = λ S. tt }
 
 lifted-holds : (S : State) (r : Result Expansion) → Holds S (lifted (S .results) r)
-lifted-holds S (gives e P) = record { long = refl; stays = λ j d h. h }
-lifted-holds S (refused-work k) = tt
+lifted-holds S (done e P) = record { long = refl; stays = λ j d h. h }
+lifted-holds S (refused k) = tt
 
 -- an operation knows the pool alone
 lift-holds : (work : Work Expansion) → Holding (lift work)
@@ -107,16 +107,16 @@ pub record Came (S : State) (k i : ℕ) (e : Expansion) (T : State) : Type 0 whe
   pub there : i < length (S .results) → getD (T .results) i nothing ≡ kept e
 
 abbrev Comes : State → ℕ → ℕ → Went → Type 0
-Comes S k i (went e T) = Came S k i e T
-Comes S k i (refused-walk n) = Unit {0}
+Comes S k i (done e T) = Came S k i e T
+Comes S k i (refused n) = Unit {0}
 
 comes-holds : (S : State) (k i : ℕ) (w : Went) → Comes S k i w → Holds S w
-comes-holds S k i (went e T) c = c .held
-comes-holds S k i (refused-walk n) c = tt
+comes-holds S k i (done e T) c = c .held
+comes-holds S k i (refused n) c = tt
 
 further : (S : State) (k i : ℕ) (w : Went) → Comes S k i w → Comes S (suc k) i w
-further S k i (went e T) c = record { below = omega (arith, c .below); held = c .held; there = c .there }
-further S k i (refused-walk n) c = tt
+further S k i (done e T) c = record { below = omega (arith, c .below); held = c .held; there = c .there }
+further S k i (refused n) c = tt
 
 module _ (S : State) (k : ℕ) where
   -- where nothing was kept for node k, keeping its own changes nothing else
@@ -132,13 +132,13 @@ module _ (S : State) (k : ℕ) where
       go j d there (no other) = getD-set-other (T .results) k j (kept e) nothing other ∙ h .stays j d there
 
   kept-comes : getD (S .results) k nothing ≡ nothing → (w : Went) → Holds S w → Comes S (suc k) k (bind w (keep k))
-  kept-comes empty (went e T) h =
+  kept-comes empty (done e T) h =
       record {
         below = omega arith;
         held = kept-held T e empty h;
         there = λ l. getD-set-same (T .results) k (kept e) nothing (omega (arith, h .long, l));
       }
-  kept-comes empty (refused-walk n) h = tt
+  kept-comes empty (refused n) h = tt
 
   once-comes : (visit : ℕ → Walk) → Holding (visit k) → (r : Kept) → getD (S .results) k nothing ≡ r → Comes S (suc k) k (once visit k r S)
   once-comes visit g nothing e = kept-comes e (visit k S) (g .holds S)
@@ -163,5 +163,5 @@ module _ (v : ℕ) (x : Point) (order : ℕ) where
   below-comes (suc k) i S = more-comes k (below-comes k) i S
 
   -- what is known of a walk that was not refused
-  pub came : (k i : ℕ) {S : State} {e : Expansion} {T : State} → expandBelow v x order k i S ≡ went e T → Came S k i e T
+  pub came : (k i : ℕ) {S : State} {e : Expansion} {T : State} → expandBelow v x order k i S ≡ done e T → Came S k i e T
   came k i {S} {e} {T} h = rw h at (below-comes k i S)

@@ -17,7 +17,7 @@ use Rattle.lent.specs.Call as lent
 use Rattle.lent.specs.declared.Answer.{Answer}
 use Rattle.lent.specs.declared.Answer.the-variants.{Node, Refused}
 use Rattle.lent.proofs.Calling.{is-pool, sizes}
-use Rattle.taylor.specs.Work.{Result, refused-work, Work, answered}
+use Rattle.taylor.specs.Work.{Result, Work, answered}
 use Rattle.taylor.specs.Expansion.{Expansion}
 use Rattle.taylor_base.specs.Answers.{statusOf}
 use Rattle.taylor_base.specs.declared.answer.Status.{Status}
@@ -68,7 +68,7 @@ module _ {r : Bool} {ks ws : List ℕ} {n : ℕ} {k w : List ℕ} (t : TakenIn r
   pub broken : (work : Work Expansion) → r ≡ false → left (refusal brokenPool) ks ws n ≡ onPool work ks ws n
   broken work e = rw (sym (t .tested) ∙ e)
 
-  pub demanded : (work : Work Expansion) {m : ℕ} → r ≡ true → refused-work m ≡ work (lentPool ks ws n) → left (refusal m) ks ws n ≡ onPool work ks ws n
+  pub demanded : (work : Work Expansion) {m : ℕ} → r ≡ true → refused m ≡ work (lentPool ks ws n) → left (refusal m) ks ws n ≡ onPool work ks ws n
   demanded work e h = rw (is-pool t e, ← h)
 
   -- the work on the copies is the work on what was lent

@@ -9,7 +9,7 @@ use Rattle.pool.specs.Pool.{Pool, Out, done, refused, Run, isPool}
 use Rattle.pool.specs.declared.table.Made as made-node
 use Rattle.pool.specs.declared.table.Made.the-variants as made-as
 use Rattle.lent.specs.Call.{lentPool}
-use Rattle.taylor.specs.Work.{Result, gives, refused-work, Work}
+use Rattle.taylor.specs.Work.{Result, Work}
 use Rattle.taylor.specs.Expansion.{Expansion}
 use Rattle.taylor_base.specs.declared.answer.Status.{Status}
 use Rattle.taylor_base.specs.declared.answer.Status.the-variants.{Done, Refused}
@@ -36,13 +36,13 @@ left r ks ws n = record { outcome = r; kinds = ks; words = ws; count = n }
 
 -- "After a refusal all lent bytes and the count are unchanged."
 abbrev pub leaves : List ℕ → List ℕ → ℕ → Result Expansion → Left
-leaves ks ws n (gives e P) = left (accepted e) (P .kinds) (P .words) (P .count)
-leaves ks ws n (refused-work k) = left (refusal k) ks ws n
+leaves ks ws n (done e P) = left (accepted e) (P .kinds) (P .words) (P .count)
+leaves ks ws n (refused k) = left (refusal k) ks ws n
 
 -- "1 to 9 are checked first, smallest number first": what must hold, or the refusal number
 abbrev pub demand : {A : Type 0} → Bool → ℕ → Result A → Result A
 demand true k out = out
-demand false k out = refused-work k
+demand false k out = refused k
 
 -- a call that works on the pool: 1 first, and then what the call demands of its other arguments
 abbrev pub onPool : Work Expansion → List ℕ → List ℕ → ℕ → Left
@@ -58,8 +58,8 @@ givenTwo s t lengths work P = demand (allBelow (P .count) (nodesOf s) && allBelo
 
 -- work that gives a node, as the calls that give one have it
 abbrev pub out : Result ℕ → Out
-out (gives i P) = done i P
-out (refused-work k) = refused k
+out (done i P) = done i P
+out (refused k) = refused k
 
 abbrev pub asRun : Work ℕ → Run
 asRun work P = out (work P)

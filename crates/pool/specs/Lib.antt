@@ -1,3 +1,4 @@
 pub mod Nodes
+pub mod Work
 pub mod Pool
 pub mod Made

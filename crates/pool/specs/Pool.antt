@@ -7,6 +7,7 @@ use lib.Dec.{leb, ltb, eqb}
 use lib.ListN.{length, getD, set}
 use Rattle.refusals.specs.Refusals.{poolFull}
 use Rattle.pool.specs.Nodes.{decode, kindOf, wordOf, mayStandAt}
+pub use Rattle.pool.specs.Work.{Result, done, refused, WorkOn, bind, _>>=_, yield, refuse}
 use Rattle.pool.specs.declared.node.Node.{Node}
 use Rattle.pool.specs.declared.node.Node.the-variants.{Empty}
 
@@ -31,30 +32,15 @@ nodeIn ks ws i = cond (ltb i limit) (decode (getD ks i 0) (getD ws i 0)) Empty
 abbrev pub nodeAt : Pool → ℕ → Node
 nodeAt P i = nodeIn (P .kinds) (P .words) i
 
--- what a piece of work gives: a node number and the pool, or a refusal number
-pub data Out : Type 0 where
-  done : ℕ → Pool → Out
-  refused : ℕ → Out
+-- work on the pool, and such as gives a node number
+abbrev pub Work : Type 0 → Type 0
+Work A = WorkOn Pool A
 
--- a piece of work on the pool
+abbrev pub Out : Type 0
+Out = Result Pool ℕ
+
 abbrev pub Run : Type 0
-Run = Pool → Out
-
--- one piece of work after the other; "A refusal .. ends the whole call"
-abbrev pub bind : Out → (ℕ → Run) → Out
-bind (done i P) next = next i P
-bind (refused k) next = refused k
-
-infixl 1 _>>=_
-abbrev pub _>>=_ : Run → (ℕ → Run) → Run
-(run >>= next) P = bind (run P) next
-
--- a node number that is there already
-abbrev pub yield : ℕ → Run
-yield i P = done i P
-
-abbrev pub refuse : ℕ → Run
-refuse k P = refused k
+Run = Work ℕ
 
 -- 18. "One more node is needed and the count is 4,096"
 abbrev pub hasRoom : Pool → Bool

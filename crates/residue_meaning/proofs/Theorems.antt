@@ -20,7 +20,7 @@ use Rattle.walks.specs.Substitute.{substituteVar}
 use Rattle.walks.specs.Derive.{derive}
 use Rattle.walk_laws.proofs.Substitution.{substitute-kept}
 use Rattle.walk_laws.proofs.Derivation.{derive-kept}
-use Rattle.taylor.specs.Work.{gives, at}
+use Rattle.taylor.specs.Work.{at}
 use Rattle.taylor.specs.Expansion.{Polynomial}
 use Rattle.taylor.specs.Expand.{none, expand}
 use Rattle.meaning.specs.Value.{Values, value}
@@ -80,7 +80,7 @@ module _ (m : ℕ) (some : 2 ≤ m) (values : List ℕ) (small : (v : ℕ) → g
   pub derivation-by-residues :
       ((i : ℕ) → getD (P .words) i 0 < 2 ^ 64) → (root var order : ℕ) → root < P .count → var ≤ greatestVariable → 1 ≤ order → PlainExpression (nodeAt P) root
       → {i : ℕ} {Q : Pool} → derive root var P ≡ done i Q
-      → {cs : List ℕ} {R : Pool} → expand root var none order P ≡ gives (Polynomial cs) R
+      → {cs : List ℕ} {R : Pool} → expand root var none order P ≡ done (Polynomial cs) R
       → (r s : ℕ)
       → evaluateResidue m (nodeAt Q) values i ≡ Residue r
       → evaluateResidue m (nodeAt R) values (at cs 1) ≡ Residue s

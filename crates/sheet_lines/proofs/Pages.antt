@@ -22,7 +22,7 @@ use Rattle.pool.specs.declared.table.Room.{Room}
 use Rattle.shape.specs.File.{readFile}
 use Rattle.lent.proofs.Finishing.{and-left, and-right}
 use Rattle.walks.specs.Print.{textOf, longestText}
-use Rattle.taylor.specs.Work.{gives, refused-work, at}
+use Rattle.taylor.specs.Work.{at}
 use Rattle.taylor.specs.Expansion.{Expansion, greatestOrder}
 use Rattle.taylor.specs.Expand.{Point, expand, isPoint}
 use Rattle.taylor_base.specs.Answers.{terms, listOf, shape, expansionOf, statusOf, Answers, Tidy}
@@ -119,14 +119,14 @@ module _ (P : Pool) where
       go false e (inr known) rest = rw known refl
 
 -- ---- the coefficients of an expansion that the code gives: as many as its length says
-pub coefficients-are : (e : coded.Expansion) (P : Pool) → Tidy e → coefficientsOf (gives (expansionOf e) P) ≡ printAll P (listOf e)
+pub coefficients-are : (e : coded.Expansion) (P : Pool) → Tidy e → coefficientsOf (done (expansionOf e) P) ≡ printAll P (listOf e)
 coefficients-are e P t = go (e .constant) refl
   where
     first-of : (cs : List ℕ) → 1 ≤ length cs → take 1 cs ≡ at cs 0 ∷ []
     first-of [] h = none-left (nodeAt P) h
     first-of (c ∷ cs) h = refl
 
-    go : (b : Bool) → e .constant ≡ b → coefficientsOf (gives (shape b (at (e .coeffs) 0) (listOf e)) P) ≡ printAll P (listOf e)
+    go : (b : Bool) → e .constant ≡ b → coefficientsOf (done (shape b (at (e .coeffs) 0) (listOf e)) P) ≡ printAll P (listOf e)
     go true h = ap (printAll P) (sym (first-of (e .coeffs) (omega (arith, t .long)))) ∙ ap (λ (n : ℕ). printAll P (take n (e .coeffs))) (sym (t .single h))
     go false h = refl
 
@@ -165,12 +165,12 @@ module _ (file : List ℕ) (v : ℕ) (x : Point) (order : ℕ) where
   module _ {result : Expanded} {ks ws : List ℕ} (a : Answers result ks ws (expandFile file v x order)) where
     pub coefficients-found : {room : Room} → result .status ≡ status.Done room → fileCoefficients file v order x ≡ printAll (poolOf ks ws room) (listOf (result .expansion))
     coefficients-found {room} e =
-        let e2 : statusOf (result .status) ks ws (expansionOf (result .expansion)) ≡ gives (expansionOf (result .expansion)) (poolOf ks ws room) = rw e refl in
+        let e2 : statusOf (result .status) ks ws (expansionOf (result .expansion)) ≡ done (expansionOf (result .expansion)) (poolOf ks ws room) = rw e refl in
         found-is (readFile file empty) ∙ ap coefficientsOf (sym (a .is) ∙ e2) ∙ coefficients-are (result .expansion) (poolOf ks ws room) (a .tidy)
 
     pub refusal-found : {k : ℕ} → result .status ≡ status.Refused k → fileCoefficients file v order x ≡ refusal k
     refusal-found {k} e =
-        let e2 : statusOf (result .status) ks ws (expansionOf (result .expansion)) ≡ refused-work k = rw e refl in
+        let e2 : statusOf (result .status) ks ws (expansionOf (result .expansion)) ≡ refused k = rw e refl in
         found-is (readFile file empty) ∙ ap coefficientsOf (sym (a .is) ∙ e2)
 
   -- the file is read into an empty pool
@@ -179,7 +179,7 @@ module _ (file : List ℕ) (v : ℕ) (x : Point) (order : ℕ) where
     unfolding empty
     from-empty = rw (blank .kinds-blank, blank .words-blank) at m
 
-    pub file-refused : {number : ℕ} → r ≡ made-as.Refused number → refused-work number ≡ expandFile file v x order
+    pub file-refused : {number : ℕ} → r ≡ made-as.Refused number → refused number ≡ expandFile file v x order
     file-refused e = ap (λ (q : Made). expandFound v x order (made q k w)) (sym e) ∙ ap (expandFound v x order) from-empty
 
     pub file-read : {root : ℕ} {rest : Room} → r ≡ made-as.Node root rest → expand root v x order (poolOf k w rest) ≡ expandFile file v x order

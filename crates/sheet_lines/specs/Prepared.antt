@@ -9,7 +9,7 @@ use lib.ListN.{length, replicate}
 use Rattle.pool.specs.declared.node.Node.{Node}
 use Rattle.pool.specs.Pool.{Out, done, refused, limit}
 use Rattle.walks.specs.Print.{textOf, longestText}
-use Rattle.taylor.specs.Work.{Result, refused-work}
+use Rattle.taylor.specs.Work.{Result}
 use Rattle.taylor.specs.Expansion.{Expansion}
 use Rattle.taylor.specs.Expand.{Point, expand}
 use Rattle.taylor_base.specs.Answers.{terms}
@@ -37,7 +37,7 @@ onlyPage v = record { verdict = v; var = 0; order = 0; point = place.None; lines
 -- the expansion of the root that a file has
 abbrev pub expandFound : ℕ → Point → ℕ → Out → Result Expansion
 expandFound v x order (done root P) = expand root v x order P
-expandFound v x order (refused k) = refused-work k
+expandFound v x order (refused k) = refused k
 
 abbrev pub expandFile : List ℕ → ℕ → Point → ℕ → Result Expansion
 expandFile file v x order = expandFound v x order (readFile file empty)

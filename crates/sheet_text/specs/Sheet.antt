@@ -12,7 +12,7 @@ use Rattle.pool.specs.Nodes.{greatestVariable}
 use Rattle.pool.specs.Pool.{Pool, pool, Out, done, refused, limit, nodeAt}
 use Rattle.shape.specs.File.{readFile}
 use Rattle.walks.specs.Print.{textOf, longestText}
-use Rattle.taylor.specs.Work.{Result, gives, refused-work}
+use Rattle.taylor.specs.Work.{Result}
 use Rattle.taylor.specs.Expansion.{Expansion, Constant, Polynomial, greatestOrder}
 use Rattle.taylor.specs.Expand.{Point, none, point, isPoint, expand}
 use Rattle.sheet_text.specs.Line.{Line, usage, asks, parse}
@@ -37,9 +37,9 @@ printAll P (c ∷ cs) = printed (textOf (nodeAt P) c) (printAll P cs)
 
 -- "A constant has the line for index 0 only."
 abbrev pub coefficientsOf : Result Expansion → Coefficients
-coefficientsOf (gives (Constant c) P) = printAll P (c ∷ [])
-coefficientsOf (gives (Polynomial cs) P) = printAll P cs
-coefficientsOf (refused-work k) = refusal k
+coefficientsOf (done (Constant c) P) = printAll P (c ∷ [])
+coefficientsOf (done (Polynomial cs) P) = printAll P cs
+coefficientsOf (refused k) = refusal k
 
 -- an empty pool
 unfoldable pub empty : Pool

@@ -3,16 +3,17 @@
 use mathlib.Core.Path.{_≡_, ap}
 use mathlib.Core.Bool.{Bool, true, false}
 use Prim.Native.Nat.{ℕ}
-use Rattle.walks.specs.Walk.{State, Went, went, Walk}
+use Rattle.pool.specs.Pool.{done}
+use Rattle.walks.specs.Walk.{State, Went, Walk}
 use Rattle.walks.specs.Substitute.{unless}
 
 -- the same node is given
-pub given : (S : State) {r i : ℕ} → r ≡ i → went r S ≡ went i S
-given S e = ap (λ (i : ℕ). went i S) e
+pub given : (S : State) {r i : ℕ} → r ≡ i → done r S ≡ done i S
+given S e = ap (λ (i : ℕ). done i S) e
 
 module _ {same : Bool} (term : ℕ) (rebuilt : Walk) (S : State) where
   -- no part has changed
-  pub unchanged : same ≡ true → went term S ≡ unless same term rebuilt S
+  pub unchanged : same ≡ true → done term S ≡ unless same term rebuilt S
   unchanged e = rw e
 
   -- one has

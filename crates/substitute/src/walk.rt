@@ -1,11 +1,12 @@
 // The walk: a kept result is given again, else the node is visited, its parts first.
 ghost use mathlib.Core.Path.{_≡_};
+ghost use mathlib.Core.Bool.{cond};
 ghost use Prim.Native.Nat.{_+_, _<_};
 ghost use lib.Dec.{eqb};
 ghost use Rattle.pool.specs.Made.{made, poolOf};
 ghost use Rattle.pool.specs.Pool.{limit};
 ghost use Rattle.walks.specs.Walk.{walkBelow};
-ghost use Rattle.walks.specs.Substitute.{pick, substituteAt, substituteVar};
+ghost use Rattle.walks.specs.Substitute.{substituteAt, substituteVar};
 ghost use Rattle.walk_laws.specs.Walked.{walked, stateOf};
 ghost use Rattle.substitute.specs.Rebuild.{substituteTwo, substituteOne};
 use constructor_calls::One;
@@ -74,7 +75,7 @@ fn walk_at(
 
 // What is put for a variable v.
 fn put_for(v: u32, term: u32, var: u32, value: u32) -> u32
-    ensures { λ r. ⌜ r ≡ pick (eqb v var) value term ⌝ }
+    ensures { λ r. ⌜ r ≡ cond (eqb v var) value term ⌝ }
 {
     if v == var {
         return value;

@@ -10,8 +10,10 @@ use Rattle.refusals.specs.Refusals.{brokenPool, maxReached}
 use Rattle.literal.specs.Literal.{isLiteral}
 use Rattle.pool.specs.declared.node.Node.{Node}
 use Rattle.pool.specs.declared.node.Node.the-variants.{Empty, Variable, Lit, Add, Mul, Div, Exp, Log, Pow, Max}
-use Rattle.pool.specs.Pool.{Pool, limit, append, nodeAt}
-use Rattle.taylor.specs.Work.{Result, gives, refused-work, Work, node, lit}
+use Rattle.pool.specs.Pool.{Pool, done, refused, WorkOn, limit, append, nodeAt}
+use Rattle.pool.specs.Pool as pool
+pub use Rattle.pool.specs.Work.{bind, _>>=_, yield, refuse}
+use Rattle.taylor.specs.Work.{Result, Work, node, lit}
 use Rattle.taylor.specs.Expansion.{Expansion, Constant, Polynomial, var, addTo, times, quotient, exponential, logarithm, power}
 
 -- what is kept for a node: nothing yet, or its expansion
@@ -26,41 +28,26 @@ pub record State : Type 0 where
 abbrev pub state : Pool → List Kept → State
 state P results = record { pool = P; results = results }
 
-pub data Went : Type 0 where
-  went : Expansion → State → Went
-  refused-walk : ℕ → Went
+abbrev pub Went : Type 0
+Went = pool.Result State Expansion
 
 abbrev pub Walk : Type 0
-Walk = State → Went
-
-abbrev pub bind : Went → (Expansion → Walk) → Went
-bind (went e S) next = next e S
-bind (refused-walk k) next = refused-walk k
-
-infixl 1 _>>=_
-abbrev pub _>>=_ : Walk → (Expansion → Walk) → Walk
-(walk >>= next) S = bind (walk S) next
-
-abbrev pub yield : Expansion → Walk
-yield e S = went e S
-
-abbrev pub refuse : ℕ → Walk
-refuse k S = refused-walk k
+Walk = WorkOn State Expansion
 
 -- an operation on expansions, called by the walk
 abbrev pub lifted : List Kept → Result Expansion → Went
-lifted results (gives e P) = went e (state P results)
-lifted results (refused-work k) = refused-walk k
+lifted results (done e P) = done e (state P results)
+lifted results (refused k) = refused k
 
 abbrev pub lift : Work Expansion → Walk
 lift work S = lifted (S .results) (work (S .pool))
 
 abbrev pub keep : ℕ → Expansion → Walk
-keep i e S = went e (state (S .pool) (set (S .results) i (kept e)))
+keep i e S = done e (state (S .pool) (set (S .results) i (kept e)))
 
 abbrev pub once : (ℕ → Walk) → ℕ → Kept → Walk
 once visit i nothing S = (visit i >>= keep i) S
-once visit i (kept e) S = went e S
+once visit i (kept e) S = done e S
 
 abbrev pub choose : Bool → Went → Went → Went
 choose true a b = a
@@ -82,7 +69,7 @@ pointNode v none = node (append (Variable v))
 pointNode v (point z) = lit z
 
 abbrev pub ofVariable : Bool → ℕ → ℕ → Point → ℕ → Walk
-ofVariable true term v x order = lift (λ P. Rattle.taylor.specs.Work.bind (pointNode v x P) (λ p. var p order))
+ofVariable true term v x order = lift (pointNode v x >>= (λ p. var p order))
 ofVariable false term v x order = yield (Constant term)
 
 -- match term
@@ -121,13 +108,13 @@ expandAt v x order down term S = expandNode v x order down term (nodeAt (S .pool
 
 -- the walk from node i, where i is below the bound; parts have smaller numbers
 unfoldable pub expandBelow : ℕ → Point → ℕ → ℕ → ℕ → Walk
-expandBelow v x order zero i S = refused-walk brokenPool
+expandBelow v x order zero i S = refused brokenPool
 expandBelow v x order (suc k) i S =
     choose (eqb i k) (once (expandAt v x order (expandBelow v x order k)) k (getD (S .results) k nothing) S) (expandBelow v x order k i S)
 
 abbrev pub expanded : Went → Result Expansion
-expanded (went e S) = gives e (S .pool)
-expanded (refused-walk k) = refused-work k
+expanded (done e S) = done e (S .pool)
+expanded (refused k) = refused k
 
 -- fn taylor_coeffs, fn taylor_coeffs_at
 abbrev pub expand : ℕ → ℕ → Point → ℕ → Work Expansion

@@ -6,38 +6,21 @@ use Prim.Native.Nat.{ℕ, zero, suc}
 use lib.IntN.{ℤ, pos}
 use lib.ListN.{length, getD}
 use Rattle.literal.specs.Literal.{folded}
-use Rattle.pool.specs.Pool.{Pool, Out, done, refused, Run}
+use Rattle.pool.specs.Pool.{Pool, Out, Run}
+use Rattle.pool.specs.Pool as pool
+pub use Rattle.pool.specs.Pool.{Work}
+pub use Rattle.pool.specs.Work.{bind, _>>=_, yield, refuse}
 use Rattle.constructors.specs.Build.{calls, depth, literal}
 
--- what a piece of work gives: a result and the pool, or a refusal number
-pub data Result (A : Type 0) : Type 0 where
-  gives : A → Pool → Result A
-  refused-work : ℕ → Result A
-
-abbrev pub Work : Type 0 → Type 0
-Work A = Pool → Result A
-
-abbrev pub bind : {A B : Type 0} → Result A → (A → Work B) → Result B
-bind (gives x P) next = next x P
-bind (refused-work k) next = refused-work k
-
-infixl 1 _>>=_
-abbrev pub _>>=_ : {A B : Type 0} → Work A → (A → Work B) → Work B
-(work >>= next) P = bind (work P) next
-
-abbrev pub yield : {A : Type 0} → A → Work A
-yield x P = gives x P
-
-abbrev pub refuse : {A : Type 0} → ℕ → Work A
-refuse k P = refused-work k
+abbrev pub Result : Type 0 → Type 0
+Result A = pool.Result Pool A
 
 -- a constructor's answer
 abbrev pub answered : Out → Result ℕ
-answered (done i P) = gives i P
-answered (refused k) = refused-work k
+answered o = o
 
 abbrev pub node : Run → Work ℕ
-node run P = answered (run P)
+node run = run
 
 -- T::from(n), T::zero(), T::one(): each a new literal
 abbrev pub lit : ℤ → Work ℕ

@@ -7,8 +7,8 @@ use native.Mathlib.Nat.{suc-min-suc, zero-min, min-zero, min-eq-left, le-refl}
 use native.Mathlib.Omega.{arith}
 use lib.ListN.{length, set, length-append}
 use lib.Seq.{getD-at, append-snoc}
-use Rattle.pool.specs.Pool.{Pool}
-use Rattle.taylor.specs.Work.{Result, gives, refused-work, Work, bind, yield, at, each, eachTwo, fill}
+use Rattle.pool.specs.Pool.{Pool, done, refused}
+use Rattle.taylor.specs.Work.{Result, Work, bind, yield, at, each, eachTwo, fill}
 use Rattle.taylor.specs.Expansion.{first}
 use Rattle.taylor_base.proofs.Steps.{bind-same}
 
@@ -17,17 +17,17 @@ abbrev behind : List ℕ → Result (List ℕ) → Result (List ℕ)
 behind before x = bind x (λ rs. yield (before ++ rs))
 
 behind-one : (before : List ℕ) (r : ℕ) (x : Result (List ℕ)) → behind before (bind x (λ rs. yield (r ∷ rs))) ≡ behind (before ++ (r ∷ [])) x
-behind-one before r (gives rs P) = ap (λ (l : List ℕ). gives l P) (sym (append-snoc before r rs))
-behind-one before r (refused-work k) = refl
+behind-one before r (done rs P) = ap (λ (l : List ℕ). done l P) (sym (append-snoc before r rs))
+behind-one before r (refused k) = refl
 
 behind-nothing : (x : Result (List ℕ)) → behind [] x ≡ x
-behind-nothing (gives rs P) = refl
-behind-nothing (refused-work k) = refl
+behind-nothing (done rs P) = refl
+behind-nothing (refused k) = refl
 
 -- two ways to go on after the same work
 after : (before : List ℕ) (x : Result ℕ) (m n : ℕ → Work (List ℕ)) → ((r : ℕ) (P : Pool) → behind before (m r P) ≡ n r P) → behind before (bind x m) ≡ bind x n
-after before (gives r P) m n h = h r P
-after before (refused-work k) m n h = refl
+after before (done r P) m n h = h r P
+after before (refused k) m n h = refl
 
 one-longer : (before prefix : List ℕ) (r u : ℕ) → length before ≡ length prefix → length (before ++ (r ∷ [])) ≡ length (prefix ++ (u ∷ []))
 one-longer before prefix r u e = simp length-append (omega (arith, e))
@@ -40,8 +40,8 @@ module _ (f : ℕ → ℕ → Work ℕ) where
   two-filled :
       (us ws before pu pw : List ℕ) → length before ≡ length pu → length before ≡ length pw → (P : Pool) → behind before (eachTwo f us ws P) ≡ fill (rule (pu ++ us) (pw ++ ws)) (min (length us) (length ws)) before P
   unfolding eachTwo fill
-  two-filled [] ws before pu pw e d P = rw (zero-min (length ws)) (ap (λ (l : List ℕ). gives l P) (append-nil before))
-  two-filled (u ∷ us) [] before pu pw e d P = rw (min-zero (suc (length us))) (ap (λ (l : List ℕ). gives l P) (append-nil before))
+  two-filled [] ws before pu pw e d P = rw (zero-min (length ws)) (ap (λ (l : List ℕ). done l P) (append-nil before))
+  two-filled (u ∷ us) [] before pu pw e d P = rw (min-zero (suc (length us))) (ap (λ (l : List ℕ). done l P) (append-nil before))
   two-filled (u ∷ us) (w ∷ ws) before pu pw e d P =
       rw (suc-min-suc (length us) (length ws), getD-at pu u us 0 (length before) (sym e), getD-at pw w ws 0 (length before) (sym d))
       (after before (f u w P) (λ r Q. bind (eachTwo f us ws Q) (λ rs. yield (r ∷ rs))) (λ r. fill (rule (pu ++ u ∷ us) (pw ++ w ∷ ws)) (min (length us) (length ws)) (before ++ (r ∷ [])))

@@ -9,12 +9,12 @@ use native.Mathlib.Numerals.{add-one}
 use native.Mathlib.Omega.{arith}
 use lib.ListN.{length, take, drop, set, replicate, length-set}
 use lib.Seq.{length-take-le, take-suc-set, drop-set-lt, drop-drop}
-use Rattle.pool.specs.Pool.{Pool}
+use Rattle.pool.specs.Pool.{Pool, done, refused}
 use Rattle.pool.specs.Made.{poolOf}
 use Rattle.pool.specs.declared.table.Made.{Made}
 use Rattle.pool.specs.declared.table.Made.the-variants.{Node, Refused}
 use Rattle.pool.specs.declared.table.Room.{Room}
-use Rattle.taylor.specs.Work.{Result, gives, refused-work, Work, bind, fill}
+use Rattle.taylor.specs.Work.{Result, Work, bind, fill}
 use Rattle.taylor_base.specs.Answers.{terms, worked, Tidy, Lists, zeroes}
 use Rattle.taylor_base.specs.declared.answer.Status.the-variants as status
 use Rattle.taylor_base.proofs.Steps.{onward, stopped}
@@ -67,7 +67,7 @@ module _ {f : List ℕ → ℕ → Work ℕ} {n : ℕ} {whole : Result (List ℕ
       ∙ ap (λ (j : ℕ). fill f j (take k cs) P) (sym left) ∙ g .is
 
   module _ {k : ℕ} {cs : List ℕ} {P : Pool} (g : Filling f n whole k cs P) {r : Made} (ks ws : List ℕ) (h : k < n) (m : worked r ks ws ≡ f (take k cs) k P) where
-    pub fill-stopped : {number : ℕ} → r ≡ Refused number → refused-work number ≡ whole
+    pub fill-stopped : {number : ℕ} → r ≡ Refused number → refused number ≡ whole
     fill-stopped e = stopped ks ws (λ c. fill f (n - (k + 1)) (take k cs ++ (c ∷ []))) e m ∙ turn g h
 
     pub fill-onward : {c : ℕ} {room : Room} → r ≡ Node c room → Filling f n whole (k + 1) (set cs k c) (poolOf ks ws room)
@@ -83,12 +83,12 @@ module _ {f : List ℕ → ℕ → Work ℕ} {n : ℕ} {whole : Result (List ℕ
 
   -- all turns are done
   module _ {k : ℕ} {cs : List ℕ} (ks ws : List ℕ) (room : Room) (g : Filling f n whole k cs (poolOf ks ws room)) (e : n ≤ k) where
-    done-is : gives (take n cs) (poolOf ks ws room) ≡ whole
+    done-is : done (take n cs) (poolOf ks ws room) ≡ whole
     unfolding fill
     done-is =
         let same : n ≡ k = omega (arith, g .within, e) in
         let none : n - k ≡ 0 = omega (arith, same) in
-        ap (λ (j : ℕ). gives (take j cs) (poolOf ks ws room)) same ∙ ap (λ (j : ℕ). fill f j (take k cs) (poolOf ks ws room)) (sym none) ∙ g .is
+        ap (λ (j : ℕ). done (take j cs) (poolOf ks ws room)) same ∙ ap (λ (j : ℕ). fill f j (take k cs) (poolOf ks ws room)) (sym none) ∙ g .is
 
     pub fill-done : 1 ≤ n → Lists (record { status = status.Done room; expansion = record { constant = false; len = n; coeffs = cs } }) ks ws whole
     fill-done l =

@@ -10,8 +10,8 @@ use lib.Seq.{length-take-le, take-set-lt, drop-set-lt}
 use Rattle.pool.specs.Made.{poolOf}
 use Rattle.pool.specs.declared.table.Made.{Made}
 use Rattle.pool.specs.declared.table.Made.the-variants.{Node, Refused}
-use Rattle.taylor.specs.Work.{Result, gives, refused-work, Work, bind, yield, at}
-use Rattle.pool.specs.Pool.{Pool}
+use Rattle.taylor.specs.Work.{Result, Work, bind, yield, at}
+use Rattle.pool.specs.Pool.{Pool, done, refused}
 use Rattle.pool.specs.declared.table.Room.{Room}
 use Rattle.taylor.specs.Expansion.{Expansion, Constant, Polynomial, first}
 use Rattle.taylor_base.specs.Answers.{terms, worked, statusOf, expanded, listOf, Given, Tidy, Answers, Lists, zeroes, refusal, answerOf, Tidied, WithFirst, constantOf, TidyOf, expansionOf}
@@ -47,10 +47,10 @@ module _ {r : Expanded} (m : Made) (ks ws : List ℕ) (e : r ≡ answerOf m) whe
     is-refusal : r ≡ refusal k
     is-refusal = e ∙ ap answerOf no
 
-    pub refusal-lists : {out : Result (List ℕ)} → refused-work k ≡ out → Lists r ks ws out
+    pub refusal-lists : {out : Result (List ℕ)} → refused k ≡ out → Lists r ks ws out
     refusal-lists h = rw is-refusal (record { is = h; list = refl; tidy = refusal-tidy k })
 
-    pub refusal-answers : {out : Result Expansion} → refused-work k ≡ out → Answers r ks ws out
+    pub refusal-answers : {out : Result Expansion} → refused k ≡ out → Answers r ks ws out
     refusal-answers h = rw is-refusal (record { is = h; tidy = refusal-tidy k })
 
   -- a node is a constant
@@ -79,7 +79,7 @@ pub answers-onward :
     → Answers r ks ws x → r .status ≡ status.Done room → o ≡ next (expansionOf (r .expansion)) (poolOf ks ws room) → o ≡ bind x next
 answers-onward {r} {room} {ks} {ws} next a e h = goes-on ks ws (expansionOf (r .expansion)) next e (a .is) h
 
-pub answers-done : (e : coded.Expansion) (room : Room) (ks ws : List ℕ) → Tidy e → Answers (record { status = status.Done room; expansion = e }) ks ws (gives (expansionOf e) (poolOf ks ws room))
+pub answers-done : (e : coded.Expansion) (room : Room) (ks ws : List ℕ) → Tidy e → Answers (record { status = status.Done room; expansion = e }) ks ws (done (expansionOf e) (poolOf ks ws room))
 answers-done e room ks ws t = record { is = refl; tidy = t }
 
 -- a list is an expansion
@@ -103,8 +103,8 @@ lists-end {r} {k} {ks} {ws} next l e =
     record { is = ap (λ (s : Status). statusOf s ks ws (listOf (r .expansion))) e ∙ ends ks ws (listOf (r .expansion)) next e (l .is); list = l .list; tidy = l .tidy }
 
 -- a list that was tidied
-pub tidied-lists : {e t : coded.Expansion} (room : Room) (ks ws : List ℕ) → Tidied e t → Lists (record { status = status.Done room; expansion = t }) ks ws (gives (listOf e) (poolOf ks ws room))
-tidied-lists room ks ws t = record { is = ap (λ (l : List ℕ). gives l (poolOf ks ws room)) (t .same); list = t .list; tidy = t .tidy }
+pub tidied-lists : {e t : coded.Expansion} (room : Room) (ks ws : List ℕ) → Tidied e t → Lists (record { status = status.Done room; expansion = t }) ks ws (done (listOf e) (poolOf ks ws room))
+tidied-lists room ks ws t = record { is = ap (λ (l : List ℕ). done l (poolOf ks ws room)) (t .same); list = t .list; tidy = t .tidy }
 
 put-tidy : (t : coded.Expansion) (c : ℕ) → Tidy t → Tidy (record { constant = t .constant; len = t .len; coeffs = set (t .coeffs) 0 c })
 put-tidy t c d =
@@ -124,7 +124,7 @@ first-put {m} e t {c} {room} d h ks ws =
     record {
       is =
           onward ks ws (λ c. yield (set (listOf e) 0 c)) h refl
-          (ap (λ (l : List ℕ). gives l (poolOf ks ws room)) (take-set-lt (t .len) (t .coeffs) 0 c (d .tidy .least) ∙ ap (λ (l : List ℕ). set l 0 c) (d .same)));
+          (ap (λ (l : List ℕ). done l (poolOf ks ws room)) (take-set-lt (t .len) (t .coeffs) 0 c (d .tidy .least) ∙ ap (λ (l : List ℕ). set l 0 c) (d .same)));
       list = d .list;
       tidy = put-tidy t c (d .tidy);
     }

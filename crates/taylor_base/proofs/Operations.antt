@@ -9,9 +9,9 @@ use native.Mathlib.Nat.{min-le-left, min-le-right, le-min}
 use native.Mathlib.Numerals.{add-one}
 use native.Mathlib.Omega.{arith}
 use lib.ListN.{length, take, set, replicate}
-use Rattle.pool.specs.Pool.{Pool}
+use Rattle.pool.specs.Pool.{Pool, refused}
 use Rattle.refusals.specs.Refusals.{maxReached}
-use Rattle.taylor.specs.Work.{refused-work, Work, bind, yield, zeroLit, oneLit, at, each, eachTwo, fill}
+use Rattle.taylor.specs.Work.{Work, bind, yield, zeroLit, oneLit, at, each, eachTwo, fill}
 use Rattle.taylor.specs.Expansion.{Expansion, Constant, Polynomial, varCoeffs, coeff, maximum}
 use Rattle.taylor_base.specs.Answers.{terms, listOf, Given}
 use Rattle.taylor_base.specs.Entries.{Entries}
@@ -95,6 +95,6 @@ coeff-behind c zero P h = absurd (h refl)
 coeff-behind c (suc k) P h = refl
 
 -- a list has no greatest
-pub no-maximum : (us : List ℕ) (e : Expansion) (P : Pool) → refused-work maxReached ≡ maximum (Polynomial us) e P
+pub no-maximum : (us : List ℕ) (e : Expansion) (P : Pool) → refused maxReached ≡ maximum (Polynomial us) e P
 no-maximum us (Constant c) P = refl
 no-maximum us (Polynomial ws) P = refl

@@ -3,12 +3,12 @@
 use mathlib.Core.Path.{_≡_, refl, sym, ap, _∙_}
 use mathlib.Core.List.{List}
 use Prim.Native.Nat.{ℕ}
-use Rattle.pool.specs.Pool.{Pool}
+use Rattle.pool.specs.Pool.{Pool, done, refused}
 use Rattle.pool.specs.Made.{poolOf}
 use Rattle.pool.specs.declared.table.Made.{Made}
 use Rattle.pool.specs.declared.table.Made.the-variants.{Node, Refused}
 use Rattle.pool.specs.declared.table.Room.{Room}
-use Rattle.taylor.specs.Work.{Result, gives, refused-work, Work, bind}
+use Rattle.taylor.specs.Work.{Result, Work, bind}
 use Rattle.taylor_base.specs.Answers.{worked, statusOf}
 use Rattle.taylor_base.specs.declared.answer.Status.{Status}
 use Rattle.taylor_base.specs.declared.answer.Status.the-variants as status
@@ -19,18 +19,18 @@ module _ {A : Type 0} {r : Made} (ks ws : List ℕ) {x : Result ℕ} (next : ℕ
   onward e m h = h ∙ ap (λ (q : Made). bind (worked q ks ws) next) (sym e) ∙ ap (λ (y : Result ℕ). bind y next) m
 
   -- the work was refused: so is the whole
-  pub stopped : {k : ℕ} → r ≡ Refused k → worked r ks ws ≡ x → refused-work k ≡ bind x next
+  pub stopped : {k : ℕ} → r ≡ Refused k → worked r ks ws ≡ x → refused k ≡ bind x next
   stopped e m = ap (λ (q : Made). bind (worked q ks ws) next) (sym e) ∙ ap (λ (y : Result ℕ). bind y next) m
 
 -- two ways to go on after the same work
 pub bind-same : {A B : Type 0} (x : Result A) (m n : A → Work B) → ((v : A) (P : Pool) → m v P ≡ n v P) → bind x m ≡ bind x n
-bind-same (gives v P) m n h = h v P
-bind-same (refused-work k) m n h = refl
+bind-same (done v P) m n h = h v P
+bind-same (refused k) m n h = refl
 
 -- work in three steps, however they are put together
 pub bind-assoc : {A B C : Type 0} (x : Result A) (m : A → Work B) (n : B → Work C) → bind (bind x m) n ≡ bind x (λ v P. bind (m v P) n)
-bind-assoc (gives v P) m n = refl
-bind-assoc (refused-work k) m n = refl
+bind-assoc (done v P) m n = refl
+bind-assoc (refused k) m n = refl
 
 -- a refusal is handed on as it is, whatever the tables hold by then
 pub handed-on : {r : Made} {k : ℕ} (ks ws ks′ ws′ : List ℕ) {x : Result ℕ} (next : ℕ → Work ℕ) → r ≡ Refused k → worked r ks ws ≡ x → worked r ks′ ws′ ≡ bind x next
@@ -45,5 +45,5 @@ module _ {A B : Type 0} {s : Status} (ks ws : List ℕ) (v : B) {x : Result B} (
   pub goes-on : {room : Room} {o : Result A} → s ≡ status.Done room → statusOf s ks ws v ≡ x → o ≡ next v (poolOf ks ws room) → o ≡ bind x next
   goes-on e m h = h ∙ ap (λ (t : Status). bind (statusOf t ks ws v) next) (sym e) ∙ ap (λ (y : Result B). bind y next) m
 
-  pub ends : {k : ℕ} → s ≡ status.Refused k → statusOf s ks ws v ≡ x → refused-work k ≡ bind x next
+  pub ends : {k : ℕ} → s ≡ status.Refused k → statusOf s ks ws v ≡ x → refused k ≡ bind x next
   ends e m = ap (λ (t : Status). bind (statusOf t ks ws v) next) (sym e) ∙ ap (λ (y : Result B). bind y next) m

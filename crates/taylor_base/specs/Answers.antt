@@ -5,10 +5,11 @@ use mathlib.Core.Path.{_≡_}
 use mathlib.Core.List.{List}
 use Prim.Native.Nat.{ℕ, _+_, _-_, _≤_, _<_}
 use lib.ListN.{length, take, drop, set, replicate}
+use Rattle.pool.specs.Pool.{done, refused}
 use Rattle.pool.specs.Made.{made, poolOf}
 use Rattle.pool.specs.declared.table.Made as made-node
 use Rattle.pool.specs.declared.table.Made.the-variants as made-as
-use Rattle.taylor.specs.Work.{Result, gives, refused-work, bind, yield, answered, at}
+use Rattle.taylor.specs.Work.{Result, bind, yield, answered, at}
 use Rattle.taylor.specs.Expansion.{Expansion, Constant, Polynomial, greatestOrder}
 use Rattle.taylor_base.specs.declared.answer.Expansion as coded
 use Rattle.taylor_base.specs.declared.answer.Status.{Status}
@@ -50,8 +51,8 @@ pub record Tidy (e : coded.Expansion) : Type 0 where
 
 -- an answer that is right: the definitions give the same, and nothing stands past its end
 abbrev pub statusOf : {A : Type 0} → Status → List ℕ → List ℕ → A → Result A
-statusOf (Done room) ks ws x = gives x (poolOf ks ws room)
-statusOf (Refused k) ks ws x = refused-work k
+statusOf (Done room) ks ws x = done x (poolOf ks ws room)
+statusOf (Refused k) ks ws x = refused k
 
 abbrev pub expanded : Expanded → List ℕ → List ℕ → Result Expansion
 expanded r ks ws = statusOf (r .status) ks ws (expansionOf (r .expansion))

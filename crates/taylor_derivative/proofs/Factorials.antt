@@ -19,7 +19,7 @@ use Rattle.refusals.specs.Refusals.{outOfRange}
 use Rattle.pool.specs.declared.node.Node.{Node}
 use Rattle.pool.specs.declared.node.Node.the-variants.{Lit}
 use Rattle.pool.specs.Nodes.{kindOf, wordOf}
-use Rattle.pool.specs.Pool.{Pool, Out, limit, nodeIn, nodeAt}
+use Rattle.pool.specs.Pool.{Pool, Out, limit, nodeIn, nodeAt, done, refused}
 use Rattle.pool.specs.Made.{poolOf}
 use Rattle.pool.specs.declared.table.Room.{Room}
 use Rattle.constructors.specs.Terms.{Term, #, return}
@@ -28,7 +28,7 @@ use Rattle.constructors.specs.Tables.{mulLits, mulTable}
 use Rattle.constructors.specs.Build.{calls, depth, build, literal}
 use Rattle.constructor_laws.proofs.Growth.{appended, append-comes-to, appended-grown, earlier-same}
 use Rattle.constructor_laws.proofs.Coding.{Fine, fine-is-read}
-use Rattle.taylor.specs.Work.{Result, gives, refused-work, Work, bind, answered, lit, from, zeroLit, oneLit, mul, at, fold}
+use Rattle.taylor.specs.Work.{Result, Work, bind, answered, lit, from, zeroLit, oneLit, mul, at, fold}
 use Rattle.taylor.specs.Expansion.{Constant, Polynomial, derivative}
 use Rattle.taylor_base.proofs.Steps.{bind-assoc}
 use Rattle.taylor_derivative.specs.Factorials.{itself, product, factor, derivativeOf}
@@ -54,20 +54,20 @@ record Made-after (P : Pool) (z : ℤ) (a : ℕ) (Q : Pool) : Type 0 where
 
 -- what holds of a result, if there is one
 abbrev After : (ℕ → Pool → Type 0) → Result ℕ → Type 0
-After H (gives a Q) = H a Q
-After H (refused-work k) = Unit {0}
+After H (done a Q) = H a Q
+After H (refused k) = Unit {0}
 
 bind-after : {A : Type 0} {H : ℕ → Pool → Type 0} (x : Result ℕ) (m n : ℕ → Work A) → After H x → ((a : ℕ) (Q : Pool) → H a Q → m a Q ≡ n a Q) → bind x m ≡ bind x n
-bind-after (gives a Q) m n h same = same a Q h
-bind-after (refused-work k) m n h same = refl
+bind-after (done a Q) m n h same = same a Q h
+bind-after (refused k) m n h same = refl
 
 after-bind : {H : ℕ → Pool → Type 0} (K : ℕ → Pool → Type 0) (x : Result ℕ) (m : ℕ → Work ℕ) → After H x → ((a : ℕ) (Q : Pool) → H a Q → After K (m a Q)) → After K (bind x m)
-after-bind K (gives a Q) m h next = next a Q h
-after-bind K (refused-work k) m h next = tt
+after-bind K (done a Q) m h next = next a Q h
+after-bind K (refused k) m h next = tt
 
 after-same : {H : ℕ → Pool → Type 0} (K : ℕ → Pool → Type 0) (x : Result ℕ) → After H x → ((a : ℕ) (Q : Pool) → H a Q → K a Q) → After K x
-after-same K (gives a Q) h next = next a Q h
-after-same K (refused-work k) h next = tt
+after-same K (done a Q) h next = next a Q h
+after-same K (refused k) h next = tt
 
 -- ---- making a literal
 module _ (z : ℤ) (P : Pool) (long : Long P) where
@@ -129,7 +129,7 @@ module _ (at : ℕ → Node) (l r : ℕ) where
   table-of : (t : Term) → mulLits at l r ≡ return t → mulTable at l r ≡ t
   table-of t e = rw e refl
 
-one-times : (l r b : ℕ) (P : Pool) → 1 ≤ b → Literal (pos 1) l P → Literal (pos b) r P → mul l r P ≡ gives r P
+one-times : (l r b : ℕ) (P : Pool) → 1 ≤ b → Literal (pos 1) l P → Literal (pos b) r P → mul l r P ≡ done r P
 unfolding build
 one-times l r b P h hl hr = mul-runs l r P (# r) (table-of (nodeAt P) l r (# r) (one-lits (nodeAt P) l r b h (hl .is) (hr .is)))
 
@@ -195,7 +195,7 @@ derivative-is cs k P long =
 
 -- what one factor makes
 module _ (i n : ℕ) (P : Pool) where
-  pub is-itself : i ≤ itself → gives n P ≡ product (leb i itself) i n P
+  pub is-itself : i ≤ itself → done n P ≡ product (leb i itself) i n P
   is-itself h = rw (le-leb i itself h) refl
 
   pub is-new : itself < i → lit (pos (factorialOf i)) P ≡ product (leb i itself) i n P

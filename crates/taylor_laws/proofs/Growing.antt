@@ -16,9 +16,9 @@ use Rattle.constructor_laws.specs.Grown.{Grown}
 use Rattle.constructor_laws.specs.Grown as plain
 use Rattle.constructor_laws.proofs.Growth.{grown-by-nothing, grown-by-both, literal-grows, append-grows, calls-grow}
 use Rattle.constructor_laws.proofs.Growth as growth
-use Rattle.taylor.specs.Work.{Result, gives, refused-work, Work, bind, yield, refuse, answered, node, lit, from, add, mul, div, neg, sub, at, each, eachTwo, fold, fill}
+use Rattle.taylor.specs.Work.{Result, Work, bind, yield, refuse, answered, node, lit, from, add, mul, div, neg, sub, at, each, eachTwo, fold, fill}
 use Rattle.taylor.specs.Expansion.{Expansion, Constant, Polynomial, polynomial, constant, first, varCoeffs, var, coeff, derivative, addTo, negate, subFrom, productAt, times, quotientAt, quotient, expTerm, expAt, exponential, logTerm, logAt, logarithm, when, powFrom, power, maximum, horner, subst}
-use Rattle.taylor.specs.Expand.{Kept, State, state, Went, went, refused-walk, Walk, lifted, lift, keep, once, choose, Point, none, point, pointNode, ofVariable, expandNode, expandAt, expandBelow, expanded, expand}
+use Rattle.taylor.specs.Expand.{Kept, State, state, Went, Walk, lifted, lift, keep, once, choose, Point, none, point, pointNode, ofVariable, expandNode, expandAt, expandBelow, expanded, expand}
 use Rattle.taylor.specs.Expand as walk
 use Rattle.taylor_laws.specs.Grown.{Grows}
 
@@ -27,12 +27,12 @@ pub record Growing {A : Type 0} (work : Work A) : Type 0 where
   pub grows : (P : Pool) → Grows P (work P)
 
 grows-from : {A : Type 0} {P Q : Pool} → Grown P Q → (x : Result A) → Grows Q x → Grows P x
-grows-from g (gives x R) h = grown-by-both g h
-grows-from g (refused-work k) h = tt
+grows-from g (done x R) h = grown-by-both g h
+grows-from g (refused k) h = tt
 
 bind-grows : {A B : Type 0} (P : Pool) (x : Result A) {next : A → Work B} → Grows P x → ((v : A) → Growing (next v)) → Grows P (bind x next)
-bind-grows P (gives v Q) {next} g h = grows-from g (next v Q) (h v .grows Q)
-bind-grows P (refused-work k) g h = tt
+bind-grows P (done v Q) {next} g h = grows-from g (next v Q) (h v .grows Q)
+bind-grows P (refused k) g h = tt
 
 -- one step after the other, so that a proof is the same `do` block as the work
 infixl 1 _>>=_
@@ -280,19 +280,19 @@ subst-grows (Polynomial cs) inner = do
 
 -- ---- the expansion of an expression
 abbrev GrowsWalk : Pool → Went → Type 0
-GrowsWalk P (went e S) = Grown P (S .pool)
-GrowsWalk P (refused-walk k) = Unit {0}
+GrowsWalk P (done e S) = Grown P (S .pool)
+GrowsWalk P (refused k) = Unit {0}
 
 record GrowingWalk (w : Walk) : Type 0 where
   grows : (S : State) → GrowsWalk (S .pool) (w S)
 
 walk-from : {P Q : Pool} → Grown P Q → (w : Went) → GrowsWalk Q w → GrowsWalk P w
-walk-from g (went e S) h = grown-by-both g h
-walk-from g (refused-walk k) h = tt
+walk-from g (done e S) h = grown-by-both g h
+walk-from g (refused k) h = tt
 
 then-grows : (P : Pool) (w : Went) {next : Expansion → Walk} → GrowsWalk P w → ((e : Expansion) → GrowingWalk (next e)) → GrowsWalk P (walk.bind w next)
-then-grows P (went e S) {next} g h = walk-from g (next e S) (h e .grows S)
-then-grows P (refused-walk k) g h = tt
+then-grows P (done e S) {next} g h = walk-from g (next e S) (h e .grows S)
+then-grows P (refused k) g h = tt
 
 infixl 1 _>>_
 _>>_ : {w : Walk} {next : Expansion → Walk} → GrowingWalk w → ((e : Expansion) → GrowingWalk (next e)) → GrowingWalk (λ S. walk.bind (w S) next)
@@ -308,8 +308,8 @@ lift-grows : {work : Work Expansion} → Growing work → GrowingWalk (lift work
 lift-grows {work} g = record { grows = λ S. go (S .pool) (S .results) (work (S .pool)) (g .grows (S .pool)) }
   where
     go : (P : Pool) (results : List Kept) (x : Result Expansion) → Grows P x → GrowsWalk P (lifted results x)
-    go P results (gives e Q) h = h
-    go P results (refused-work k) h = tt
+    go P results (done e Q) h = h
+    go P results (refused k) h = tt
 
 keep-grows : (i : ℕ) (e : Expansion) → GrowingWalk (keep i e)
 keep-grows i e = record { grows = λ S. grown-by-nothing (S .pool) }
@@ -361,5 +361,5 @@ expand-grows root v x order =
     record { grows = λ P. go P (expandBelow v x order (suc root) root (state P (replicate limit walk.nothing))) (below-grows v x order (suc root) root .grows (state P (replicate limit walk.nothing))) }
   where
     go : (P : Pool) (w : Went) → GrowsWalk P w → Grows P (expanded w)
-    go P (went e S) h = h
-    go P (refused-walk k) h = tt
+    go P (done e S) h = h
+    go P (refused k) h = tt

@@ -17,7 +17,6 @@ use Rattle.constructor_laws.specs.Keeps.{Keeps}
 use Rattle.shape.specs.Shape.{Reach, root, part}
 use Rattle.shape.proofs.Lists.{here}
 use Rattle.walks.specs.Derive.{derive}
-use Rattle.taylor.specs.Work.{gives}
 use Rattle.taylor.specs.Expansion.{Expansion}
 use Rattle.taylor.specs.Expand.{Point, none, expand}
 use Rattle.meaning.specs.Model.{Algebra, Model, Distributive, power}
@@ -181,7 +180,7 @@ module _ {A : Algebra} (M : Model A) (D : Distributive A) where
     pub derive-is-coefficient :
         (order r : ℕ) → 1 ≤ order → r < P .count → PlainExpression (nodeAt P) r
         → {i : ℕ} {Q : Pool} → derive r v P ≡ done i Q
-        → {e : Expansion} {R : Pool} → expand r v none order P ≡ gives e R
+        → {e : Expansion} {R : Pool} → expand r v none order P ≡ done e R
         → value A env (nodeAt Q) i ≡ coefficient A env R e 1
     derive-is-coefficient order r some h p derived expanded =
         let slopes = derivation-means M env keeps v r h derived in

@@ -8,13 +8,12 @@ use lib.ListN.{getD}
 use Rattle.pool.specs.declared.node.Node.{Node}
 use Rattle.pool.specs.declared.node.Node.the-variants.{Empty, Variable, Lit, Add, Mul, Div, Exp, Log, Pow, Max}
 use Rattle.pool.specs.Nodes.{parts, greatestVariable}
-use Rattle.pool.specs.Pool.{Pool, nodeAt}
+use Rattle.pool.specs.Pool.{Pool, nodeAt, done}
 use Rattle.constructor_laws.specs.Keeps.{Keeps}
 use Rattle.constructor_laws.proofs.Coding.{Short}
 use Rattle.constructor_laws.proofs.Rules.{parts-below}
 use Rattle.shape.specs.Shape.{Reach, root, part}
 use Rattle.shape.proofs.Lists.{here}
-use Rattle.taylor.specs.Work.{gives}
 use Rattle.taylor.specs.Expansion.{Expansion}
 use Rattle.taylor.specs.Expand.{Point, expand}
 use Rattle.meaning.specs.Model.{Algebra, Model, Distributive, power}
@@ -97,14 +96,14 @@ module _ {A : Algebra} (M : Model A) (D : Distributive A) where
 
       -- an accepted expansion of a plain expression: as of any expression, with no law of fractions; and the pool that it leaves keeps the rules
       pub plain-expansion-means :
-          {e : Expansion} {Q : Pool} → PlainExpression (nodeAt P) r → expand r v x order P ≡ gives e Q → MeansSeries A env P (suc order) (value (series A) (asSeries A env v x) (nodeAt P) r) e Q
+          {e : Expansion} {Q : Pool} → PlainExpression (nodeAt P) r → expand r v x order P ≡ done e Q → MeansSeries A env P (suc order) (value (series A) (asSeries A env v x) (nodeAt P) r) e Q
       plain-expansion-means p eq = series-meant M env keeps (plain-expansion-gives p) eq
 
-      pub plain-expansion-keeps : {e : Expansion} {Q : Pool} → PlainExpression (nodeAt P) r → expand r v x order P ≡ gives e Q → Keeps Q
+      pub plain-expansion-keeps : {e : Expansion} {Q : Pool} → PlainExpression (nodeAt P) r → expand r v x order P ≡ done e Q → Keeps Q
       plain-expansion-keeps p eq = kept-by (plain-expansion-gives p) eq
 
       -- an accepted expansion of a polynomial expression: coefficient k is that of t^k in its value at x + t, in the ring of series
       pub polynomial-expansion-means :
-          {e : Expansion} {Q : Pool} → PolynomialExpression (nodeAt P) r → expand r v x order P ≡ gives e Q → MeansSeries A env P (suc order) (value (polynomials A) (asSeries A env v x) (nodeAt P) r) e Q
+          {e : Expansion} {Q : Pool} → PolynomialExpression (nodeAt P) r → expand r v x order P ≡ done e Q → MeansSeries A env P (suc order) (value (polynomials A) (asSeries A env v x) (nodeAt P) r) e Q
       polynomial-expansion-means p eq =
           rw (value-in-ring (asSeries A env v x) (nodeAt P) r p) (plain-expansion-means (polynomial-is-plain (nodeAt P) r p) eq)

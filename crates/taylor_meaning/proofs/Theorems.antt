@@ -13,11 +13,11 @@ use Rattle.literal.specs.Literal.{isLiteral, signed}
 use Rattle.pool.specs.declared.node.Node.{Node}
 use Rattle.pool.specs.declared.node.Node.the-variants.{Empty, Variable, Lit, Add, Mul, Div, Exp, Log, Pow, Max}
 use Rattle.pool.specs.Nodes.{parts, decode, lowOf, highOf, half, leastExponent, greatestExponent, greatestVariable}
-use Rattle.pool.specs.Pool.{Pool, nodeAt, nodeIn, limit}
+use Rattle.pool.specs.Pool.{Pool, nodeAt, nodeIn, limit, done}
 use Rattle.constructor_laws.specs.Keeps.{Keeps}
 use Rattle.constructor_laws.proofs.Coding.{Short}
 use Rattle.constructor_laws.proofs.Rules.{parts-below}
-use Rattle.taylor.specs.Work.{Result, gives}
+use Rattle.taylor.specs.Work.{Result}
 use Rattle.taylor.specs.Expansion.{Expansion, Constant, Polynomial, coeff, derivative, maximum, subst, addTo, negate, subFrom, times, quotient, exponential, logarithm, power}
 use Rattle.taylor.specs.Expand.{Point, expand}
 use Rattle.meaning.specs.Model.{Algebra, Model, Distributive}
@@ -78,16 +78,16 @@ module _ {A : Algebra} (M : Model A) (env : Values A) where
 
   module _ {P : Pool} (keeps : Keeps P) where
     -- what is known after accepted work that gives a series
-    pub series-meant : {n : ℕ} {f : Series A} {r : Result Expansion} {e : Expansion} {Q : Pool} → Gives P (Expands M env n f) r → r ≡ gives e Q → MeansSeries A env P n f e Q
+    pub series-meant : {n : ℕ} {f : Series A} {r : Result Expansion} {e : Expansion} {Q : Pool} → Gives P (Expands M env n f) r → r ≡ done e Q → MeansSeries A env P n f e Q
     series-meant {n} {f} {r} {e} {Q} h eq = go (path.subst (Gives P (Expands M env n f)) eq h)
       where
-        go : Gives P (Expands M env n f) (gives e Q) → MeansSeries A env P n f e Q
+        go : Gives P (Expands M env n f) (done e Q) → MeansSeries A env P n f e Q
         go (gave k g s) = record { long = shown s .0; coefficients = shown s .1; earlier = value-kept A env keeps g }
 
-    number-meant : {x : A .carrier} {r : Result ℕ} {i : ℕ} {Q : Pool} → Gives P (Is M env x) r → r ≡ gives i Q → Means A env P x i Q
+    number-meant : {x : A .carrier} {r : Result ℕ} {i : ℕ} {Q : Pool} → Gives P (Is M env x) r → r ≡ done i Q → Means A env P x i Q
     number-meant {x} {r} {i} {Q} h eq = go (path.subst (Gives P (Is M env x)) eq h)
       where
-        go : Gives P (Is M env x) (gives i Q) → Means A env P x i Q
+        go : Gives P (Is M env x) (done i Q) → Means A env P x i Q
         go (gave k g s) = record { answer = s .is; earlier = value-kept A env keeps g }
 
     module _ (n : ℕ) (s : Expansion) (hs : InPool P s) (ls : Long n s) where
@@ -98,26 +98,26 @@ module _ {A : Algebra} (M : Model A) (env : Values A) where
       itself = expands-itself s hs ls
 
       -- v_k = -u_k
-      pub negate-means : {e : Expansion} {Q : Pool} → negate s P ≡ gives e Q → MeansSeries A env P n (λ k. A .times (A .int (negsuc 0)) (u k)) e Q
+      pub negate-means : {e : Expansion} {Q : Pool} → negate s P ≡ done e Q → MeansSeries A env P n (λ k. A .times (A .int (negsuc 0)) (u k)) e Q
       negate-means eq = series-meant (negate-gives M env keeps itself) eq
 
       -- coefficient k, and k! times coefficient k
-      pub coeff-means : {i : ℕ} {Q : Pool} → (k : ℕ) → k < n → coeff s k P ≡ gives i Q → Means A env P (u k) i Q
+      pub coeff-means : {i : ℕ} {Q : Pool} → (k : ℕ) → k < n → coeff s k P ≡ done i Q → Means A env P (u k) i Q
       coeff-means k l eq = number-meant (coeff-gives M env k l keeps itself) eq
 
-      pub derivative-means : {i : ℕ} {Q : Pool} → (k : ℕ) → k < n → derivative s k P ≡ gives i Q → Means A env P (A .times (factorialIn A k) (u k)) i Q
+      pub derivative-means : {i : ℕ} {Q : Pool} → (k : ℕ) → k < n → derivative s k P ≡ done i Q → Means A env P (A .times (factorialIn A k) (u k)) i Q
       derivative-means k l eq = number-meant (derivative-gives M env k l keeps itself) eq
 
       -- the series of the book's recurrence for exp u
-      pub exponential-means : {e : Expansion} {Q : Pool} → exponential s P ≡ gives e Q → MeansSeries A env P n (recurrence A (expStep A u)) e Q
+      pub exponential-means : {e : Expansion} {Q : Pool} → exponential s P ≡ done e Q → MeansSeries A env P n (recurrence A (expStep A u)) e Q
       exponential-means eq = series-meant (exponential-gives M env u keeps itself) eq
 
       -- the series of the book's recurrence for ln u
-      pub logarithm-means : {e : Expansion} {Q : Pool} → logarithm s P ≡ gives e Q → MeansSeries A env P n (recurrence A (logStep A u)) e Q
+      pub logarithm-means : {e : Expansion} {Q : Pool} → logarithm s P ≡ done e Q → MeansSeries A env P n (recurrence A (logStep A u)) e Q
       logarithm-means eq = series-meant (logarithm-gives M env u keeps itself) eq
 
       -- a power is a repeated product
-      pub power-means : {e : Expansion} {Q : Pool} → Distributive A → (m : ℕ) → m ≤ greatestExponent → power s m P ≡ gives e Q → MeansSeries A env P n (model.power (series A) u m) e Q
+      pub power-means : {e : Expansion} {Q : Pool} → Distributive A → (m : ℕ) → m ≤ greatestExponent → power s m P ≡ done e Q → MeansSeries A env P n (model.power (series A) u m) e Q
       power-means D m short eq = series-meant (power-gives M D env m (omega arith) keeps itself) eq
 
       module _ (t : Expansion) (ht : InPool P t) (lt : Long n t) where
@@ -128,33 +128,33 @@ module _ {A : Algebra} (M : Model A) (env : Values A) where
         itself′ = expands-itself t ht lt
 
         -- v_k = u_k + w_k
-        pub add-to-means : {e : Expansion} {Q : Pool} → addTo s t P ≡ gives e Q → MeansSeries A env P n (plusSeries A u w) e Q
+        pub add-to-means : {e : Expansion} {Q : Pool} → addTo s t P ≡ done e Q → MeansSeries A env P n (plusSeries A u w) e Q
         add-to-means eq = series-meant (add-to-gives M env keeps itself itself′) eq
 
         -- v_k = u_k - w_k
-        pub sub-from-means : {e : Expansion} {Q : Pool} → subFrom s t P ≡ gives e Q → MeansSeries A env P n (λ k. minus A (u k) (w k)) e Q
+        pub sub-from-means : {e : Expansion} {Q : Pool} → subFrom s t P ≡ done e Q → MeansSeries A env P n (λ k. minus A (u k) (w k)) e Q
         sub-from-means eq = series-meant (sub-from-gives M env keeps itself itself′) eq
 
         -- v_k = Σ_(j=0..k) u_j × w_(k-j)
-        pub times-means : {e : Expansion} {Q : Pool} → times s t P ≡ gives e Q → MeansSeries A env P n (timesSeries A u w) e Q
+        pub times-means : {e : Expansion} {Q : Pool} → times s t P ≡ done e Q → MeansSeries A env P n (timesSeries A u w) e Q
         times-means eq = series-meant (times-gives M env keeps itself itself′) eq
 
         -- the series of the book's recurrence for u / w
-        pub quotient-means : {e : Expansion} {Q : Pool} → Distributive A → Fractions A → quotient s t P ≡ gives e Q → MeansSeries A env P n (recurrence A (overStep A u w)) e Q
+        pub quotient-means : {e : Expansion} {Q : Pool} → Distributive A → Fractions A → quotient s t P ≡ done e Q → MeansSeries A env P n (recurrence A (overStep A u w)) e Q
         quotient-means D fractions eq = series-meant (quotient-gives M D env u w fractions keeps itself itself′) eq
 
         -- a maximum is one of constants
-        pub maximum-means : {e : Expansion} {Q : Pool} → maximum s t P ≡ gives e Q → MeansSeries A env P n (constantSeries A (A .max (u 0) (w 0))) e Q
+        pub maximum-means : {e : Expansion} {Q : Pool} → maximum s t P ≡ done e Q → MeansSeries A env P n (constantSeries A (A .max (u 0) (w 0))) e Q
         maximum-means eq = series-meant (maximum-gives M env keeps itself itself′) eq
 
       -- a list with s put in for t: c_0 + c_1 × s + c_2 × s^2 + ..
       pub subst-list-means :
-          {e : Expansion} {Q : Pool} → (cs : List ℕ) → InPool P (Polynomial cs) → subst (Polynomial cs) s P ≡ gives e Q → MeansSeries A env P n (composed A (value A env (nodeAt P)) u cs) e Q
+          {e : Expansion} {Q : Pool} → (cs : List ℕ) → InPool P (Polynomial cs) → subst (Polynomial cs) s P ≡ done e Q → MeansSeries A env P n (composed A (value A env (nodeAt P)) u cs) e Q
       subst-list-means cs h eq = series-meant (subst-list-gives M env cs keeps (h .1) itself) eq
 
       -- by a list no law of fractions is needed
       pub quotient-by-list-means :
-          {e : Expansion} {Q : Pool} → Distributive A → (ws : List ℕ) → InPool P (Polynomial ws) → Long n (Polynomial ws) → quotient s (Polynomial ws) P ≡ gives e Q → MeansSeries A env P n (recurrence A (overStep A u (coefficient A env P (Polynomial ws)))) e Q
+          {e : Expansion} {Q : Pool} → Distributive A → (ws : List ℕ) → InPool P (Polynomial ws) → Long n (Polynomial ws) → quotient s (Polynomial ws) P ≡ done e Q → MeansSeries A env P n (recurrence A (overStep A u (coefficient A env P (Polynomial ws)))) e Q
       quotient-by-list-means D ws ht lt eq =
           series-meant (quotient-by-list-gives M D env u (coefficient A env P (Polynomial ws)) keeps itself (expands-itself (Polynomial ws) ht lt)) eq
 
@@ -182,9 +182,9 @@ module _ {A : Algebra} (M : Model A) (env : Values A) where
       -- an accepted expansion of an expression has the coefficients of its value in the algebra of series, where the variable is its value and t; and the pool that it leaves keeps the rules
       pub expansion-means :
           Fractions A → ((i : ℕ) → getD (P .words) i 0 < 2 ^ 64) → {e : Expansion} {Q : Pool} (root : ℕ) → root < P .count
-          → expand root v x order P ≡ gives e Q
+          → expand root v x order P ≡ done e Q
           → MeansSeries A env P (suc order) (value (series A) (asSeries A env v x) (nodeAt P) root) e Q
       expansion-means fractions words root h eq = series-meant (expression-gives fractions words root h) eq
 
-      pub expansion-keeps : Fractions A → ((i : ℕ) → getD (P .words) i 0 < 2 ^ 64) → {e : Expansion} {Q : Pool} (root : ℕ) → root < P .count → expand root v x order P ≡ gives e Q → Keeps Q
+      pub expansion-keeps : Fractions A → ((i : ℕ) → getD (P .words) i 0 < 2 ^ 64) → {e : Expansion} {Q : Pool} (root : ℕ) → root < P .count → expand root v x order P ≡ done e Q → Keeps Q
       expansion-keeps fractions words root h eq = kept-by (expression-gives fractions words root h) eq

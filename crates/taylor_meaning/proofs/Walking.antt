@@ -6,13 +6,13 @@ use Prim.Native.Nat.{ℕ, zero, suc}
 use lib.Dec.{eqb}
 use lib.ListN.{getD, replicate}
 use borrow.Author.Tests.{eqb-true}
-use Rattle.pool.specs.Pool.{Pool, limit}
+use Rattle.pool.specs.Pool.{Pool, limit, done, refused}
 use Rattle.constructor_laws.specs.Grown.{Grown}
 use Rattle.constructor_laws.specs.Keeps.{Keeps}
 use Rattle.constructor_laws.proofs.Growth.{grown-by-nothing, grown-by-both}
 use Rattle.taylor.specs.Work.{Result, Work}
 use Rattle.taylor.specs.Expansion.{Expansion}
-use Rattle.taylor.specs.Expand.{Kept, nothing, kept, State, state, Went, went, refused-walk, Walk, Point, bind, lifted, lift, keep, once, choose, expandAt, expandBelow, expanded, expand}
+use Rattle.taylor.specs.Expand.{Kept, nothing, kept, State, state, Went, Walk, Point, bind, lifted, lift, keep, once, choose, expandAt, expandBelow, expanded, expand}
 use Rattle.meaning.specs.Model.{Algebra, Model}
 use Rattle.meaning.specs.Value.{Values}
 use Rattle.walk_meaning.proofs.Walking.{set-entry}
@@ -33,8 +33,8 @@ module _ {A : Algebra} (M : Model A) (env : Values A) (P₀ : Pool) (n : ℕ) (g
 
   -- a walk from S that was refused, or came to an expansion of the series f
   pub data Walked (S : State) (f : Series A) : Went → Type 0 where
-    came-to : {e : Expansion} {T : State} → Good T → Grown (S .pool) (T .pool) → Expands M env n f (T .pool) e → Walked S f (went e T)
-    ended-walk : {k : ℕ} → Walked S f (refused-walk k)
+    came-to : {e : Expansion} {T : State} → Good T → Grown (S .pool) (T .pool) → Expands M env n f (T .pool) e → Walked S f (done e T)
+    ended-walk : {k : ℕ} → Walked S f (refused k)
 
   walked-from : {S T : State} {f : Series A} {w : Went} → Grown (S .pool) (T .pool) → Walked T f w → Walked S f w
   walked-from g (came-to good h e) = came-to good (grown-by-both g h) e
@@ -49,7 +49,7 @@ module _ {A : Algebra} (M : Model A) (env : Values A) (P₀ : Pool) (n : ℕ) (g
   walked-next (came-to {e} {T} good g h) go = walked-from g (go e T good g h)
   walked-next ended-walk go = ended-walk
 
-  pub walked-here : {S : State} {f : Series A} {e : Expansion} → Good S → Expands M env n f (S .pool) e → Walked S f (went e S)
+  pub walked-here : {S : State} {f : Series A} {e : Expansion} → Good S → Expands M env n f (S .pool) e → Walked S f (done e S)
   walked-here {S} good h = came-to good (grown-by-nothing (S .pool)) h
 
   -- in a grown pool a kept result stays right

@@ -8,12 +8,12 @@ use lib.IntN.{ℤ, negsuc}
 use lib.ListN.{length, length-append}
 use Rattle.refusals.specs.Refusals.{outOfRange}
 use Rattle.literal.specs.Literal.{isLiteral, folded}
-use Rattle.pool.specs.Pool.{Pool, Out, nodeAt}
+use Rattle.pool.specs.Pool.{Pool, Out, nodeAt, done, refused}
 use Rattle.constructors.specs.Build.{depth}
 use Rattle.constructor_laws.specs.Grown.{Grown}
 use Rattle.constructor_laws.specs.Keeps.{Keeps}
 use Rattle.constructor_laws.proofs.Growth.{grown-by-nothing, grown-by-both}
-use Rattle.taylor.specs.Work.{Result, gives, refused-work, Work, bind, answered, lit, add, mul, div, neg, sub, exp, log, max, at, each, eachTwo, fold, fill}
+use Rattle.taylor.specs.Work.{Result, Work, bind, answered, lit, add, mul, div, neg, sub, exp, log, max, at, each, eachTwo, fold, fill}
 use Rattle.meaning.specs.Model.{Algebra, Model}
 use Rattle.meaning.specs.Value.{Values, value}
 use Rattle.meaning.proofs.Values.{same-op}
@@ -24,8 +24,8 @@ use Rattle.taylor_meaning.specs.Series.{Series, minus}
 
 -- work on P that was refused, or came by the rules to a result of which S holds in the pool that it left
 pub data Gives {B : Type 0} (P : Pool) (S : Pool → B → Type 0) : Result B → Type 0 where
-  gave : {x : B} {Q : Pool} → Keeps Q → Grown P Q → S Q x → Gives P S (gives x Q)
-  ended-work : {k : ℕ} → Gives P S (refused-work k)
+  gave : {x : B} {Q : Pool} → Keeps Q → Grown P Q → S Q x → Gives P S (done x Q)
+  ended-work : {k : ℕ} → Gives P S (refused k)
 
 module _ {B : Type 0} where
   pub gives-from : {P Q : Pool} {S : Pool → B → Type 0} {r : Result B} → Grown P Q → Gives Q S r → Gives P S r
@@ -36,14 +36,14 @@ module _ {B : Type 0} where
   gives-weaker f (gave {x} {Q} k g s) = gave k g (f Q x g s)
   gives-weaker f ended-work = ended-work
 
-  pub gives-here : {P : Pool} {S : Pool → B → Type 0} {x : B} → Keeps P → S P x → Gives P S (gives x P)
+  pub gives-here : {P : Pool} {S : Pool → B → Type 0} {x : B} → Keeps P → S P x → Gives P S (done x P)
   gives-here {P} k s = gave k (grown-by-nothing P) s
 
 -- an accepted answer's pool keeps the rules
-pub kept-by : {B : Type 0} {P Q : Pool} {S : Pool → B → Type 0} {r : Result B} {x : B} → Gives P S r → r ≡ gives x Q → Keeps Q
+pub kept-by : {B : Type 0} {P Q : Pool} {S : Pool → B → Type 0} {r : Result B} {x : B} → Gives P S r → r ≡ done x Q → Keeps Q
 kept-by {B} {P} {Q} {S} {x = x} h e = go (subst (Gives P S) e h)
   where
-    go : Gives P S (gives x Q) → Keeps Q
+    go : Gives P S (done x Q) → Keeps Q
     go (gave k g s) = k
 
 pub gives-next :

@@ -5,12 +5,12 @@ use mathlib.Core.List.{List}
 use Prim.Native.Nat.{ℕ, suc, _+_, _-_, _≤_, _<_}
 use native.Mathlib.Numerals.{add-one}
 use native.Mathlib.Omega.{arith}
-use Rattle.pool.specs.Pool.{Pool}
+use Rattle.pool.specs.Pool.{Pool, done}
 use Rattle.pool.specs.Made.{poolOf}
 use Rattle.pool.specs.declared.table.Made.{Made}
 use Rattle.pool.specs.declared.table.Made.the-variants.{Node, Refused}
 use Rattle.pool.specs.declared.table.Room.{Room}
-use Rattle.taylor.specs.Work.{Result, gives, Work, bind, fold}
+use Rattle.taylor.specs.Work.{Result, Work, bind, fold}
 use Rattle.taylor_base.specs.Answers.{worked}
 use Rattle.taylor_base.proofs.Steps.{onward, handed-on}
 
@@ -46,7 +46,7 @@ module _ {f : ℕ → ℕ → Work ℕ} {first end : ℕ} {whole : Result ℕ} w
             is = onward ks ws (fold f (j + 1) (end - (j + 1))) e m refl ∙ turn;
           }
 
-  pub fold-done : {j acc : ℕ} {P : Pool} → Folding f first end whole j acc P → end ≤ j → gives acc P ≡ whole
+  pub fold-done : {j acc : ℕ} {P : Pool} → Folding f first end whole j acc P → end ≤ j → done acc P ≡ whole
   unfolding fold
   fold-done {j} {acc} {P} g h =
       let none : end - j ≡ 0 = omega arith in

@@ -9,10 +9,10 @@ use lib.Count.{leadingZeros, leading-length}
 use lib.Dec.{eqb, ltb}
 use lib.Pow.{pow-pos}
 use borrow.Author.Tests.{lt-ltb, ne-eqb}
-use Rattle.pool.specs.Pool.{Pool}
+use Rattle.pool.specs.Pool.{Pool, done}
 use Rattle.pool.specs.Made.{poolOf}
 use Rattle.pool.specs.declared.table.Room.{Room}
-use Rattle.taylor.specs.Work.{Result, gives, Work, bind, yield}
+use Rattle.taylor.specs.Work.{Result, Work, bind, yield}
 use Rattle.taylor.specs.Expansion.{Expansion, Constant, times, when, powFrom, digits}
 use Rattle.taylor_base.specs.Answers.{expansionOf, Tidy, Answers, constantOf}
 use Rattle.taylor_base.specs.declared.answer.Expansion as coded
@@ -58,7 +58,7 @@ some-digits {e} {n} d z =
     some n = pow-pos n
 
 -- a power with no digits left is the result so far
-nothing-left : (k : ℕ) (res base : Expansion) (P : Pool) → gives res P ≡ powFrom k 0 res base P
+nothing-left : (k : ℕ) (res base : Expansion) (P : Pool) → done res P ≡ powFrom k 0 res base P
 unfolding powFrom
 nothing-left zero res base P = refl
 nothing-left (suc k) res base P = refl

@@ -15,16 +15,16 @@ use Rattle.refusals.specs.Refusals.{brokenPool, maxReached}
 use Rattle.pool.specs.declared.node.Node.{Node}
 use Rattle.pool.specs.declared.node.Node.the-variants.{Empty, Variable, Lit, Add, Mul, Div, Exp, Log, Pow, Max}
 use Rattle.pool.specs.Nodes.{parts, greatestVariable}
-use Rattle.pool.specs.Pool.{Pool, limit, nodeAt}
+use Rattle.pool.specs.Pool.{Pool, limit, nodeAt, done, refused}
 use Rattle.constructor_laws.specs.Grown.{Grown}
 use Rattle.constructor_laws.specs.Keeps.{Keeps}
 use Rattle.constructor_laws.proofs.Growth.{grown-by-nothing, grown-by-both}
 use Rattle.constructor_laws.proofs.Rules.{AllBelow, parts-below}
 use Rattle.constructor_laws.proofs.Keeping.{append-keeps}
-use Rattle.taylor.specs.Work.{Result, gives, refused-work, Work}
+use Rattle.taylor.specs.Work.{Result, Work}
 use Rattle.taylor.specs.Work as work
 use Rattle.taylor.specs.Expansion.{Expansion, Constant, order, times, when, powFrom, power, endless}
-use Rattle.taylor.specs.Expand.{Kept, nothing, kept, State, state, Went, went, refused-walk, Walk, bind, yield, refuse, lifted, lift, keep, once, Point, none, point, pointNode, ofVariable, expandNode, expandAt, expandBelow, expanded, expand}
+use Rattle.taylor.specs.Expand.{Kept, nothing, kept, State, state, Went, Walk, bind, yield, refuse, lifted, lift, keep, once, Point, none, point, pointNode, ofVariable, expandNode, expandAt, expandBelow, expanded, expand}
 use Rattle.taylor_base.specs.Answers.{terms}
 use Rattle.taylor_rules.specs.Kept.{ExpandedOrder}
 use Rattle.taylor_rules.proofs.Nodes.{KeptAs, Keeping, yield-keeps, next-keeps, said-as, node-keeps, lit-keeps, from-keeps}
@@ -87,16 +87,16 @@ module _ (ord : ℕ) (small : ord < terms) where
     pub come : Come (T .pool .count) e
 
   abbrev WalkKept : State → Went → Type 0
-  WalkKept S (went e T) = Walked S e T
-  WalkKept S (refused-walk k) = Unit {0}
+  WalkKept S (done e T) = Walked S e T
+  WalkKept S (refused k) = Unit {0}
 
   -- a walk that keeps the rules of every pool with n nodes or more
   record WalkKeeps (n : ℕ) (walk : Walk) : Type 0 where
     pub walked : (S : State) → Rightful S → n ≤ S .pool .count → WalkKept S (walk S)
 
   kept-from : (S T : State) → Grown (S .pool) (T .pool) → (w : Went) → WalkKept T w → WalkKept S w
-  kept-from S T g (went e U) k = record { grown = grown-by-both g (k .grown); rightful = k .rightful; come = k .come }
-  kept-from S T g (refused-walk r) k = tt
+  kept-from S T g (done e U) k = record { grown = grown-by-both g (k .grown); rightful = k .rightful; come = k .come }
+  kept-from S T g (refused r) k = tt
 
   stays : {S : State} {e : Expansion} → Rightful S → Come (S .pool .count) e → Walked S e S
   stays {S} r h = record { grown = grown-by-nothing (S .pool); rightful = r; come = h }
@@ -112,23 +112,23 @@ module _ (ord : ℕ) (small : ord < terms) where
   then-walks {n} {walk} {next} first then = record { walked = λ S r more. go S more (walk S) (first .walked S r more) }
     where
       go : (S : State) → n ≤ S .pool .count → (w : Went) → WalkKept S w → WalkKept S (bind w next)
-      go S more (went e T) k =
+      go S more (done e T) k =
           let grown : S .pool .count ≤ T .pool .count = k .grown .no-fewer in
           kept-from S T (k .grown) (next e T) (then (T .pool .count) e (omega arith) (k .come) .walked T (k .rightful) (le-refl (T .pool .count)))
-      go S more (refused-walk r) k = tt
+      go S more (refused r) k = tt
 
   -- an operation called by a walk
   lift-walks : {n : ℕ} {work : Work Expansion} → Keeping n Come work → WalkKeeps n (lift work)
   lift-walks {n} {work} w = record { walked = λ S r more. go S r (work (S .pool)) (w .kept (S .pool) (r .keeps) more) }
     where
       go : (S : State) → Rightful S → (x : Result Expansion) → KeptAs Come (S .pool) x → WalkKept S (lifted (S .results) x)
-      go S r (gives e P) k =
+      go S r (done e P) k =
           record {
             grown = k .grown;
             rightful = record { keeps = k .keeps; results = λ j d h. come-more (k .grown .no-fewer) (r .results j d h) };
             come = k .good;
           }
-      go S r (refused-work q) k = tt
+      go S r (refused q) k = tt
 
   set-read : (l : List Kept) (i : ℕ) (e d : Expansion) (j : ℕ) → getD (set l i (kept e)) j nothing ≡ kept d → (kept e ≡ kept d) ⊎ (getD l j nothing ≡ kept d)
   set-read [] i e d j h = inr h
@@ -230,5 +230,5 @@ module _ (ord : ℕ) (small : ord < terms) where
         start = record { keeps = k; results = λ j e there. absurd (nothing-kept limit j e there) }
 
         go : (w : Went) → WalkKept S w → KeptAs Come P (expanded w)
-        go (went e T) w = record { grown = w .grown; keeps = w .rightful .keeps; good = w .come }
-        go (refused-walk r) w = tt
+        go (done e T) w = record { grown = w .grown; keeps = w .rightful .keeps; good = w .come }
+        go (refused r) w = tt

@@ -18,7 +18,7 @@ use Rattle.constructor_laws.proofs.Growth.{grown-by-nothing, grown-by-both}
 use Rattle.constructor_laws.proofs.Rules.{AllBelow, all-below-more}
 use Rattle.constructor_laws.proofs.Keeping.{calls-keep, build-keeps}
 use Rattle.constructor_laws.proofs.Keeping as runs
-use Rattle.taylor.specs.Work.{Result, gives, refused-work, Work, bind, yield, refuse, answered, node, lit, from, add, mul, div, neg, sub, exp, log, max, at, each, eachTwo, fold, fill}
+use Rattle.taylor.specs.Work.{Result, Work, bind, yield, refuse, answered, node, lit, from, add, mul, div, neg, sub, exp, log, max, at, each, eachTwo, fold, fill}
 use Rattle.taylor.specs.Expansion.{first}
 
 -- ---- pieces of work
@@ -30,8 +30,8 @@ pub record KeptWith {A : Type 0} (Good : ℕ → A → Type 0) (P : Pool) (x : A
   pub good : Good (Q .count) x
 
 abbrev pub KeptAs : {A : Type 0} → (ℕ → A → Type 0) → Pool → Result A → Type 0
-KeptAs Good P (gives x Q) = KeptWith Good P x Q
-KeptAs Good P (refused-work k) = Unit {0}
+KeptAs Good P (done x Q) = KeptWith Good P x Q
+KeptAs Good P (refused k) = Unit {0}
 
 -- work that keeps the rules of every pool with n nodes or more
 pub record Keeping {A : Type 0} (n : ℕ) (Good : ℕ → A → Type 0) (work : Work A) : Type 0 where
@@ -44,8 +44,8 @@ pub refuse-keeps : {A : Type 0} {n : ℕ} {Good : ℕ → A → Type 0} (k : ℕ
 refuse-keeps k = record { kept = λ P s more. tt }
 
 kept-from : {A : Type 0} (Good : ℕ → A → Type 0) {P Q : Pool} → Grown P Q → (x : Result A) → KeptAs Good Q x → KeptAs Good P x
-kept-from Good g (gives x R) k = record { grown = grown-by-both g (k .grown); keeps = k .keeps; good = k .good }
-kept-from Good g (refused-work r) k = tt
+kept-from Good g (done x R) k = record { grown = grown-by-both g (k .grown); keeps = k .keeps; good = k .good }
+kept-from Good g (refused r) k = tt
 
 -- one piece of work, and then another that may use its answer
 pub next-keeps :
@@ -54,18 +54,18 @@ pub next-keeps :
 next-keeps {A = A} {n = n} {Good = Good} {Last = Last} {work = work} {next = next} w h = record { kept = λ P k more. go P more (work P) (w .kept P k more) }
   where
     go : (P : Pool) → n ≤ P .count → (x : Result A) → KeptAs Good P x → KeptAs Last P (bind x next)
-    go P more (gives x Q) k =
+    go P more (done x Q) k =
         let grown : P .count ≤ Q .count = k .grown .no-fewer in
         kept-from Last (k .grown) (next x Q) (h (Q .count) x (omega arith) (k .good) .kept Q (k .keeps) (le-refl (Q .count)))
-    go P more (refused-work r) k = tt
+    go P more (refused r) k = tt
 
 -- less said of the answer
 pub said-as : {A : Type 0} {n : ℕ} {Good Said : ℕ → A → Type 0} {work : Work A} → ((m : ℕ) (x : A) → Good m x → Said m x) → Keeping n Good work → Keeping n Said work
 said-as {A = A} {Good = Good} {Said = Said} {work = work} h w = record { kept = λ P k more. go P (work P) (w .kept P k more) }
   where
     go : (P : Pool) (x : Result A) → KeptAs Good P x → KeptAs Said P x
-    go P (gives x Q) k = record { grown = k .grown; keeps = k .keeps; good = h (Q .count) x (k .good) }
-    go P (refused-work r) k = tt
+    go P (done x Q) k = record { grown = k .grown; keeps = k .keeps; good = h (Q .count) x (k .good) }
+    go P (refused r) k = tt
 
 -- ---- constructors and literals
 

@@ -4,10 +4,10 @@ use mathlib.Core.Path.{_≡_}
 use Prim.Native.Nat.{ℕ, suc, _^_, min, _≤_, _<_}
 use native.Mathlib.Nat.{le-refl}
 use Rattle.pool.specs.Nodes.{greatestVariable}
-use Rattle.pool.specs.Pool.{Pool}
+use Rattle.pool.specs.Pool.{Pool, done, refused}
 use Rattle.constructor_laws.specs.Keeps.{Keeps}
 use Rattle.constructor_laws.proofs.Rules.{all-below, below-all}
-use Rattle.taylor.specs.Work.{Result, gives, refused-work, Work}
+use Rattle.taylor.specs.Work.{Result, Work}
 use Rattle.taylor.specs.Expansion.{Expansion, order, var, coeff, derivative, addTo, negate, subFrom, times, quotient, exponential, logarithm, power, maximum, subst}
 use Rattle.taylor.specs.Expand.{Point, expand}
 use Rattle.taylor_base.specs.Answers.{terms}
@@ -28,15 +28,15 @@ module _ {P : Pool} (keeps : Keeps P) where
   series-kept {k} work w = go (work P) (w .kept P keeps (le-refl (P .count)))
     where
       go : (r : Result Expansion) → KeptAs (Series k) P r → KeptBy P (λ j. j ≡ k) r
-      go (gives e Q) s = record { grown = s .grown; keeps = s .keeps; fits = fits e (s .good .within); order = s .good .order }
-      go (refused-work q) s = tt
+      go (done e Q) s = record { grown = s .grown; keeps = s .keeps; fits = fits e (s .good .within); order = s .good .order }
+      go (refused q) s = tt
 
   node-kept : (work : Work ℕ) → Keeping (P .count) Node work → NodeKeptBy P (work P)
   node-kept work w = go (work P) (w .kept P keeps (le-refl (P .count)))
     where
       go : (r : Result ℕ) → KeptAs Node P r → NodeKeptBy P r
-      go (gives i Q) s = record { grown = s .grown; keeps = s .keeps; there = s .good }
-      go (refused-work q) s = tt
+      go (done i Q) s = record { grown = s .grown; keeps = s .keeps; there = s .good }
+      go (refused q) s = tt
 
   pub var-kept : (x order : ℕ) → x < P .count → order < terms → KeptBy P (λ j. j ≡ suc order) (var x order P)
   var-kept x order lx l = series-kept (var x order) (var-keeps x order lx l)
@@ -86,5 +86,5 @@ module _ {P : Pool} (keeps : Keeps P) where
   expand-kept root v x order lr lv lo = go (expand root v x order P) (expand-comes order lo v x lv root keeps lr)
     where
       go : (r : Result Expansion) → KeptAs (Come order lo) P r → KeptBy P (ExpandedOrder order) r
-      go (gives e Q) s = record { grown = s .grown; keeps = s .keeps; fits = fits e (s .good .within); order = s .good .size }
-      go (refused-work q) s = tt
+      go (done e Q) s = record { grown = s .grown; keeps = s .keeps; fits = fits e (s .good .within); order = s .good .size }
+      go (refused q) s = tt

@@ -7,11 +7,11 @@ use mathlib.Core.List.{List, [], _∷_}
 use Prim.Native.Nat.{ℕ, zero, suc, _≤_}
 use lib.ListN.{length}
 use Rattle.pool.specs.Nodes.{allBelow}
-use Rattle.pool.specs.Pool.{Pool}
+use Rattle.pool.specs.Pool.{Pool, done, refused}
 use Rattle.constructor_laws.specs.Grown.{Grown}
 use Rattle.constructor_laws.specs.Keeps.{Keeps}
 use Rattle.constructor_laws.specs.Keeps as nodes
-use Rattle.taylor.specs.Work.{Result, gives, refused-work}
+use Rattle.taylor.specs.Work.{Result}
 use Rattle.taylor.specs.Expansion.{Expansion, Constant, Polynomial, order, endless}
 use Rattle.taylor_base.specs.Answers.{terms}
 
@@ -33,13 +33,13 @@ pub record Kept (P : Pool) (Order : ℕ → Type 0) (e : Expansion) (Q : Pool) :
   pub order : Order (order e)
 
 abbrev pub KeptBy : Pool → (ℕ → Type 0) → Result Expansion → Type 0
-KeptBy P Order (gives e Q) = Kept P Order e Q
-KeptBy P Order (refused-work r) = Unit {0}
+KeptBy P Order (done e Q) = Kept P Order e Q
+KeptBy P Order (refused r) = Unit {0}
 
 -- the same of work that answers a node
 abbrev pub NodeKeptBy : Pool → Result ℕ → Type 0
-NodeKeptBy P (gives i Q) = nodes.Kept P i Q
-NodeKeptBy P (refused-work r) = Unit {0}
+NodeKeptBy P (done i Q) = nodes.Kept P i Q
+NodeKeptBy P (refused r) = Unit {0}
 
 -- pow: at exponent 0 the constant 1, else as long as the base
 abbrev pub powerOrder : Expansion → ℕ → ℕ

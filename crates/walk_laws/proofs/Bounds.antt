@@ -9,7 +9,8 @@ use native.Mathlib.Omega.{arith}
 use lib.ListN.{getD}
 use borrow.Author.Tests.{eq-eqb, ne-eqb}
 use Rattle.refusals.specs.Refusals.{brokenPool}
-use Rattle.walks.specs.Walk.{State, refused-walk, Walk, once, walkBelow}
+use Rattle.pool.specs.Pool.{refused}
+use Rattle.walks.specs.Walk.{State, Walk, once, walkBelow}
 
 module _ (visit : (ℕ → Walk) → ℕ → Walk) (S : State) where
   here : (i : ℕ) → walkBelow visit (suc i) i S ≡ once (visit (walkBelow visit i)) i (getD (S .kept) i 0) S
@@ -43,7 +44,7 @@ module _ (visit : (ℕ → Walk) → ℕ → Walk) (S : State) where
   below k a h = rw (add-one a) (same-below k a h)
 
   -- a part that is not
-  pub above : (k a : ℕ) → k ≤ a → refused-walk brokenPool ≡ walkBelow visit k a S
+  pub above : (k a : ℕ) → k ≤ a → refused brokenPool ≡ walkBelow visit k a S
   unfolding walkBelow
   above zero a h = refl
   above (suc k) a h = rw (ne-eqb a k (other a k h)) (above k a (less a k h))

@@ -8,7 +8,7 @@ use Rattle.pool.specs.Pool.{Pool, Out, done, refused, Run, limit}
 use Rattle.constructor_laws.specs.Grown as pools
 use Rattle.constructor_laws.proofs.Growth as runs
 use Rattle.constructor_laws.proofs.Growth.{grown-by-nothing, grown-by-both}
-use Rattle.walks.specs.Walk.{State, state, Went, went, refused-walk, Walk, bind, yield, refuse, lifted, lift, keep, once, walkBelow, built, walkFrom}
+use Rattle.walks.specs.Walk.{State, state, Went, Walk, bind, yield, refuse, lifted, lift, keep, once, walkBelow, built, walkFrom}
 use Rattle.walk_laws.specs.Promised.{Grows}
 
 -- a walk that only appends, from any state
@@ -17,12 +17,12 @@ pub record Growing (walk : Walk) : Type 0 where
 
 -- what grows from a grown pool grows from the first
 grows-from : (S T : State) → pools.Grown (S .pool) (T .pool) → (w : Went) → Grows T w → Grows S w
-grows-from S T g (went i U) h = grown-by-both g h
-grows-from S T g (refused-walk k) h = tt
+grows-from S T g (done i U) h = grown-by-both g h
+grows-from S T g (refused k) h = tt
 
 bind-grows : (S : State) (w : Went) {next : ℕ → Walk} → Grows S w → ((i : ℕ) → Growing (next i)) → Grows S (bind w next)
-bind-grows S (went i T) {next} g h = grows-from S T g (next i T) (h i .grows T)
-bind-grows S (refused-walk k) g h = tt
+bind-grows S (done i T) {next} g h = grows-from S T g (next i T) (h i .grows T)
+bind-grows S (refused k) g h = tt
 
 -- one step after the other, so that a proof is the same `do` block as the walk
 infixl 1 _>>=_
@@ -70,8 +70,8 @@ module _ {visit : (ℕ → Walk) → ℕ → Walk} (at : GrowsAt visit) where
   walk-below-grows (suc k) i = more-grows k (walk-below-grows k) i
 
   built-grows : (S : State) (w : Went) → Grows S w → pools.Grows (S .pool) (built w)
-  built-grows S (went i T) g = g
-  built-grows S (refused-walk k) g = tt
+  built-grows S (done i T) g = g
+  built-grows S (refused k) g = tt
 
   -- a whole walk
   pub walk-grows : (root : ℕ) → runs.Growing (walkFrom visit root)

@@ -15,7 +15,7 @@ use Rattle.constructor_laws.specs.Keeps.{Keeps}
 use Rattle.constructor_laws.specs.Keeps as pools
 use Rattle.constructor_laws.proofs.Growth.{grown-by-nothing, grown-by-both}
 use Rattle.constructor_laws.proofs.Keeping as runs
-use Rattle.walks.specs.Walk.{State, state, Went, went, refused-walk, Walk, bind, yield, refuse, lifted, lift, keep, once, walkBelow, built, walkFrom}
+use Rattle.walks.specs.Walk.{State, state, Went, Walk, bind, yield, refuse, lifted, lift, keep, once, walkBelow, built, walkFrom}
 use Rattle.walk_laws.specs.Promised.{Rightful, Walked, KeptBy}
 
 -- a walk that keeps the rules of every pool with n nodes or more
@@ -24,9 +24,9 @@ pub record Keeping (n : ℕ) (walk : Walk) : Type 0 where
 
 -- what is kept from the grown pool on is kept from the first on
 kept-from : (S T : State) → Grown (S .pool) (T .pool) → (w : Went) → KeptBy T w → KeptBy S w
-kept-from S T g (went i U) k =
+kept-from S T g (done i U) k =
     record { kept = record { grown = grown-by-both g (k .kept .grown); keeps = k .kept .keeps; there = k .kept .there }; results = k .results }
-kept-from S T g (refused-walk r) k = tt
+kept-from S T g (refused r) k = tt
 
 -- a node of the pool as it is
 stays : {S : State} {i : ℕ} → Rightful S → i < S .pool .count → Walked S i S
@@ -43,10 +43,10 @@ pub next-keeps : {n : ℕ} {walk : Walk} {next : ℕ → Walk} → Keeping n wal
 next-keeps {n} {walk} {next} first then = record { kept = λ S r more. go S more (walk S) (first .kept S r more) }
   where
     go : (S : State) → n ≤ S .pool .count → (w : Went) → KeptBy S w → KeptBy S (bind w next)
-    go S more (went a T) k =
+    go S more (done a T) k =
         let grown : S .pool .count ≤ T .pool .count = k .kept .grown .no-fewer in
         kept-from S T (k .kept .grown) (next a T) (then (T .pool .count) a (omega arith) (k .kept .there) .kept T (record { keeps = k .kept .keeps; results = k .results }) (le-refl (T .pool .count)))
-    go S more (refused-walk r) k = tt
+    go S more (refused r) k = tt
 
 lifted-kept : (S : State) → Rightful S → (o : Out) → pools.KeptBy (S .pool) o → KeptBy S (lifted (S .kept) o)
 lifted-kept S r (done i P) k = record { kept = k; results = λ j. omega (arith, r .results j, k .grown .no-fewer) }
@@ -123,8 +123,8 @@ module _ {n₀ : ℕ} {visit : (ℕ → Walk) → ℕ → Walk} (at : KeepsAt n�
   walk-below-keeps (suc k) m i more h = more-keeps k (walk-below-keeps k) m i more h
 
   built-kept : (S : State) (w : Went) → KeptBy S w → pools.KeptBy (S .pool) (built w)
-  built-kept S (went i T) k = k .kept
-  built-kept S (refused-walk r) k = tt
+  built-kept S (done i T) k = k .kept
+  built-kept S (refused r) k = tt
 
   -- a whole walk
   pub walk-kept : {P : Pool} (root : ℕ) → Keeps P → n₀ ≤ P .count → root < P .count → pools.KeptBy P (walkFrom visit root P)

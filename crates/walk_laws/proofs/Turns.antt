@@ -11,8 +11,8 @@ use Rattle.refusals.specs.Refusals.{brokenPool}
 use Rattle.pool.specs.Nodes.{half}
 use Rattle.pool.specs.declared.node.Node.{Node}
 use Rattle.pool.specs.declared.node.Node.the-variants.{Empty}
-use Rattle.pool.specs.Pool.{Pool, Out, refused, limit, nodeIn, nodeAt}
-use Rattle.walks.specs.Walk.{State, state, Went, went, refused-walk, Walk, bind, lifted, keep, once, walkBelow, built, walkFrom}
+use Rattle.pool.specs.Pool.{Pool, Out, refused, limit, nodeIn, nodeAt, done}
+use Rattle.walks.specs.Walk.{State, state, Went, Walk, bind, lifted, keep, once, walkBelow, built, walkFrom}
 use Rattle.walk_laws.specs.Walked.{resultOf, resultsOf}
 use Rattle.walk_laws.proofs.Steps.{built-lifted}
 use Rattle.walk_laws.proofs.Bounds.{walk-here}
@@ -30,7 +30,7 @@ module _ (visit : (ℕ → Walk) → ℕ → Walk) where
         walk-here visit (state P (resultsOf kept)) i ∙ ap (λ (w : ℕ). once (visit (walkBelow visit i)) i w (state P (resultsOf kept))) (result-read kept i ∙ ap resultOf e)
 
     -- a result that was kept is given again
-    pub given-again : getD kept i 0 ≢ 0 → went ((getD kept i 0 - 1) % half) (state P (resultsOf kept)) ≡ walkBelow visit (i + 1) i (state P (resultsOf kept))
+    pub given-again : getD kept i 0 ≢ 0 → done ((getD kept i 0 - 1) % half) (state P (resultsOf kept)) ≡ walkBelow visit (i + 1) i (state P (resultsOf kept))
     given-again n =
         sym (at-word refl ∙ ap (λ (w : ℕ). once (visit (walkBelow visit i)) i w (state P (resultsOf kept))) (result-there (getD kept i 0) n))
 
@@ -44,8 +44,8 @@ module _ (visit : (ℕ → Walk) → ℕ → Walk) where
       sym (built-lifted kept o) ∙ ap built h ∙ ap (λ (l : List ℕ). built (walkBelow visit (root + 1) root (state P l))) (none-kept limit) ∙ ap (λ (k : ℕ). built (walkBelow visit k root (state P (replicate limit 0)))) (add-one root)
 
 -- the new result in the table
-pub kept-now : {P : Pool} (kept : List ℕ) (i r : ℕ) → r < half → went r (state P (resultsOf (set kept i (r + 1)))) ≡ keep i r (state P (resultsOf kept))
-kept-now {P} kept i r h = ap (λ (l : List ℕ). went r (state P l)) (result-written kept i r h)
+pub kept-now : {P : Pool} (kept : List ℕ) (i r : ℕ) → r < half → done r (state P (resultsOf (set kept i (r + 1)))) ≡ keep i r (state P (resultsOf kept))
+kept-now {P} kept i r h = ap (λ (l : List ℕ). done r (state P l)) (result-written kept i r h)
 
 -- what is done at a node goes by the node that stands there
 module _ (node : (ℕ → Walk) → ℕ → Node → Walk) where
@@ -58,11 +58,11 @@ module _ (node : (ℕ → Walk) → ℕ → Node → Walk) where
   visit down term S = node down term (nodeAt (S .pool) term) S
 
   -- a walk from a number past the tables comes to no node
-  pub nowhere : (P : Pool) (root : ℕ) → limit ≤ root → ((down : ℕ → Walk) (S : State) → node down root Empty S ≡ refused-walk brokenPool) → refused brokenPool ≡ walkFrom visit root P
+  pub nowhere : (P : Pool) (root : ℕ) → limit ≤ root → ((down : ℕ → Walk) (S : State) → node down root Empty S ≡ refused brokenPool) → refused brokenPool ≡ walkFrom visit root P
   nowhere P root past refuses =
       let none : _≡_ {A = ℕ} (getD (replicate limit 0) root 0) 0 = List·getD-eq-default (replicate limit 0) 0 {n = root} (rw (length-replicate {A = ℕ} limit 0) past) in
       let S = state P (replicate limit 0) in
-      let refused-here : refused-walk brokenPool ≡ visit (walkBelow visit root) root S = by-kind (walkBelow visit root) root S refl (no-node (P .kinds) (P .words) root past) (sym (refuses (walkBelow visit root) S)) in
+      let refused-here : refused brokenPool ≡ visit (walkBelow visit root) root S = by-kind (walkBelow visit root) root S refl (no-node (P .kinds) (P .words) root past) (sym (refuses (walkBelow visit root) S)) in
       ap built
       (ap (λ (w : Went). bind w (keep root)) refused-here
       ∙ sym (ap (λ (w : ℕ). once (visit (walkBelow visit root)) root w S) none)

@@ -2,14 +2,15 @@
 -- Assumes nothing.
 use Prim.Native.Nat.{ℕ, _≤_}
 use lib.ListN.{getD}
+use Rattle.pool.specs.Pool.{done, refused}
 use Rattle.constructor_laws.specs.Grown.{Grown}
 use Rattle.constructor_laws.specs.Keeps.{Keeps, Kept}
-use Rattle.walks.specs.Walk.{State, Went, went, refused-walk}
+use Rattle.walks.specs.Walk.{State, Went}
 
 -- the pool that an accepted walk leaves has grown from the one that it found
 abbrev pub Grows : State → Went → Type 0
-Grows S (went i T) = Grown (S .pool) (T .pool)
-Grows S (refused-walk k) = Unit {0}
+Grows S (done i T) = Grown (S .pool) (T .pool)
+Grows S (refused k) = Unit {0}
 
 -- every result that is kept is a node of the pool
 abbrev pub Results : State → Type 0
@@ -26,5 +27,5 @@ pub record Walked (S : State) (i : ℕ) (T : State) : Type 0 where
   pub results : Results T
 
 abbrev pub KeptBy : State → Went → Type 0
-KeptBy S (went i T) = Walked S i T
-KeptBy S (refused-walk k) = Unit {0}
+KeptBy S (done i T) = Walked S i T
+KeptBy S (refused k) = Unit {0}

@@ -8,11 +8,11 @@ use native.Mathlib.Omega.{arith}
 use lib.Dec.{eqb}
 use lib.ListN.{getD, set, replicate}
 use borrow.Author.Tests.{eqb-true}
-use Rattle.pool.specs.Pool.{Pool, Out, Run, limit, nodeAt}
+use Rattle.pool.specs.Pool.{Pool, Out, Run, limit, nodeAt, done, refused}
 use Rattle.constructor_laws.specs.Grown.{Grown}
 use Rattle.constructor_laws.specs.Keeps.{Keeps}
 use Rattle.constructor_laws.proofs.Growth.{grown-by-nothing, grown-by-both}
-use Rattle.walks.specs.Walk.{State, state, Went, went, refused-walk, Walk, bind, lifted, lift, keep, once, walkBelow, built, walkFrom}
+use Rattle.walks.specs.Walk.{State, state, Went, Walk, bind, lifted, lift, keep, once, walkBelow, built, walkFrom}
 use Rattle.meaning.specs.Model.{Algebra, Model}
 use Rattle.meaning.specs.Value.{Values, value}
 use Rattle.meaning.proofs.Values.{value-kept}
@@ -46,8 +46,8 @@ module _ {A : Algebra} (M : Model A) (env : Values A) where
 
     -- a walk from S that was refused, or came to a node of the value x
     pub data Walked (S : State) (x : carrier) : Went → Type 0 where
-      came-to : {r : ℕ} {T : State} → Good T → Grown (S .pool) (T .pool) → r < T .pool .count → val (T .pool) r ≡ x → Walked S x (went r T)
-      ended-walk : {k : ℕ} → Walked S x (refused-walk k)
+      came-to : {r : ℕ} {T : State} → Good T → Grown (S .pool) (T .pool) → r < T .pool .count → val (T .pool) r ≡ x → Walked S x (done r T)
+      ended-walk : {k : ℕ} → Walked S x (refused k)
 
     pub walked-from : {S T : State} {x : carrier} {w : Went} → Grown (S .pool) (T .pool) → Walked T x w → Walked S x w
     walked-from g (came-to good h l e) = came-to good (grown-by-both g h) l e
@@ -62,7 +62,7 @@ module _ {A : Algebra} (M : Model A) (env : Values A) where
     walked-next (came-to {r} {T} good g l e) go = walked-from g (go r T good g l e)
     walked-next ended-walk go = ended-walk
 
-    pub walked-here : {S : State} {x : carrier} {i : ℕ} → Good S → i < S .pool .count → val (S .pool) i ≡ x → Walked S x (went i S)
+    pub walked-here : {S : State} {x : carrier} {i : ℕ} → Good S → i < S .pool .count → val (S .pool) i ≡ x → Walked S x (done i S)
     walked-here {S} good l e = came-to good (grown-by-nothing (S .pool)) l e
 
     -- in a grown pool a kept result stays right

@@ -4,7 +4,7 @@ use borrow.Author.Needs.{needs}
 use mathlib.Core.Path.{refl, ap, _∙_}
 use native.Mathlib.Omega.{arith}
 use Prim.Native.Nat.{ℕ}
-use Rattle.taylor.specs.Work.{gives}
+use Rattle.pool.specs.Pool.{done}
 use Rattle.taylor_base.proofs.Operations.{coeff-behind}
 use Rattle.pool.specs.Made.{poolOf}
 use Rattle.taylor_base.proofs.sums.coeff_in.Statement.{statement}
@@ -29,7 +29,7 @@ at-requires : tie.Need-at-requires
 at-requires c κs = (c .before .pre .1 .below (c .if1 .left), c .before .pre .0 .most (c .if1 .left))
 
 returns-3 : tie.Need-returns-3
-returns-3 c = rw (c .before .if1 .left) (ap (λ (n : ℕ). gives n (poolOf (c .before .before .args .kinds .now) (c .before .before .args .words .now) (c .before .before .args .room))) (c .at .ensures))
+returns-3 c = rw (c .before .if1 .left) (ap (λ (n : ℕ). done n (poolOf (c .before .before .args .kinds .now) (c .before .before .args .words .now) (c .before .before .args .room))) (c .at .ensures))
 
 pub coeff-in-spec : {M : Type 1} → statement M
 coeff-in-spec =
