@@ -16,11 +16,12 @@ use Rattle.literal.specs.declared.Folded.the-variants.{Value, Refused}
 use Rattle.pool.specs.declared.node.Node.{Node}
 use Rattle.pool.specs.declared.node.Node.the-variants as node
 use Rattle.pool.specs.Nodes.{kindOf, wordOf, greatestExponent}
-use Rattle.pool.specs.Pool.{Pool, pool, Out, done, refused, Run, bind, yield, refuse, append, limit, nodeAt, nodeIn}
+use Rattle.pool.specs.Pool.{Pool, pool, Out, Result, done, refused, Work, Run, bind, yield, refuse, append, limit, nodeAt, nodeIn}
 use Rattle.constructors.specs.Terms.{Term, #, lit, lit-exp, lit-log, add, mul, exp, log, pow, Add, Mul, Div, Max, Exp, Log, Pow}
 use Rattle.constructors.specs.Tables.{addTable, mulTable, divTable, negTable, expTable, logTable, powTable, maxTable}
 use Rattle.constructors.specs.Build.{Calls, literal, exponent, build, noCalls, deeper, calls}
 use Rattle.constructor_laws.specs.Grown.{SameBut, Grown, Grows}
+use Rattle.constructor_laws.proofs.Going.{Going, Ways, goes-from, bind-goes, then-goes, yield-goes, refuse-goes}
 
 -- ---- one table
 
@@ -86,31 +87,31 @@ earlier-same g i h = rw (same-entry i h (g .kinds), same-entry i h (g .words))
 -- ---- pieces of work
 
 -- work that only appends, on any pool
-pub record Growing (run : Run) : Type 0 where
-  pub grows : (P : Pool) → Grows P (run P)
+abbrev pub Growing : {A : Type 0} → Work A → Type 0
+Growing work = Going Grown work
+
+pub grown-ways : Ways Grown
+grown-ways = record { by-nothing = grown-by-nothing; by-both = grown-by-both }
 
 pub accepted-grown : {P Q : Pool} {i : ℕ} {o : Out} → Grows P o → o ≡ done i Q → Grown P Q
 accepted-grown {P} g e = subst (Grows P) e g
 
--- what grows from the grown pool grows from the first
-pub grows-from : {P Q : Pool} → Grown P Q → (o : Out) → Grows Q o → Grows P o
-grows-from g (done i R) h = grown-by-both g h
-grows-from g (refused k) h = tt
+pub grows-from : {A : Type 0} {P Q : Pool} → Grown P Q → (o : Result Pool A) → Grows Q o → Grows P o
+grows-from g o h = goes-from grown-ways g o h
 
-pub bind-grows : (P : Pool) (o : Out) {next : ℕ → Run} → Grows P o → ((i : ℕ) → Growing (next i)) → Grows P (bind o next)
-bind-grows P (done i Q) {next} g h = grows-from g (next i Q) (h i .grows Q)
-bind-grows P (refused k) g h = tt
+pub bind-grows : {A B : Type 0} (P : Pool) (o : Result Pool A) {next : A → Work B} → Grows P o → ((v : A) → Growing (next v)) → Grows P (bind o next)
+bind-grows P o g h = bind-goes grown-ways P o g h
 
 -- one piece of work after the other, so that a proof is the same `do` block as the work
 infixl 1 _>>=_
-pub _>>=_ : {run : Run} {next : ℕ → Run} → Growing run → ((i : ℕ) → Growing (next i)) → Growing (λ P. bind (run P) next)
-_>>=_ {run} {next} g h = record { grows = λ P. bind-grows P (run P) (g .grows P) h }
+pub _>>=_ : {A B : Type 0} {work : Work A} {next : A → Work B} → Growing work → ((v : A) → Growing (next v)) → Growing (λ P. bind (work P) next)
+g >>= h = then-goes grown-ways g h
 
-pub yield-grows : (i : ℕ) → Growing (yield i)
-yield-grows i = record { grows = grown-by-nothing }
+pub yield-grows : {A : Type 0} (v : A) → Growing (yield v)
+yield-grows v = yield-goes grown-ways v
 
-pub refuse-grows : (k : ℕ) → Growing (refuse k)
-refuse-grows k = record { grows = λ P. tt }
+pub refuse-grows : {A : Type 0} (k : ℕ) → Growing (refuse {A = A} k)
+refuse-grows k = refuse-goes k
 
 -- the pool with one node more
 abbrev pub appended : Node → Pool → Pool

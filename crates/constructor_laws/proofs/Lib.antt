@@ -1,3 +1,4 @@
+pub mod Going
 pub mod Growth
 pub mod Rules
 pub mod Coding

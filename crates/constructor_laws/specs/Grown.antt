@@ -4,7 +4,7 @@ use mathlib.Core.Path.{_≡_}
 use mathlib.Core.List.{List}
 use Prim.Native.Nat.{ℕ, _≤_}
 use lib.ListN.{length, take, drop}
-use Rattle.pool.specs.Pool.{Pool, Out, done, refused, limit}
+use Rattle.pool.specs.Pool.{Pool, Result, done, refused, limit}
 
 -- two tables have the same length and the same entries, but perhaps for those from `first` up to, not including, `last`
 pub record SameBut (first last : ℕ) (old new : List ℕ) : Type 0 where
@@ -20,7 +20,11 @@ pub record Grown (P Q : Pool) : Type 0 where
   pub end : Q .end ≡ P .end
   pub within : P .count ≤ limit → Q .count ≤ limit
 
+-- the state that accepted work leaves stands in R to the one that it found
+abbrev pub Goes : {S A : Type 0} → (S → S → Type 0) → S → Result S A → Type 0
+Goes R s (done x t) = R s t
+Goes R s (refused k) = Unit {0}
+
 -- the pool that an accepted answer leaves has grown from P
-abbrev pub Grows : Pool → Out → Type 0
-Grows P (done i Q) = Grown P Q
-Grows P (refused k) = Unit {0}
+abbrev pub Grows : {A : Type 0} → Pool → Result Pool A → Type 0
+Grows P r = Goes Grown P r

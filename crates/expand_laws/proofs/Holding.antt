@@ -13,6 +13,8 @@ use Rattle.refusals.specs.Refusals.{brokenPool, maxReached}
 use Rattle.pool.specs.declared.node.Node.{Node}
 use Rattle.pool.specs.declared.node.Node.the-variants.{Empty, Variable, Lit, Add, Mul, Div, Exp, Log, Pow, Max}
 use Rattle.pool.specs.Pool.{nodeAt, done, refused}
+use Rattle.constructor_laws.specs.Grown.{Goes}
+use Rattle.constructor_laws.proofs.Going.{Going, Ways, goes-from, then-goes, yield-goes, refuse-goes}
 use Rattle.taylor.specs.Work.{Result, Work}
 use Rattle.taylor.specs.Work as work
 use Rattle.taylor.specs.Expansion.{Expansion, Constant, var, addTo, times, quotient, exponential, logarithm, power}
@@ -30,31 +32,25 @@ pub held-by-both : {S T U : State} → Held S T → Held T U → Held S U
 held-by-both g h = record { long = h .long ∙ g .long; stays = λ j d k. h .stays j d (g .stays j d k) }
 
 abbrev Holds : State → Went → Type 0
-Holds S (done e T) = Held S T
-Holds S (refused k) = Unit {0}
+Holds S w = Goes Held S w
 
 -- a walk that holds on to what is kept, from any state
-record Holding (walk : Walk) : Type 0 where
-  pub holds : (S : State) → Holds S (walk S)
+abbrev Holding : Walk → Type 0
+Holding walk = Going Held walk
 
-holds-from : (S T : State) → Held S T → (w : Went) → Holds T w → Holds S w
-holds-from S T g (done e U) h = held-by-both g h
-holds-from S T g (refused k) h = tt
-
-bind-holds : (S : State) (w : Went) {next : Expansion → Walk} → Holds S w → ((e : Expansion) → Holding (next e)) → Holds S (bind w next)
-bind-holds S (done e T) {next} g h = holds-from S T g (next e T) (h e .holds T)
-bind-holds S (refused k) g h = tt
+held-ways : Ways Held
+held-ways = record { by-nothing = held-by-nothing; by-both = held-by-both }
 
 -- one step after the other, so that a proof is the same `do` block as the walk
 infixl 1 _>>=_
 _>>=_ : {walk : Walk} {next : Expansion → Walk} → Holding walk → ((e : Expansion) → Holding (next e)) → Holding (λ S. bind (walk S) next)
-_>>=_ {walk} {next} g h = record { holds = λ S. bind-holds S (walk S) (g .holds S) h }
+g >>= h = then-goes held-ways g h
 
 yield-holds : (e : Expansion) → Holding (yield e)
-yield-holds e = record { holds = λ S. held-by-nothing S }
+yield-holds e = yield-goes held-ways e
 
 refuse-holds : (k : ℕ) → Holding (refuse k)
-refuse-holds k = record { holds = λ S. tt }
+refuse-holds k = refuse-goes k
 
 lifted-holds : (S : State) (r : Result Expansion) → Holds S (lifted (S .results) r)
 lifted-holds S (done e P) = record { long = refl; stays = λ j d h. h }
@@ -62,7 +58,7 @@ lifted-holds S (refused k) = tt
 
 -- an operation knows the pool alone
 lift-holds : (work : Work Expansion) → Holding (lift work)
-lift-holds work = record { holds = λ S. lifted-holds S (work (S .pool)) }
+lift-holds work = record { grows = λ S. lifted-holds S (work (S .pool)) }
 
 module _ (v : ℕ) (x : Point) (order : ℕ) where
   leaf-holds : (sought : Bool) (term : ℕ) → Holding (ofVariable sought term v x order)
@@ -98,7 +94,7 @@ module _ (v : ℕ) (x : Point) (order : ℕ) where
     node-holds (Max a b) = refuse-holds maxReached
 
   at-holds : {down : ℕ → Walk} → ((i : ℕ) → Holding (down i)) → (i : ℕ) → Holding (expandAt v x order down i)
-  at-holds g i = record { holds = λ S. node-holds g i (nodeAt (S .pool) i) .holds S }
+  at-holds g i = record { grows = λ S. node-holds g i (nodeAt (S .pool) i) .grows S }
 
 -- a walk below the bound k from node i came to the expansion e: it is kept for the node
 pub record Came (S : State) (k i : ℕ) (e : Expansion) (T : State) : Type 0 where
@@ -141,7 +137,7 @@ module _ (S : State) (k : ℕ) where
   kept-comes empty (refused n) h = tt
 
   once-comes : (visit : ℕ → Walk) → Holding (visit k) → (r : Kept) → getD (S .results) k nothing ≡ r → Comes S (suc k) k (once visit k r S)
-  once-comes visit g nothing e = kept-comes e (visit k S) (g .holds S)
+  once-comes visit g nothing e = kept-comes e (visit k S) (g .grows S)
   once-comes visit g (kept d) e = record { below = omega arith; held = held-by-nothing S; there = λ l. e }
 
 module _ (v : ℕ) (x : Point) (order : ℕ) where
@@ -151,7 +147,7 @@ module _ (v : ℕ) (x : Point) (order : ℕ) where
   more-comes k less i S = go (ℕ-discrete i k)
     where
       down-holds : (i : ℕ) → Holding (expandBelow v x order k i)
-      down-holds i = record { holds = λ S. comes-holds S k i (expandBelow v x order k i S) (less i S) }
+      down-holds i = record { grows = λ S. comes-holds S k i (expandBelow v x order k i S) (less i S) }
 
       go : Dec (i ≡ k) → Comes S (suc k) i (expandBelow v x order (suc k) i S)
       go (yes e) = rw (e, eq-eqb k k refl) (once-comes S k (expandAt v x order (expandBelow v x order k)) (at-holds v x order down-holds k) (getD (S .results) k nothing) refl)

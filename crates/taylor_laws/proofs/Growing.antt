@@ -13,63 +13,32 @@ use Rattle.pool.specs.declared.node.Node.{Node}
 use Rattle.pool.specs.declared.node.Node.the-variants.{Empty, Variable, Lit, Add, Mul, Div, Exp, Log, Pow, Max}
 use Rattle.constructors.specs.Build.{depth}
 use Rattle.constructor_laws.specs.Grown.{Grown}
-use Rattle.constructor_laws.specs.Grown as plain
-use Rattle.constructor_laws.proofs.Growth.{grown-by-nothing, grown-by-both, literal-grows, append-grows, calls-grow}
-use Rattle.constructor_laws.proofs.Growth as growth
+pub use Rattle.constructor_laws.proofs.Growth.{Growing}
+use Rattle.constructor_laws.proofs.Growth.{_>>=_, yield-grows, refuse-grows, grown-by-nothing, grown-by-both, literal-grows, append-grows, calls-grow}
 use Rattle.taylor.specs.Work.{Result, Work, bind, yield, refuse, answered, node, lit, from, add, mul, div, neg, sub, at, each, eachTwo, fold, fill}
 use Rattle.taylor.specs.Expansion.{Expansion, Constant, Polynomial, polynomial, constant, first, varCoeffs, var, coeff, derivative, addTo, negate, subFrom, productAt, times, quotientAt, quotient, expTerm, expAt, exponential, logTerm, logAt, logarithm, when, powFrom, power, maximum, horner, subst}
 use Rattle.taylor.specs.Expand.{Kept, State, state, Went, Walk, lifted, lift, keep, once, choose, Point, none, point, pointNode, ofVariable, expandNode, expandAt, expandBelow, expanded, expand}
 use Rattle.taylor.specs.Expand as walk
 use Rattle.taylor_laws.specs.Grown.{Grows}
 
--- work that only appends, on any pool
-pub record Growing {A : Type 0} (work : Work A) : Type 0 where
-  pub grows : (P : Pool) → Grows P (work P)
-
-grows-from : {A : Type 0} {P Q : Pool} → Grown P Q → (x : Result A) → Grows Q x → Grows P x
-grows-from g (done x R) h = grown-by-both g h
-grows-from g (refused k) h = tt
-
-bind-grows : {A B : Type 0} (P : Pool) (x : Result A) {next : A → Work B} → Grows P x → ((v : A) → Growing (next v)) → Grows P (bind x next)
-bind-grows P (done v Q) {next} g h = grows-from g (next v Q) (h v .grows Q)
-bind-grows P (refused k) g h = tt
-
--- one step after the other, so that a proof is the same `do` block as the work
-infixl 1 _>>=_
-_>>=_ : {A B : Type 0} {work : Work A} {next : A → Work B} → Growing work → ((v : A) → Growing (next v)) → Growing (λ P. bind (work P) next)
-_>>=_ {work = work} g h = record { grows = λ P. bind-grows P (work P) (g .grows P) h }
-
-yield-grows : {A : Type 0} (v : A) → Growing (yield v)
-yield-grows v = record { grows = λ P. grown-by-nothing P }
-
-refuse-grows : {A : Type 0} (k : ℕ) → Growing (refuse {A = A} k)
-refuse-grows k = record { grows = λ P. tt }
-
 -- ---- constructors and literals
-node-grows : {run : Run} → growth.Growing run → Growing (node run)
-node-grows {run} g = record { grows = λ P. go P (run P) (g .grows P) }
-  where
-    go : (P : Pool) (o : Out) → plain.Grows P o → Grows P (answered o)
-    go P (done i Q) h = h
-    go P (refused k) h = tt
-
 lit-grows : (z : ℤ) → Growing (lit z)
-lit-grows z = node-grows (literal-grows (folded z))
+lit-grows z = (literal-grows (folded z))
 
 from-grows : (n : ℕ) → Growing (from n)
 from-grows n = lit-grows (pos n)
 
 add-grows : (a b : ℕ) → Growing (add a b)
-add-grows a b = node-grows (calls-grow depth .add-at a b)
+add-grows a b = (calls-grow depth .add-at a b)
 
 mul-grows : (a b : ℕ) → Growing (mul a b)
-mul-grows a b = node-grows (calls-grow depth .mul-at a b)
+mul-grows a b = (calls-grow depth .mul-at a b)
 
 div-grows : (a b : ℕ) → Growing (div a b)
-div-grows a b = node-grows (calls-grow depth .div-at a b)
+div-grows a b = (calls-grow depth .div-at a b)
 
 neg-grows : (a : ℕ) → Growing (neg a)
-neg-grows a = node-grows (calls-grow depth .neg-at a)
+neg-grows a = (calls-grow depth .neg-at a)
 
 sub-grows : (a b : ℕ) → Growing (sub a b)
 sub-grows a b = do
@@ -212,10 +181,10 @@ exp-at-grows us z res k = do
       add-grows sum t
 
 pub exponential-grows : (e : Expansion) → Growing (exponential e)
-exponential-grows (Constant c) = constant-grows (node-grows (calls-grow depth .exp-at c))
+exponential-grows (Constant c) = constant-grows ((calls-grow depth .exp-at c))
 exponential-grows (Polynomial us) = polynomial-grows (do
   z ← from-grows 0
-  r ← node-grows (calls-grow depth .exp-at (at us 0))
+  r ← (calls-grow depth .exp-at (at us 0))
   fill-grows (exp-at-grows us z) (length us - 1) (r ∷ []))
 
 log-at-grows : (us : List ℕ) (z : ℕ) (res : List ℕ) (k : ℕ) → Growing (logAt us z res k)
@@ -236,10 +205,10 @@ log-at-grows us z res k = do
       add-grows sum t
 
 pub logarithm-grows : (e : Expansion) → Growing (logarithm e)
-logarithm-grows (Constant c) = constant-grows (node-grows (calls-grow depth .log-at c))
+logarithm-grows (Constant c) = constant-grows ((calls-grow depth .log-at c))
 logarithm-grows (Polynomial us) = polynomial-grows (do
   z ← from-grows 0
-  r ← node-grows (calls-grow depth .log-at (at us 0))
+  r ← (calls-grow depth .log-at (at us 0))
   fill-grows (log-at-grows us z) (length us - 1) (r ∷ []))
 
 when-grows : (t : Bool) {a b : Work Expansion} → Growing a → Growing b → Growing (when t a b)
@@ -259,7 +228,7 @@ power-grows base e = do
   pow-from-grows _ e (Constant o) base
 
 pub maximum-grows : (s t : Expansion) → Growing (maximum s t)
-maximum-grows (Constant a) (Constant b) = constant-grows (node-grows (calls-grow depth .max-at a b))
+maximum-grows (Constant a) (Constant b) = constant-grows ((calls-grow depth .max-at a b))
 maximum-grows (Constant a) (Polynomial ws) = refuse-grows maxReached
 maximum-grows (Polynomial us) (Constant b) = refuse-grows maxReached
 maximum-grows (Polynomial us) (Polynomial ws) = refuse-grows maxReached
@@ -316,7 +285,7 @@ keep-grows i e = record { grows = λ S. grown-by-nothing (S .pool) }
 
 module _ (v : ℕ) (x : Point) (order : ℕ) where
   point-grows : (x : Point) → Growing (pointNode v x)
-  point-grows none = node-grows (append-grows (Variable v))
+  point-grows none = (append-grows (Variable v))
   point-grows (point z) = lit-grows z
 
   variable-grows : (t : Bool) (term : ℕ) → GrowingWalk (ofVariable t term v x order)

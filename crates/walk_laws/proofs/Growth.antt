@@ -8,32 +8,27 @@ use Rattle.pool.specs.Pool.{Pool, Out, done, refused, Run, limit}
 use Rattle.constructor_laws.specs.Grown as pools
 use Rattle.constructor_laws.proofs.Growth as runs
 use Rattle.constructor_laws.proofs.Growth.{grown-by-nothing, grown-by-both}
+use Rattle.constructor_laws.proofs.Going.{Going, Ways, then-goes, yield-goes, refuse-goes}
 use Rattle.walks.specs.Walk.{State, state, Went, Walk, bind, yield, refuse, lifted, lift, keep, once, walkBelow, built, walkFrom}
-use Rattle.walk_laws.specs.Promised.{Grows}
+use Rattle.walk_laws.specs.Promised.{GrownPool, Grows}
 
 -- a walk that only appends, from any state
-pub record Growing (walk : Walk) : Type 0 where
-  pub grows : (S : State) → Grows S (walk S)
+abbrev pub Growing : Walk → Type 0
+Growing walk = Going GrownPool walk
 
--- what grows from a grown pool grows from the first
-grows-from : (S T : State) → pools.Grown (S .pool) (T .pool) → (w : Went) → Grows T w → Grows S w
-grows-from S T g (done i U) h = grown-by-both g h
-grows-from S T g (refused k) h = tt
-
-bind-grows : (S : State) (w : Went) {next : ℕ → Walk} → Grows S w → ((i : ℕ) → Growing (next i)) → Grows S (bind w next)
-bind-grows S (done i T) {next} g h = grows-from S T g (next i T) (h i .grows T)
-bind-grows S (refused k) g h = tt
+pool-ways : Ways GrownPool
+pool-ways = record { by-nothing = λ S. grown-by-nothing (S .pool); by-both = λ g h. grown-by-both g h }
 
 -- one step after the other, so that a proof is the same `do` block as the walk
 infixl 1 _>>=_
 pub _>>=_ : {walk : Walk} {next : ℕ → Walk} → Growing walk → ((i : ℕ) → Growing (next i)) → Growing (λ S. bind (walk S) next)
-_>>=_ {walk} {next} g h = record { grows = λ S. bind-grows S (walk S) (g .grows S) h }
+g >>= h = then-goes pool-ways g h
 
 pub yield-grows : (i : ℕ) → Growing (yield i)
-yield-grows i = record { grows = λ S. grown-by-nothing (S .pool) }
+yield-grows i = yield-goes pool-ways i
 
 pub refuse-grows : (k : ℕ) → Growing (refuse k)
-refuse-grows k = record { grows = λ S. tt }
+refuse-grows k = refuse-goes k
 
 lifted-grows : (S : State) (o : Out) → pools.Grows (S .pool) o → Grows S (lifted (S .kept) o)
 lifted-grows S (done i P) g = g

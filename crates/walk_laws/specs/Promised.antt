@@ -3,14 +3,16 @@
 use Prim.Native.Nat.{ℕ, _≤_}
 use lib.ListN.{getD}
 use Rattle.pool.specs.Pool.{done, refused}
-use Rattle.constructor_laws.specs.Grown.{Grown}
+use Rattle.constructor_laws.specs.Grown.{Grown, Goes}
 use Rattle.constructor_laws.specs.Keeps.{Keeps, Kept}
 use Rattle.walks.specs.Walk.{State, Went}
 
 -- the pool that an accepted walk leaves has grown from the one that it found
+abbrev pub GrownPool : State → State → Type 0
+GrownPool S T = Grown (S .pool) (T .pool)
+
 abbrev pub Grows : State → Went → Type 0
-Grows S (done i T) = Grown (S .pool) (T .pool)
-Grows S (refused k) = Unit {0}
+Grows S w = Goes GrownPool S w
 
 -- every result that is kept is a node of the pool
 abbrev pub Results : State → Type 0
