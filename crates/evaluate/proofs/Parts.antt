@@ -11,7 +11,7 @@ use Rattle.double.specs.declared.Valued.the-variants.{Double, Refused}
 use Rattle.pool.specs.Pool.{limit, nodeIn}
 use Rattle.pool.specs.declared.node.Node.{Node}
 use Rattle.walks.specs.Evaluate.{one, evaluateNode, evaluateBelow, evaluate}
-use Rattle.walks.proofs.Folds.{visits, below, above}
+use Rattle.pool.proofs.Folds.{visits, below, above}
 use Rattle.walks.proofs.Tables.{limit-is-enough}
 use Rattle.walks.proofs.Keeping.{one-more-kept}
 use Rattle.evaluate.specs.Keeps.{Keeps}

@@ -11,7 +11,7 @@ use Rattle.pool.specs.declared.node.Node.the-variants.{Empty, Variable, Lit, Ad
 use Rattle.refusals.specs.Refusals.{brokenPool}
 use Rattle.double.specs.declared.Valued.the-variants.{Refused}
 use Rattle.walks.specs.Evaluate.{evaluateNode, evaluate}
-use Rattle.walks.proofs.Folds.{GoesByParts}
+use Rattle.pool.proofs.Folds.{GoesByParts}
 use Rattle.walks.proofs.Reached.{Reached, agrees-on, agrees-on-reached, agrees-up-to}
 
 module _ (values : List Float) where

@@ -19,7 +19,7 @@ use Rattle.residue.proofs.Theorems.{residue-below}
 use Rattle.pool.specs.declared.node.Node.{Node}
 use Rattle.pool.specs.declared.node.Node.the-variants.{Empty, Variable, Lit, Add, Mul, Div, Exp, Log, Pow, Max}
 use Rattle.walks.specs.EvaluateResidue.{one, both, residueNode, residueBelow}
-use Rattle.walks.proofs.Folds.{throughout}
+use Rattle.pool.proofs.Folds.{throughout}
 use Rattle.evaluate_residue.specs.Residues.{Residues, Below}
 
 module _ (m : ℕ) where

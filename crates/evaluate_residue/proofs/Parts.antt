@@ -10,7 +10,7 @@ use Rattle.residue.specs.declared.Divided.the-variants.{Residue, Refused}
 use Rattle.pool.specs.Pool.{limit, nodeIn}
 use Rattle.pool.specs.declared.node.Node.{Node}
 use Rattle.walks.specs.EvaluateResidue.{one, residueNode, residueBelow, evaluateResidue}
-use Rattle.walks.proofs.Folds.{visits, below, above}
+use Rattle.pool.proofs.Folds.{visits, below, above}
 use Rattle.walks.proofs.Tables.{limit-is-enough}
 use Rattle.walks.proofs.Keeping.{one-more-kept}
 use Rattle.evaluate_residue.specs.Residues.{Keeps}

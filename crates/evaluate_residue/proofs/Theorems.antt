@@ -10,7 +10,7 @@ use Rattle.pool.specs.declared.node.Node.the-variants.{Empty, Variable, Lit, Ad
 use Rattle.refusals.specs.Refusals.{brokenPool}
 use Rattle.residue.specs.declared.Divided.the-variants.{Refused}
 use Rattle.walks.specs.EvaluateResidue.{residueNode, evaluateResidue}
-use Rattle.walks.proofs.Folds.{GoesByParts}
+use Rattle.pool.proofs.Folds.{GoesByParts}
 use Rattle.walks.proofs.Reached.{Reached, agrees-on, agrees-on-reached, agrees-up-to}
 
 module _ (m : ℕ) (values : List ℕ) where

@@ -16,7 +16,7 @@ use Rattle.constructors.specs.Build.{build, calls}
 use Rattle.walks.specs.Walk.{walkBelow}
 use Rattle.walks.specs.Substitute.{substituteVar}
 use Rattle.walks.specs.Derive.{derive}
-use Rattle.walks.specs.Fold.{under, foldWithin, fold as foldNodes}
+use Rattle.pool.specs.Fold.{under, foldNodesWithin, foldNodes}
 use Rattle.taylor.specs.Work.{each, eachTwo, fold, fill}
 use Rattle.taylor.specs.Expansion.{times, powFrom}
 use Rattle.taylor.specs.Expand.{expandBelow}
@@ -24,51 +24,51 @@ use Rattle.examples.specs.Shown.{bytes, empty, withVariables, text, text
 use Rattle.examples.specs.Starred.{Starred, expandedAt, residueIn, literalLeft, literalRight, cube, substituted, derivedCube, derivedQuotient, square, logarithm, exponential, zeroToTheZeroth, expOfOne, half}
 
 is-literal-left : shown (withVariables literalLeft) ≡ text (bytes "a + 3")
-unfolding literalLeft withVariables empty append calls build mulLits mulExps mulLeft mulPows mulLast powTable addArms divTable expArms logArms folded expOf logOf nodeIn decode foldNodes foldWithin under display signedDecimal decimal digitsWithin
+unfolding literalLeft withVariables empty append calls build mulLits mulExps mulLeft mulPows mulLast powTable addArms divTable expArms logArms folded expOf logOf nodeIn decode foldNodes foldNodesWithin under display signedDecimal decimal digitsWithin
 is-literal-left = refl
 
 is-literal-right : shown (withVariables literalRight) ≡ text (bytes "a + 1 + 2")
-unfolding literalRight withVariables empty append calls build mulLits mulExps mulLeft mulPows mulLast powTable addArms divTable expArms logArms folded expOf logOf nodeIn decode foldNodes foldWithin under display signedDecimal decimal digitsWithin
+unfolding literalRight withVariables empty append calls build mulLits mulExps mulLeft mulPows mulLast powTable addArms divTable expArms logArms folded expOf logOf nodeIn decode foldNodes foldNodesWithin under display signedDecimal decimal digitsWithin
 is-literal-right = refl
 
 is-cubed : shown (withVariables cube) ≡ text (bytes "a*a^2")
-unfolding cube withVariables empty append calls build mulLits mulExps mulLeft mulPows mulLast powTable addArms divTable expArms logArms folded expOf logOf nodeIn decode foldNodes foldWithin under display signedDecimal decimal digitsWithin
+unfolding cube withVariables empty append calls build mulLits mulExps mulLeft mulPows mulLast powTable addArms divTable expArms logArms folded expOf logOf nodeIn decode foldNodes foldNodesWithin under display signedDecimal decimal digitsWithin
 is-cubed = refl
 
 is-substitution : shown (withVariables substituted) ≡ text (bytes "2*b")
-unfolding substituted withVariables empty append calls build mulLits mulExps mulLeft mulPows mulLast powTable addArms divTable expArms logArms folded expOf logOf nodeIn decode foldNodes foldWithin under display signedDecimal decimal digitsWithin walkBelow substituteVar derive
+unfolding substituted withVariables empty append calls build mulLits mulExps mulLeft mulPows mulLast powTable addArms divTable expArms logArms folded expOf logOf nodeIn decode foldNodes foldNodesWithin under display signedDecimal decimal digitsWithin walkBelow substituteVar derive
 is-substitution = refl
 
 is-derived-cube : shown (withVariables derivedCube) ≡ text (bytes "3*a^2")
-unfolding derivedCube withVariables empty append calls build mulLits mulExps mulLeft mulPows mulLast powTable addArms divTable expArms logArms folded expOf logOf nodeIn decode foldNodes foldWithin under display signedDecimal decimal digitsWithin walkBelow substituteVar derive
+unfolding derivedCube withVariables empty append calls build mulLits mulExps mulLeft mulPows mulLast powTable addArms divTable expArms logArms folded expOf logOf nodeIn decode foldNodes foldNodesWithin under display signedDecimal decimal digitsWithin walkBelow substituteVar derive
 is-derived-cube = refl
 
 is-derived-quotient : shown (withVariables derivedQuotient) ≡ text (bytes "-1*b/b^2")
-unfolding derivedQuotient withVariables empty append calls build mulLits mulExps mulLeft mulPows mulLast powTable addArms divTable expArms logArms folded expOf logOf nodeIn decode foldNodes foldWithin under display signedDecimal decimal digitsWithin walkBelow substituteVar derive
+unfolding derivedQuotient withVariables empty append calls build mulLits mulExps mulLeft mulPows mulLast powTable addArms divTable expArms logArms folded expOf logOf nodeIn decode foldNodes foldNodesWithin under display signedDecimal decimal digitsWithin walkBelow substituteVar derive
 is-derived-quotient = refl
 
 is-square-at-3 : expandedAt (pos 3) (withVariables square) ≡ texts (bytes "9" ∷ bytes "6" ∷ bytes "1" ∷ [])
-unfolding square withVariables empty append calls build mulLits mulExps mulLeft mulPows mulLast powTable addArms divTable expArms logArms folded expOf logOf nodeIn decode foldNodes foldWithin under display signedDecimal decimal digitsWithin each eachTwo fold fill times powFrom expandBelow
+unfolding square withVariables empty append calls build mulLits mulExps mulLeft mulPows mulLast powTable addArms divTable expArms logArms folded expOf logOf nodeIn decode foldNodes foldNodesWithin under display signedDecimal decimal digitsWithin each eachTwo fold fill times powFrom expandBelow
 is-square-at-3 = refl
 
 is-log-at-1 : expandedAt (pos 1) (withVariables logarithm) ≡ texts (bytes "0" ∷ bytes "1" ∷ bytes "-1/2" ∷ [])
-unfolding logarithm withVariables empty append calls build mulLits mulExps mulLeft mulPows mulLast powTable addArms divTable expArms logArms folded expOf logOf nodeIn decode foldNodes foldWithin under display signedDecimal decimal digitsWithin each eachTwo fold fill times powFrom expandBelow
+unfolding logarithm withVariables empty append calls build mulLits mulExps mulLeft mulPows mulLast powTable addArms divTable expArms logArms folded expOf logOf nodeIn decode foldNodes foldNodesWithin under display signedDecimal decimal digitsWithin each eachTwo fold fill times powFrom expandBelow
 is-log-at-1 = refl
 
 is-exp-at-0 : expandedAt (pos 0) (withVariables exponential) ≡ texts (bytes "1" ∷ bytes "1" ∷ bytes "1/2" ∷ [])
-unfolding exponential withVariables empty append calls build mulLits mulExps mulLeft mulPows mulLast powTable addArms divTable expArms logArms folded expOf logOf nodeIn decode foldNodes foldWithin under display signedDecimal decimal digitsWithin each eachTwo fold fill times powFrom expandBelow
+unfolding exponential withVariables empty append calls build mulLits mulExps mulLeft mulPows mulLast powTable addArms divTable expArms logArms folded expOf logOf nodeIn decode foldNodes foldNodesWithin under display signedDecimal decimal digitsWithin each eachTwo fold fill times powFrom expandBelow
 is-exp-at-0 = refl
 
 is-zero-to-the-zeroth : shown (withVariables zeroToTheZeroth) ≡ text (bytes "1")
-unfolding zeroToTheZeroth withVariables empty append calls build mulLits mulExps mulLeft mulPows mulLast powTable addArms divTable expArms logArms folded expOf logOf nodeIn decode foldNodes foldWithin under display signedDecimal decimal digitsWithin
+unfolding zeroToTheZeroth withVariables empty append calls build mulLits mulExps mulLeft mulPows mulLast powTable addArms divTable expArms logArms folded expOf logOf nodeIn decode foldNodes foldNodesWithin under display signedDecimal decimal digitsWithin
 is-zero-to-the-zeroth = refl
 
 is-exp-of-one : shown (withVariables expOfOne) ≡ refusal noExpOrLog
-unfolding expOfOne withVariables empty append calls build mulLits mulExps mulLeft mulPows mulLast powTable addArms divTable expArms logArms folded expOf logOf nodeIn decode foldNodes foldWithin under display signedDecimal decimal digitsWithin
+unfolding expOfOne withVariables empty append calls build mulLits mulExps mulLeft mulPows mulLast powTable addArms divTable expArms logArms folded expOf logOf nodeIn decode foldNodes foldNodesWithin under display signedDecimal decimal digitsWithin
 is-exp-of-one = refl
 
 is-half-by-residues : residueIn (withVariables half) ≡ Residue 1073741824
-unfolding half withVariables empty append calls build mulLits mulExps mulLeft mulPows mulLast powTable addArms divTable expArms logArms folded expOf logOf nodeIn decode foldNodes foldWithin under display signedDecimal decimal digitsWithin residue
+unfolding half withVariables empty append calls build mulLits mulExps mulLeft mulPows mulLast powTable addArms divTable expArms logArms folded expOf logOf nodeIn decode foldNodes foldNodesWithin under display signedDecimal decimal digitsWithin residue
 is-half-by-residues = one-half
 
 pub starred : Starred

@@ -5,7 +5,7 @@ use Prim.Native.Nat.{zero}
 use lib.IntN.{ℤ, pos, negℤ, ℤ-ind, _+ℤ_, _*ℤ_, +ℤ-comm, +ℤ-assoc, +ℤ-idr, +ℤ-idl, +ℤ-one, -ℤ-one, +ℤ-invl, +ℤ-negℤ-cancel, *ℤ-comm, *ℤ-one, *ℤ-zero, zero-*ℤ, sucℤ-*ℤ, predℤ-*ℤ, negℤ-+ℤ, one}
 use Rattle.meaning.specs.Model.{Model, Distributive}
 use Rattle.meaning.specs.Value.{valueNode, value}
-use Rattle.walks.specs.Fold.{under, foldWithin, fold}
+use Rattle.pool.specs.Fold.{under, foldNodesWithin, foldNodes}
 use Rattle.meaning.specs.Integers.{integers}
 use Rattle.meaning.specs.Examples.{smallTable}
 
@@ -96,5 +96,5 @@ integers-ring = record { distributes = times-plus }
 
 -- (2 + 5) × 3, computed
 computed : value integers (λ v. pos 5) smallTable 4 ≡ pos 21
-unfolding fold foldWithin under valueNode smallTable
+unfolding foldNodes foldNodesWithin under valueNode smallTable
 computed = refl

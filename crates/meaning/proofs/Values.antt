@@ -19,8 +19,8 @@ use Rattle.constructor_laws.proofs.Rules.{AllBelow, node-stands, nothing-behind
 use Rattle.shape.specs.Shape.{has, Reach, root, part}
 use Rattle.shape.proofs.Lists.{here, further}
 use Rattle.meaning.specs.Model.{Algebra, power}
-use Rattle.walks.specs.Fold.{under}
-use Rattle.walks.proofs.Folds.{below, same-at, visits}
+use Rattle.pool.specs.Fold.{under}
+use Rattle.pool.proofs.Folds.{below, same-at, visits}
 use Rattle.meaning.specs.Value.{Values, valueNode, value}
 
 -- a fact of each number in a list

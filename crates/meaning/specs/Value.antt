@@ -6,7 +6,7 @@ use lib.IntN.{pos}
 use Rattle.pool.specs.declared.node.Node.{Node}
 use Rattle.pool.specs.declared.node.Node.the-variants.{Empty, Variable, Lit, Add, Mul, Div, Exp, Log, Pow, Max}
 use Rattle.pool.specs.Pool.{Pool, nodeAt}
-use Rattle.walks.specs.Fold.{fold}
+use Rattle.pool.specs.Fold.{foldNodes}
 use Rattle.meaning.specs.Model.{Algebra, power}
 
 module _ (A : Algebra) where
@@ -29,7 +29,7 @@ module _ (A : Algebra) where
     valueNode down (Max a b) = A .max (down a) (down b)
 
     abbrev pub value : (ℕ → Node) → ℕ → A .carrier
-    value at = fold (A .int (pos 0)) valueNode at
+    value at = foldNodes (A .int (pos 0)) valueNode at
 
     -- an accepted answer, node i of the pool Q: it has the value x, and every node of P has in Q the value that it had
     pub record Means (P : Pool) (x : A .carrier) (i : ℕ) (Q : Pool) : Type 0 where

@@ -1,4 +1,5 @@
 pub mod Nodes
+pub mod Fold
 pub mod Work
 pub mod Pool
 pub mod Made

@@ -6,23 +6,23 @@ use mathlib.Core.List.{List, []}
 use Prim.Native.Nat.{ℕ, _<_, _≤_}
 use lib.Dec.{ltb}
 use Rattle.pool.specs.declared.node.Node.{Node}
-use Rattle.walks.specs.Fold.{fold}
+use Rattle.pool.specs.Fold.{foldNodes}
 use Rattle.walks.specs.Print.{precedence, bracketed, nodeText, textNode, textBelow, nodeHasMax, hasMaxBelow, hasMax}
-use Rattle.walks.proofs.Folds.{visits, below, above}
+use Rattle.pool.proofs.Folds.{visits, below, above}
 
 module _ (at : ℕ → Node) where
   -- node_fmt, the parts being below the node's own number
   abbrev pub nodeFmt : ℕ → ℕ → List ℕ
   nodeFmt parent a = bracketed (ltb (precedence (at a)) parent) (nodeText (textBelow at a) (at a))
 
-  pub text-is : (parent a : ℕ) → fold (λ around. []) textNode at a parent ≡ nodeFmt parent a
+  pub text-is : (parent a : ℕ) → foldNodes (λ around. []) textNode at a parent ≡ nodeFmt parent a
   text-is parent a = ap (λ (text : ℕ → List ℕ). text parent) (visits (λ around. []) textNode at a)
 
   pub text-below : (k parent a : ℕ) → a < k → textBelow at k parent a ≡ nodeFmt parent a
-  text-below k parent a h = ap (λ (text : ℕ → List ℕ). text parent) (sym (below (λ around. []) (fold (λ around. []) textNode at) k a h) ∙ visits (λ around. []) textNode at a)
+  text-below k parent a h = ap (λ (text : ℕ → List ℕ). text parent) (sym (below (λ around. []) (foldNodes (λ around. []) textNode at) k a h) ∙ visits (λ around. []) textNode at a)
 
   pub no-text-above : (k parent a : ℕ) → k ≤ a → textBelow at k parent a ≡ []
-  no-text-above k parent a h = ap (λ (text : ℕ → List ℕ). text parent) (sym (above (λ around. []) (fold (λ around. []) textNode at) k a h))
+  no-text-above k parent a h = ap (λ (text : ℕ → List ℕ). text parent) (sym (above (λ around. []) (foldNodes (λ around. []) textNode at) k a h))
 
   abbrev pub maxAt : ℕ → Bool
   maxAt a = nodeHasMax (hasMaxBelow at a) (at a)

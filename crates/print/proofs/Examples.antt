@@ -8,7 +8,7 @@ use lib.ListN.{getD}
 use Rattle.pool.specs.declared.node.Node.{Node}
 use Rattle.pool.specs.declared.node.Node.the-variants.{Empty, Variable, Add, Mul, Div, Exp, Pow, Max}
 use Rattle.text.specs.Text.{decimal, digitsWithin, display}
-use Rattle.walks.specs.Fold.{under, foldWithin, fold}
+use Rattle.pool.specs.Fold.{under, foldNodesWithin, foldNodes}
 use Rattle.walks.specs.Print.{textOf, hasMax}
 
 -- node 3 is b*c, 4 is a/(b*c), 5 is a + b, 6 is (a + b)*c, 8 is exp of a twelfth power, and 9 is a Max
@@ -31,25 +31,25 @@ nodes i =
 
 -- "a/(b*c)"
 pub a-product-below : textOf nodes 4 ≡ 97 ∷ 47 ∷ 40 ∷ 98 ∷ 42 ∷ 99 ∷ 41 ∷ []
-unfolding nodes fold foldWithin under display decimal digitsWithin
+unfolding nodes foldNodes foldNodesWithin under display decimal digitsWithin
 a-product-below = refl
 
 -- "(a + b)*c"
 pub a-sum-as-factor : textOf nodes 6 ≡ 40 ∷ 97 ∷ 32 ∷ 43 ∷ 32 ∷ 98 ∷ 41 ∷ 42 ∷ 99 ∷ []
-unfolding nodes fold foldWithin under display decimal digitsWithin
+unfolding nodes foldNodes foldNodesWithin under display decimal digitsWithin
 a-sum-as-factor = refl
 
 -- "exp((a/(b*c))^12)"
 pub a-quotient-as-base :
     textOf nodes 8
     ≡ 101 ∷ 120 ∷ 112 ∷ 40 ∷ 40 ∷ 97 ∷ 47 ∷ 40 ∷ 98 ∷ 42 ∷ 99 ∷ 41 ∷ 41 ∷ 94 ∷ 49 ∷ 50 ∷ 41 ∷ []
-unfolding nodes fold foldWithin under display decimal digitsWithin
+unfolding nodes foldNodes foldNodesWithin under display decimal digitsWithin
 a-quotient-as-base = refl
 
 pub no-max-reached : hasMax nodes 8 ≡ false
-unfolding nodes fold foldWithin under
+unfolding nodes foldNodes foldNodesWithin under
 no-max-reached = refl
 
 pub max-reached : hasMax nodes 9 ≡ true
-unfolding nodes fold foldWithin under
+unfolding nodes foldNodes foldNodesWithin under
 max-reached = refl

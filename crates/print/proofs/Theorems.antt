@@ -6,7 +6,7 @@ use mathlib.Core.List.{List, []}
 use Prim.Native.Nat.{ℕ, _≤_}
 use Rattle.pool.specs.declared.node.Node.{Node}
 use Rattle.walks.specs.Print.{textNode, textOf, nodeHasMax, hasMax}
-use Rattle.walks.proofs.Folds.{looks-up-to-the-root}
+use Rattle.pool.proofs.Folds.{looks-up-to-the-root}
 
 module _ (at at′ : ℕ → Node) (root : ℕ) (same : (j : ℕ) → j ≤ root → at j ≡ at′ j) where
   pub text-looks-up-to-the-root : textOf at root ≡ textOf at′ root

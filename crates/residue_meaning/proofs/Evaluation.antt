@@ -21,7 +21,7 @@ use Rattle.pool.specs.Nodes.{parts}
 use Rattle.pool.specs.Pool.{Pool, nodeAt}
 use Rattle.constructor_laws.specs.Keeps.{Keeps}
 use Rattle.walks.specs.EvaluateResidue.{one, both, valueOfVariable, residueNode, residueBelow, evaluateResidue}
-use Rattle.walks.proofs.Folds.{visits, below}
+use Rattle.pool.proofs.Folds.{visits, below}
 use Rattle.meaning.specs.Model.{power}
 use Rattle.meaning.specs.Value.{Values, valueNode, value}
 use Rattle.meaning.proofs.Values.{Each, each-below, Falling, falling, value-law}

@@ -18,8 +18,8 @@ use Rattle.pool.specs.declared.node.Node.the-variants.{Empty, Variable, Lit, Ad
 use Rattle.walks.specs.Evaluate.{evaluateNode, evaluate}
 use Rattle.walks.specs.EvaluateResidue.{residueNode, evaluateResidue}
 use Rattle.walks.specs.Print.{textNode, textOf, nodeHasMax, hasMax}
-use Rattle.walks.specs.Fold.{under, fold}
-use Rattle.walks.proofs.Folds.{visits, below}
+use Rattle.pool.specs.Fold.{under, foldNodes}
+use Rattle.pool.proofs.Folds.{visits, below}
 use Rattle.shape.specs.Shape.{rename, has, Reach, root, part, OneShape}
 use Rattle.shape.specs.Walked.{Falls}
 use Rattle.shape.specs.Demand.{KeepsRules, SameShape}
@@ -51,29 +51,29 @@ module _ {A : Type 0} (none : A) {node : (ℕ → A) → Node → A} (goes : Goe
 
     -- one answer at the parts, so one at the node
     from-parts :
-        (i : ℕ) → Reach p roots i → All (λ a. fold none node p a ≡ fold none node q (there a)) (parts (p i)) → fold none node p i ≡ fold none node q (there i)
+        (i : ℕ) → Reach p roots i → All (λ a. foldNodes none node p a ≡ foldNodes none node q (there a)) (parts (p i)) → foldNodes none node p i ≡ foldNodes none node q (there i)
     from-parts i r less =
         visits none node p i
-        ∙ goes there (under none (fold none node p) i) (under none (fold none node q) (there i)) (p i) (λ a m.
-        sym (below none (fold none node p) i a (falls i a m))
+        ∙ goes there (under none (foldNodes none node p) i) (under none (foldNodes none node q) (there i)) (p i) (λ a m.
+        sym (below none (foldNodes none node p) i a (falls i a m))
         ∙ less a m
-        ∙ below none (fold none node q) (there i) (there a) (falls′ (there i) (there a) (part-there i a r m)))
-        ∙ ap (node (under none (fold none node q) (there i))) (sym (shape .agree i r))
+        ∙ below none (foldNodes none node q) (there i) (there a) (falls′ (there i) (there a) (part-there i a r m)))
+        ∙ ap (node (under none (foldNodes none node q) (there i))) (sym (shape .agree i r))
         ∙ sym (visits none node q (there i))
 
-    paired-below : (k i : ℕ) → i < k → Reach p roots i → fold none node p i ≡ fold none node q (there i)
+    paired-below : (k i : ℕ) → i < k → Reach p roots i → foldNodes none node p i ≡ foldNodes none node q (there i)
     paired-below zero i h r = absurd (not-suc-le-zero h)
     paired-below (suc k) i h r =
         from-parts i r (λ a m. let l : a < i = falls i a m in paired-below k a (omega arith) (part r m))
 
     -- one answer at each pair of nodes
-    pub paired : (i : ℕ) → Reach p roots i → fold none node p i ≡ fold none node q (there i)
+    pub paired : (i : ℕ) → Reach p roots i → foldNodes none node p i ≡ foldNodes none node q (there i)
     paired i r = paired-below (suc i) i (omega arith) r
 
   -- one answer at two roots of one shape
-  pub at-the-root : (r s : ℕ) → OneShape p (r ∷ []) q (s ∷ []) → fold none node p r ≡ fold none node q s
+  pub at-the-root : (r s : ℕ) → OneShape p (r ∷ []) q (s ∷ []) → foldNodes none node p r ≡ foldNodes none node q s
   at-the-root r s shape =
-      paired shape r (root (here r [])) ∙ ap (fold none node q) (ap (λ js. getD js 0 0) (shape .roots-pair))
+      paired shape r (root (here r [])) ∙ ap (foldNodes none node q) (ap (λ js. getD js 0 0) (shape .roots-pair))
 
 -- the four walks that build nothing
 module _ (values : List Float) where

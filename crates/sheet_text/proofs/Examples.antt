@@ -14,7 +14,7 @@ use Rattle.shape.specs.Order.{walk, numbered}
 use Rattle.shape.specs.File.{readFile, isSized, areNodes, areInOrder, isInOrder, entryIn, appendFirst}
 use Rattle.constructors.specs.Tables.{addArms, mulLits, mulExps, mulLeft, mulPows, mulLast, divTable, expArms, logArms, powTable}
 use Rattle.constructors.specs.Build.{build, calls}
-use Rattle.walks.specs.Fold.{under, foldWithin, fold as foldNodes}
+use Rattle.pool.specs.Fold.{under, foldNodesWithin, foldNodes}
 use Rattle.taylor.specs.Work.{each as eachOf, eachTwo, fold, fill}
 use Rattle.taylor.specs.Expansion.{times, powFrom}
 use Rattle.taylor.specs.Expand.{expandBelow}
@@ -27,5 +27,5 @@ bytes (String._∷_ c s) = code c ∷ bytes s
 
 -- "For the 22-byte file 02 00 00 00, 01 04, then sixteen 00 (hexadecimal), and the line `0 2`, it prints"
 pub the-example : sheet (2 ∷ 0 ∷ 0 ∷ 0 ∷ 1 ∷ 4 ∷ replicate 16 0) (bytes "0 2\n") ≡ bytes "0 2 none\n0: a*a\n1: a + a\n2: 1\n"
-unfolding sheet parse fields decimalOf digitsFrom pointOf coefficients empty readFile isSized areNodes areInOrder isInOrder entryIn appendFirst walk numbered mayStandAt each append calls build mulLits mulExps mulLeft mulPows mulLast powTable addArms divTable expArms logArms folded expOf logOf nodeIn decode foldNodes foldWithin under display signedDecimal decimal digitsWithin eachOf eachTwo fold fill times powFrom expandBelow linesFrom
+unfolding sheet parse fields decimalOf digitsFrom pointOf coefficients empty readFile isSized areNodes areInOrder isInOrder entryIn appendFirst walk numbered mayStandAt each append calls build mulLits mulExps mulLeft mulPows mulLast powTable addArms divTable expArms logArms folded expOf logOf nodeIn decode foldNodes foldNodesWithin under display signedDecimal decimal digitsWithin eachOf eachTwo fold fill times powFrom expandBelow linesFrom
 the-example = refl

@@ -1,4 +1,3 @@
-pub mod Folds
 pub mod Reached
 pub mod Tables
 pub mod Keeping

@@ -9,8 +9,8 @@ use borrow.Author.Tests.{le-ltb}
 use Rattle.pool.specs.Pool.{limit, nodeIn}
 use Rattle.pool.specs.declared.node.Node.{Node}
 use Rattle.pool.specs.declared.node.Node.the-variants.{Empty}
-use Rattle.walks.specs.Fold.{under, fold}
-use Rattle.walks.proofs.Folds.{visits, below, above}
+use Rattle.pool.specs.Fold.{under, foldNodes}
+use Rattle.pool.proofs.Folds.{visits, below, above}
 
 pub none-past-the-limit : (ks ws : List ℕ) (i : ℕ) → limit ≤ i → nodeIn ks ws i ≡ Empty
 unfolding nodeIn
@@ -18,7 +18,7 @@ none-past-the-limit ks ws i h = rw (le-ltb i limit h)
 
 module _ {A : Type 0} (none : A) (node : (ℕ → A) → Node → A) (ks ws : List ℕ) (at-empty : (down : ℕ → A) → node down Empty ≡ none) where
   abbrev walk : ℕ → A
-  walk = fold none node (nodeIn ks ws)
+  walk = foldNodes none node (nodeIn ks ws)
 
   pub limit-is-enough : (root : ℕ) → under none walk limit root ≡ walk root
   limit-is-enough root = go (decLt root limit)

@@ -12,7 +12,7 @@ use Rattle.double.specs.declared.Valued.{Valued}
 use Rattle.double.specs.declared.Valued.the-variants.{Double, Refused}
 use Rattle.pool.specs.declared.node.Node.{Node}
 use Rattle.pool.specs.declared.node.Node.the-variants.{Empty, Variable, Lit, Add, Mul, Div, Exp, Log, Pow, Max}
-use Rattle.walks.specs.Fold.{under, fold}
+use Rattle.pool.specs.Fold.{under, foldNodes}
 
 -- once a part is done: its refusal, or on with its value
 abbrev pub one : Valued → (Float → Valued) → Valued
@@ -41,7 +41,7 @@ evaluateNode values down (Pow a e) = one (down a) (λ x. Double (powOf x e))
 evaluateNode values down (Max a b) = both (down a) (down b) (λ x y. Double (maxOf x y))
 
 abbrev pub evaluate : (ℕ → Node) → List Float → ℕ → Valued
-evaluate at values = fold (Refused brokenPool) (evaluateNode values) at
+evaluate at values = foldNodes (Refused brokenPool) (evaluateNode values) at
 
 abbrev pub evaluateBelow : (ℕ → Node) → List Float → ℕ → ℕ → Valued
 evaluateBelow at values = under (Refused brokenPool) (evaluate at values)

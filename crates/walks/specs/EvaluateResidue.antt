@@ -11,7 +11,7 @@ use Rattle.residue.specs.declared.Divided.{Divided}
 use Rattle.residue.specs.declared.Divided.the-variants.{Residue, Refused}
 use Rattle.pool.specs.declared.node.Node.{Node}
 use Rattle.pool.specs.declared.node.Node.the-variants.{Empty, Variable, Lit, Add, Mul, Div, Exp, Log, Pow, Max}
-use Rattle.walks.specs.Fold.{under, fold}
+use Rattle.pool.specs.Fold.{under, foldNodes}
 
 -- once a part is done: its refusal, or on with its residue
 abbrev pub one : Divided → (ℕ → Divided) → Divided
@@ -40,7 +40,7 @@ residueNode m values down (Pow a e) = one (down a) (λ x. Residue (powerOf m x e
 residueNode m values down (Max a b) = both (down a) (down b) (λ x y. Refused notEvaluated)
 
 abbrev pub evaluateResidue : ℕ → (ℕ → Node) → List ℕ → ℕ → Divided
-evaluateResidue m at values = fold (Refused brokenPool) (residueNode m values) at
+evaluateResidue m at values = foldNodes (Refused brokenPool) (residueNode m values) at
 
 abbrev pub residueBelow : ℕ → (ℕ → Node) → List ℕ → ℕ → ℕ → Divided
 residueBelow m at values = under (Refused brokenPool) (evaluateResidue m at values)

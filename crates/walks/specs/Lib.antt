@@ -1,4 +1,3 @@
-pub mod Fold
 pub mod Walk
 pub mod Substitute
 pub mod Derive

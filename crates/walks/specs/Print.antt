@@ -9,7 +9,7 @@ use lib.Dec.{ltb}
 use Rattle.text.specs.Text.{decimal, signedDecimal, display}
 use Rattle.pool.specs.declared.node.Node.{Node}
 use Rattle.pool.specs.declared.node.Node.the-variants.{Empty, Variable, Lit, Add, Mul, Div, Exp, Log, Pow, Max}
-use Rattle.walks.specs.Fold.{under, fold}
+use Rattle.pool.specs.Fold.{under, foldNodes}
 
 -- fn precedence(&self): Variable | Lit | Exp | Log | Max => 10, Add => 0, Mul | Div => 1, Pow => 2
 abbrev pub precedence : Node → ℕ
@@ -79,10 +79,10 @@ abbrev pub textNode : (ℕ → ℕ → List ℕ) → Node → ℕ → List ℕ
 textNode down n parent = bracketed (ltb (precedence n) parent) (nodeText (λ around a. down a around) n)
 
 abbrev pub textBelow : (ℕ → Node) → ℕ → ℕ → ℕ → List ℕ
-textBelow at k parent i = under (λ around. []) (fold (λ around. []) textNode at) k i parent
+textBelow at k parent i = under (λ around. []) (foldNodes (λ around. []) textNode at) k i parent
 
 abbrev pub textOf : (ℕ → Node) → ℕ → List ℕ
-textOf at root = fold (λ around. []) textNode at root 0
+textOf at root = foldNodes (λ around. []) textNode at root 0
 
 -- 10. "Printing meets 10 if any reachable node is Max."
 abbrev pub nodeHasMax : (ℕ → Bool) → Node → Bool
@@ -98,7 +98,7 @@ nodeHasMax down (Pow a e) = down a
 nodeHasMax down (Max a b) = true
 
 abbrev pub hasMax : (ℕ → Node) → ℕ → Bool
-hasMax at = fold false nodeHasMax at
+hasMax at = foldNodes false nodeHasMax at
 
 abbrev pub hasMaxBelow : (ℕ → Node) → ℕ → ℕ → Bool
 hasMaxBelow at = under false (hasMax at)
