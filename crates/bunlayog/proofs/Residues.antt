@@ -8,9 +8,10 @@ use native.Mathlib.Omega.{arith}
 use Rattle.refusals.specs.Refusals.{brokenPool, unknownNode, wrongValues}
 use Rattle.residue.specs.Residue.{Modulus, fixedModulus}
 use Rattle.residue.specs.declared.Divided.{Divided}
-use Rattle.residue.specs.declared.Divided.the-variants.{Residue}
+use Rattle.residue.specs.declared.Divided.the-variants.{Residue, Refused}
 use Rattle.pool.specs.Nodes.{allBelow}
 use Rattle.pool.specs.Pool.{nodeIn, isPool}
+use Rattle.pool.proofs.Folds.{below}
 use Rattle.walks.specs.EvaluateResidue.{evaluateResidue}
 use Rattle.evaluate_residue.specs.Residues.{Below}
 use Rattle.evaluate_residue.proofs.Modulo.{answer-below}
@@ -29,7 +30,8 @@ module _ (ks ws : List ℕ) (n root : ℕ) (values : List ℕ) where
   tested-below false g a e = tt
   tested-below true false a e = tt
   tested-below true true false e = tt
-  tested-below true true true e = answer-below fixedModulus fixed values (residues-below values e) (nodeIn ks ws) (suc root) root refl
+  tested-below true true true e = answer-below fixedModulus fixed values (residues-below values e) (nodeIn ks ws) (suc root) root
+      (below (Refused brokenPool) (evaluateResidue fixedModulus (nodeIn ks ws) values) (suc root) root (omega arith))
 
   pub call-below : {r : Divided} → r ≡ evaluateResidueCall ks ws n root values → Below fixedModulus r
   unfolding evaluateResidueCall

@@ -19,7 +19,7 @@ use Rattle.constructor_laws.proofs.Rules.{AllBelow, node-stands, nothing-behind
 use Rattle.shape.specs.Shape.{has, Reach, root, part}
 use Rattle.shape.proofs.Lists.{here, further}
 use Rattle.meaning.specs.Model.{Algebra, power}
-use Rattle.pool.specs.Fold.{under}
+use Rattle.pool.specs.Fold.{under, foldNodes}
 use Rattle.pool.proofs.Folds.{below, same-at, visits}
 use Rattle.meaning.specs.Value.{Values, valueNode, value}
 
@@ -55,6 +55,13 @@ falling {P} k i = go (ltb i (P .count)) refl
     go true t = standing-parts-below i (nodeAt P i) (node-stands k i (ltb-true i (P .count) t))
     go false t = rw (nothing-behind k i (ltb-false i (P .count) t)) tt
 
+-- where parts have smaller numbers, what a node comes to is had from what its parts come to
+pub from-parts :
+    {B : Type 0} (none : B) (node : (ℕ → B) → Node → B) → ((f g : ℕ → B) (x : Node) → Each (λ a. f a ≡ g a) (parts x) → node f x ≡ node g x) → (at : ℕ → Node) → Falling at → (i : ℕ) → foldNodes none node at i ≡ node (foldNodes none node at) (at i)
+from-parts none node same at f i =
+    visits none node at i
+    ∙ same (under none (foldNodes none node at) i) (foldNodes none node at) (at i) (each-below (parts (at i)) (f i) (λ a l. sym (below none (foldNodes none node at) i a l)))
+
 module _ (A : Algebra) (env : Values A) where
   -- equal parts' values, one node's value
   pub node-same : (f g : ℕ → A .carrier) (x : Node) → Each (λ a. f a ≡ g a) (parts x) → valueNode A env f x ≡ valueNode A env g x
@@ -75,9 +82,7 @@ module _ (A : Algebra) (env : Values A) where
 
   -- a node's value, from its parts' values
   pub value-law : (at : ℕ → Node) → Falling at → (i : ℕ) → value A env at i ≡ valueNode A env (value A env at) (at i)
-  value-law at f i =
-      visits none (valueNode A env) at i
-      ∙ node-same (under none (value A env at) i) (value A env at) (at i) (each-below (parts (at i)) (f i) (λ a l. sym (below none (value A env at) i a l)))
+  value-law = from-parts none (valueNode A env) node-same
 
   -- two tables with the same nodes at all numbers of which C holds, C going on to the parts
   closed-same :

@@ -11,11 +11,12 @@ use lib.IntN.{pos}
 use Rattle.pool.specs.declared.node.Node.{Node}
 use Rattle.pool.specs.declared.node.Node.the-variants.{Empty, Variable, Lit, Add, Mul, Div, Exp, Log, Pow, Max}
 use Rattle.pool.specs.Nodes.{parts}
+use Rattle.pool.proofs.Folds.{side-by-side}
 use Rattle.shape.specs.Shape.{Reach, root, part}
 use Rattle.shape.proofs.Lists.{here, below-or-not}
 use Rattle.taylor.specs.Expand.{Point}
 use Rattle.meaning.specs.Model.{Algebra, Model, Distributive, power}
-use Rattle.meaning.specs.Value.{Values, valueNode, valueBelow, value}
+use Rattle.meaning.specs.Value.{Values, valueNode, value}
 use Rattle.meaning.proofs.Values.{Each, each-had, same-op}
 use Rattle.meaning.proofs.Laws.{sum-assoc, sum-zero, product-comm, product-assoc, product-swap, product-one, product-zero, zero-product, power-none, power-more}
 use Rattle.walk_meaning.specs.Setting.{setting}
@@ -220,15 +221,10 @@ module _ {A : Algebra} (M : Model A) (D : Distributive A) where
     node-finite f y (Max a b) p h = absurd p
 
     module _ (at : ℕ → Node) (r : ℕ) (p : PolynomialExpression at r) where
-      below-finite : (k i : ℕ) → Reach at (r ∷ []) i → Finite (valueBelow (polynomials A) (asSeries A env v x) at k i) (λ t. valueBelow A (moved t) at k i)
-      unfolding valueBelow
-      below-finite zero i c = finite-constant (int (pos 0))
-      below-finite (suc k) i c =
-          node-finite (valueBelow (polynomials A) (asSeries A env v x) at k) (λ t. valueBelow A (moved t) at k) (at i) (p i c) (each-had (parts (at i)) (λ a m. below-finite k a (part c m)))
-
       value-finite : Finite (value (polynomials A) (asSeries A env v x) at r) (λ t. value A (moved t) at r)
-      unfolding value
-      value-finite = below-finite (suc r) r (root (here r []))
+      value-finite =
+          side-by-side (polynomials A .int (pos 0)) (int (pos 0)) (valueNode (polynomials A) (asSeries A env v x)) (λ t. valueNode A (moved t)) at Finite (finite-constant (int (pos 0))) (Reach at (r ∷ []))
+          (λ f g i c finite. node-finite f g (at i) (p i c) (each-had (parts (at i)) (λ a m. finite a (part c m)))) r (root (here r []))
 
       -- f (x + t) = c_0 + c_1 × t + .. + c_(n-1) × t^(n-1) for every t, for every n from some degree on
       pub taylor-formula : IsPolynomial A (value (polynomials A) (asSeries A env v x) at r) (λ t. value A (setting A env v (A .plus (base A env v x) t)) at r)

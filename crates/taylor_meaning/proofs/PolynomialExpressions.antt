@@ -2,12 +2,14 @@
 -- Assumes nothing.
 use mathlib.Core.Path.{_≡_, refl, ap, _∙_}
 use mathlib.Core.List.{List, [], _∷_}
-use Prim.Native.Nat.{ℕ, zero, suc, _^_, _≤_, _<_}
+use Prim.Native.Nat.{ℕ, suc, _^_, _≤_, _<_}
 use native.Mathlib.Omega.{arith}
+use lib.IntN.{pos}
 use lib.ListN.{getD}
 use Rattle.pool.specs.declared.node.Node.{Node}
 use Rattle.pool.specs.declared.node.Node.the-variants.{Empty, Variable, Lit, Add, Mul, Div, Exp, Log, Pow, Max}
 use Rattle.pool.specs.Nodes.{parts, greatestVariable}
+use Rattle.pool.proofs.Folds.{side-by-side}
 use Rattle.pool.specs.Pool.{Pool, nodeAt, done}
 use Rattle.constructor_laws.specs.Keeps.{Keeps}
 use Rattle.constructor_laws.proofs.Coding.{Short}
@@ -17,7 +19,7 @@ use Rattle.shape.proofs.Lists.{here}
 use Rattle.taylor.specs.Expansion.{Expansion}
 use Rattle.taylor.specs.Expand.{Point, expand}
 use Rattle.meaning.specs.Model.{Algebra, Model, Distributive, power}
-use Rattle.meaning.specs.Value.{Values, valueNode, valueBelow, value}
+use Rattle.meaning.specs.Value.{Values, valueNode, value}
 use Rattle.meaning.proofs.Values.{Each, each-below, each-had, same-op}
 use Rattle.taylor_meaning.specs.Series.{Series, plusSeries, timesSeries, series, polynomials}
 use Rattle.taylor_meaning.specs.Coefficients.{MeansSeries, asSeries}
@@ -62,17 +64,10 @@ module _ {A : Algebra} (M : Model A) (D : Distributive A) where
   node-in-ring env f g (Pow a e) p h = ap (λ x. power (polynomials A) x e) (h .0) ∙ powers-same M D (g a) e
   node-in-ring env f g (Max a b) p h = absurd p
 
-  below-in-ring :
-      (env : Values (series A)) (at : ℕ → Node) (r : ℕ) → PolynomialExpression at r → (k i : ℕ) → Reach at (r ∷ []) i → valueBelow (polynomials A) env at k i ≡ valueBelow (series A) env at k i
-  unfolding valueBelow
-  below-in-ring env at r p zero i c = refl
-  below-in-ring env at r p (suc k) i c =
-      node-in-ring env (valueBelow (polynomials A) env at k) (valueBelow (series A) env at k) (at i) (p i c)
-      (each-had (parts (at i)) (λ a m. below-in-ring env at r p k a (part c m)))
-
   pub value-in-ring : (env : Values (series A)) (at : ℕ → Node) (r : ℕ) → PolynomialExpression at r → value (polynomials A) env at r ≡ value (series A) env at r
-  unfolding value
-  value-in-ring env at r p = below-in-ring env at r p (suc r) r (root (here r []))
+  value-in-ring env at r p =
+      side-by-side {T = Unit {0}} (polynomials A .int (pos 0)) (series A .int (pos 0)) (valueNode (polynomials A) env) (λ t. valueNode (series A) env) at (λ x y. x ≡ y tt) refl (Reach at (r ∷ []))
+      (λ f g i c same. node-in-ring env f (g tt) (at i) (p i c) (each-had (parts (at i)) (λ a m. same a (part c m)))) r (root (here r []))
 
   module _ (env : Values A) {P : Pool} (keeps : Keeps P) (v : ℕ) (known : v ≤ greatestVariable) (x : Point) (order : ℕ) where
     plain-allowed : (y : Node) → Short y → PlainNode y → Allowed M D env keeps v known x order y

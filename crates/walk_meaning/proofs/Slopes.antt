@@ -9,9 +9,8 @@ use Rattle.pool.specs.Nodes.{parts}
 use Rattle.meaning.specs.Model.{Algebra, Model, power}
 use Rattle.meaning.specs.Value.{Values, value}
 use Rattle.meaning.proofs.Laws.{zero-sum, product-zero, one-product, power-of-one}
-use Rattle.meaning.proofs.Recursion.{recursion-solves}
-use Rattle.meaning.proofs.Values.{Each, each-below, same-op, Falling}
-use Rattle.walk_meaning.specs.Slope.{quotientSlope, slopeNode, slopeBelow, slope}
+use Rattle.meaning.proofs.Values.{Each, same-op, Falling, from-parts}
+use Rattle.walk_meaning.specs.Slope.{quotientSlope, slopeNode, slope}
 
 module _ (A : Algebra) (env : Values A) (var : ℕ) where
   open Algebra A using (carrier, int, plus as _⊕_, times as _⊗_, over as _⊘_)
@@ -30,10 +29,7 @@ module _ (A : Algebra) (env : Values A) (var : ℕ) where
   slope-same v d e (Max a b) h = refl
 
   pub slope-law : (at : ℕ → Node) → Falling at → (i : ℕ) → slope A env var at i ≡ slopeNode A env var (value A env at) (slope A env var at) (at i)
-  unfolding slope slopeBelow
-  slope-law at f =
-      recursion-solves (λ d i. slopeNode A env var (value A env at) d (at i)) (slopeBelow A env var at) (λ k i. refl)
-      (record { same = λ d e i h. slope-same (value A env at) d e (at i) (each-below (parts (at i)) (f i) h) })
+  slope-law at = from-parts (int (pos 0)) (slopeNode A env var (value A env at)) (slope-same (value A env at)) at
 
 -- what the Rust's sign does: of x / 1 its rule gives -x', where the calculus has x'
 pub quotient-by-one : {A : Algebra} (M : Model A) (env : Values A) (var : ℕ) (x dx : A .carrier) → quotientSlope A env var x (A .int (pos 1)) dx (A .int (pos 0)) ≡ A .times (A .int (negsuc 0)) dx

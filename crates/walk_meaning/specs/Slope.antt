@@ -1,11 +1,12 @@
 -- The rules of the calculus in an algebra, as `derive_with` has them: the slope of a node from the values and the slopes of its parts.
 -- Assumes nothing.
 use mathlib.Core.Bool.{cond}
-use Prim.Native.Nat.{ℕ, zero, suc, _-_}
+use Prim.Native.Nat.{ℕ, _-_}
 use lib.Dec.{eqb}
 use lib.IntN.{pos, negsuc}
 use Rattle.pool.specs.declared.node.Node.{Node}
 use Rattle.pool.specs.declared.node.Node.the-variants.{Empty, Variable, Lit, Add, Mul, Div, Exp, Log, Pow, Max}
+use Rattle.pool.specs.Fold.{foldNodes}
 use Rattle.meaning.specs.Model.{Algebra, power}
 use Rattle.meaning.specs.Value.{Values, value}
 
@@ -37,10 +38,6 @@ module _ (A : Algebra) (env : Values A) (var : ℕ) where
   slopeNode v d (Pow a e) = int (pos e) ⊗ d a ⊗ power A (v a) (e - 1)
   slopeNode v d (Max a b) = int (pos 0)
 
-  -- the slope of node i, where i is below the bound: parts have smaller numbers
-  unfoldable pub slopeBelow : (ℕ → Node) → ℕ → ℕ → carrier
-  slopeBelow at zero i = int (pos 0)
-  slopeBelow at (suc k) i = slopeNode (value A env at) (slopeBelow at k) (at i)
-
-  unfoldable pub slope : (ℕ → Node) → ℕ → carrier
-  slope at i = slopeBelow at (suc i) i
+  -- the slope of a node
+  abbrev pub slope : (ℕ → Node) → ℕ → carrier
+  slope at = foldNodes (int (pos 0)) (slopeNode (value A env at)) at
