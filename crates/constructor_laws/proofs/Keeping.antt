@@ -1,14 +1,14 @@
 -- Every constructor keeps the rules of the pool, at any depth: given nodes of a pool that keeps them, it answers a node of a pool that keeps them. Appending a fine node does, a sound term does where the calls in it do, the tables are sound, and the rest is induction on the depth.
 -- Assumes nothing.
 use mathlib.Core.Path.{_≡_, refl, subst}
-use mathlib.Core.Bool.{Bool, true, false}
+use mathlib.Core.Bool.{Bool, true, false, cond}
 use Prim.Native.Nat.{ℕ, zero, suc, _≤_, _<_}
 use native.Mathlib.Nat.{le-refl}
 use native.Mathlib.Omega.{arith}
 use lib.Dec.{leb}
 use lib.IntN.{ℤ, pos}
 use Rattle.refusals.specs.Refusals.{exponentTooLarge, tooDeep, noExpOrLog, outOfRange}
-use Rattle.literal.specs.Literal.{isLiteral, isZero, isOne, pick, folded, expOf, logOf}
+use Rattle.literal.specs.Literal.{isLiteral, isZero, isOne, folded, expOf, logOf}
 use Rattle.literal.specs.declared.Folded.{Folded}
 use Rattle.literal.specs.declared.Folded.the-variants.{Value, Refused}
 use Rattle.pool.specs.declared.node.Node.{Node}
@@ -84,7 +84,7 @@ abbrev InLiterals : Folded → Type 0
 InLiterals (Value z) = isLiteral z ≡ true
 InLiterals (Refused k) = Unit {0}
 
-picked-in-literals : (t : Bool) (z : ℤ) (k : ℕ) → (t ≡ true → isLiteral z ≡ true) → InLiterals (pick t (Value z) (Refused k))
+picked-in-literals : (t : Bool) (z : ℤ) (k : ℕ) → (t ≡ true → isLiteral z ≡ true) → InLiterals (cond t (Value z) (Refused k))
 picked-in-literals true z k h = h refl
 picked-in-literals false z k h = tt
 

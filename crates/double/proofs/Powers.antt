@@ -1,6 +1,7 @@
 -- Pow, bit by bit: what is still to be done after a turn is what was to be done before it, and at the last bit it is the answer.
 -- Assumes nothing.
 use mathlib.Core.Path.{_≡_, refl}
+use mathlib.Core.Bool.{cond}
 use mathlib.Core.Logic.{_≢_}
 use Prim.Native.Nat.{ℕ, zero, suc, _/_, _%_, _^_, _<_, _≤_}
 use native.Mathlib.Nat.{pow-suc}
@@ -11,7 +12,7 @@ use lib.Ieee.{Float, binary64, mul, ofInt}
 use borrow.Author.Tests.{eq-eqb, ne-eqb}
 use mir.Syntax.{w32}
 use mir.Val.{bits}
-use Rattle.double.specs.Double.{pick, powFrom, powOf}
+use Rattle.double.specs.Double.{powFrom, powOf}
 
 -- the rest of the work, from acc, b and the bits of n that are left, gives x to the power of e
 pub record Remains (x : Float) (e : ℕ) (acc b : Float) (n : ℕ) : Type 0 where
@@ -21,7 +22,7 @@ pub record Remains (x : Float) (e : ℕ) (acc b : Float) (n : ℕ) : Type 0 wher
 
 -- acc with the lowest bit of n
 abbrev pub multiplied : Float → Float → ℕ → Float
-multiplied acc b n = pick (eqb (n % 2) 1) (mul binary64 acc b) acc
+multiplied acc b n = cond (eqb (n % 2) 1) (mul binary64 acc b) acc
 
 pub at-one : (acc b : Float) (n : ℕ) → n % 2 ≡ 1 → mul binary64 acc b ≡ multiplied acc b n
 at-one acc b n h = rw (eq-eqb (n % 2) 1 h)

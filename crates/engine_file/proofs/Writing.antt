@@ -1,7 +1,7 @@
 -- The ways in which writing ends: the pool is refused, the root is, the output is too short, or the file is there.
 -- Assumes nothing.
 use mathlib.Core.Path.{_≡_, refl, sym, ap, ap₂, _∙_}
-use mathlib.Core.Bool.{Bool, true, false}
+use mathlib.Core.Bool.{Bool, true, false, cond}
 use mathlib.Core.List.{List, [], _∷_, _++_}
 use Prim.Native.Nat.{ℕ}
 use lib.Dec.{leb}
@@ -12,7 +12,7 @@ use Rattle.shape.specs.File.{writtenFile}
 use Rattle.lent.specs.Lent.{TakenIn}
 use Rattle.lent.proofs.Finishing.{one-is-below}
 use Rattle.lent.proofs.Calling.{is-pool}
-use Rattle.node_write.specs.Output.{HasRoot, Wrote, wrote, pickWrote, puts}
+use Rattle.node_write.specs.Output.{HasRoot, Wrote, wrote, puts}
 use Rattle.node_write.specs.declared.FileLength.{FileLength}
 use Rattle.node_write.specs.declared.FileLength.the-variants.{Bytes, NoRoom}
 use Rattle.engine_file.specs.Write.{Output, output, demandOf, fileOver, writeCall}
@@ -32,7 +32,7 @@ unfolding puts told answerOf
 told-is old file = go (leb (length file) (length old))
   where
     go : (t : Bool)
-        → told (pickWrote t (wrote (Bytes (length file)) (file ++ drop (length file) old)) (wrote NoRoom old)) ≡ demandOf old t noRoom (output (Length (length file)) (file ++ drop (length file) old))
+        → told (cond t (wrote (Bytes (length file)) (file ++ drop (length file) old)) (wrote NoRoom old)) ≡ demandOf old t noRoom (output (Length (length file)) (file ++ drop (length file) old))
     go true = refl
     go false = refl
 

@@ -1,7 +1,7 @@
 -- What is read of an expansion: the refusal number comes first.
 -- Assumes nothing.
 use mathlib.Core.Path.{_≡_, refl, sym, ap, _∙_}
-use mathlib.Core.Bool.{Bool, true, false}
+use mathlib.Core.Bool.{Bool, true, false, cond}
 use mathlib.Core.Logic.{_≢_}
 use mathlib.Core.List.{List}
 use Prim.Native.Nat.{ℕ}
@@ -20,11 +20,11 @@ use Rattle.lent_series.specs.declared.call.Outcome.{Outcome}
 use Rattle.lent_series.specs.Series.{nodesOf, lengthOk, seriesOf, Usable, Narrowed}
 use Rattle.lent_series.specs.Call.{refusal}
 use Rattle.lent_series.proofs.Numbers.{usable, given-order}
-use Rattle.engine_series.specs.Operations.{pick, firstRefusal, countOf, coefficientsOf}
+use Rattle.engine_series.specs.Operations.{firstRefusal, countOf, coefficientsOf}
 use Rattle.engine_series.specs.declared.read.Counted.the-variants.{Count, Refused}
 
 -- where there is no refusal, all three tests were met
-picked : (t : Bool) (a b : ℕ) → b ≢ 0 → pick t a b ≡ 0 → (t ≡ true) × (a ≡ 0)
+picked : (t : Bool) (a b : ℕ) → b ≢ 0 → cond t a b ≡ 0 → (t ≡ true) × (a ≡ 0)
 picked true a b h e = (refl, e)
 picked false a b h e = absurd (h e)
 

@@ -1,6 +1,6 @@
 -- The operations on one expansion as calls from outside: refusals 1, 2, 4 and 5 first, then the work.
 -- Assumes nothing.
-use mathlib.Core.Bool.{Bool, true, false, _&&_, _||_}
+use mathlib.Core.Bool.{Bool, true, false, _&&_, _||_, cond}
 use mathlib.Core.List.{List, [], _∷_}
 use Prim.Native.Nat.{ℕ}
 use lib.Dec.{eqb, ltb}
@@ -51,13 +51,9 @@ abbrev pub varWork : ℕ → ℕ → Work Expansion
 varWork x n P = demand (allBelow (P .count) (x ∷ [])) unknownNode (demand (ltb n terms) wrongOrder (var x n P))
 
 -- ---- what is only read
-abbrev pub pick : Bool → ℕ → ℕ → ℕ
-pick true a b = a
-pick false a b = b
-
 -- the first of 1, 2 and 5 that holds, or 0
 abbrev pub firstRefusal : List ℕ → List ℕ → ℕ → Series → ℕ
-firstRefusal ks ws n s = pick (isPool ks ws n) (pick (allBelow n (nodesOf s)) (pick (lengthOk s) 0 wrongOrder) unknownNode) brokenPool
+firstRefusal ks ws n s = cond (isPool ks ws n) (cond (allBelow n (nodesOf s)) (cond (lengthOk s) 0 wrongOrder) unknownNode) brokenPool
 
 abbrev pub counted : Bool → ℕ → Series → Counted
 counted true k s = Count (order (given s))

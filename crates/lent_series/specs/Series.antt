@@ -1,7 +1,7 @@
 -- "An expansion is a constant, or a list of 1 to 25 node numbers", as a caller lends and gets it: an array of 25 with its order beside it.
 -- Assumes nothing.
 use mathlib.Core.Path.{_≡_}
-use mathlib.Core.Bool.{Bool, true, false, _&&_, _||_}
+use mathlib.Core.Bool.{Bool, true, false, _&&_, _||_, cond}
 use mathlib.Core.List.{List, [], _∷_, _++_}
 use Prim.Native.Nat.{ℕ, _-_, min, _<_}
 use lib.Dec.{eqb, leb}
@@ -17,13 +17,9 @@ use Rattle.lent_series.specs.declared.series.Series.{Series}
 abbrev pub isConstant : Series → Bool
 isConstant s = eqb (s .order) endless
 
-abbrev pub pick : Bool → ℕ → ℕ → ℕ
-pick true a b = a
-pick false a b = b
-
 -- the node numbers given: a constant's one, a list's entries; "unread there in arguments" past the list's end, and no more than there are
 abbrev pub entries : Series → ℕ
-entries s = pick (isConstant s) 1 (min (s .order) terms)
+entries s = cond (isConstant s) 1 (min (s .order) terms)
 
 abbrev pub nodesOf : Series → List ℕ
 nodesOf s = take (entries s) (s .coeffs)

@@ -1,6 +1,6 @@
 -- Literals, from document 01: their range, folding with its range test, `exp` and `log` of a literal, and the word in the pool.
 -- Assumes nothing.
-use mathlib.Core.Bool.{Bool, true, false}
+use mathlib.Core.Bool.{Bool, true, false, cond}
 use Prim.Native.Nat.{ℕ, _-_, _^_}
 use lib.Dec.{leb, eqb}
 use lib.IntN.{ℤ, pos, negsuc, natAbs}
@@ -25,20 +25,16 @@ abbrev pub isOne : ℤ → Bool
 isOne (pos n) = eqb n 1
 isOne (negsuc n) = false
 
-abbrev pub pick : Bool → Folded → Folded → Folded
-pick true a b = a
-pick false a b = b
-
 -- what folding gives: z, or 12 where z "leaves the literal range"
 unfoldable pub folded : ℤ → Folded
-folded z = pick (isLiteral z) (Value z) (Refused outOfRange)
+folded z = cond (isLiteral z) (Value z) (Refused outOfRange)
 
 -- "`exp` of the literal 0 is 1 and `log` of the literal 1 is 0; other literals have neither": 11
 unfoldable pub expOf : ℤ → Folded
-expOf z = pick (isZero z) (Value (pos 1)) (Refused noExpOrLog)
+expOf z = cond (isZero z) (Value (pos 1)) (Refused noExpOrLog)
 
 unfoldable pub logOf : ℤ → Folded
-logOf z = pick (isOne z) (Value (pos 0)) (Refused noExpOrLog)
+logOf z = cond (isOne z) (Value (pos 0)) (Refused noExpOrLog)
 
 -- "signed whole number, two's complement", in a word of 64 bits: the word read as a number, and the number's word
 abbrev pub signed : ℕ → ℤ

@@ -1,7 +1,7 @@
 -- Running a term gives its value: appending a node does, one piece of work after another does, so by induction on the depth every constructor gives the value of its operation.
 -- Assumes nothing.
 use mathlib.Core.Path.{_≡_, refl, sym, ap, _∙_}
-use mathlib.Core.Bool.{Bool, true, false}
+use mathlib.Core.Bool.{Bool, true, false, cond}
 use Prim.Native.Nat.{ℕ, zero, suc, _≤_, _<_}
 use native.Mathlib.Omega.{arith}
 use lib.Dec.{leb}
@@ -9,7 +9,7 @@ use lib.IntN.{ℤ, pos, negsuc}
 use lib.Seq.{getD-set-same}
 use borrow.Author.Tests.{lt-ltb}
 use Rattle.refusals.specs.Refusals.{noExpOrLog, outOfRange}
-use Rattle.literal.specs.Literal.{isLiteral, isZero, isOne, pick, folded, expOf, logOf}
+use Rattle.literal.specs.Literal.{isLiteral, isZero, isOne, folded, expOf, logOf}
 use Rattle.literal.specs.declared.Folded.the-variants.{Value, Refused}
 use Rattle.pool.specs.declared.node.Node.{Node}
 use Rattle.pool.specs.declared.node.Node.the-variants as node
@@ -98,7 +98,7 @@ module _ {A : Algebra} (M : Model A) (env : Values A) where
   -- ---- literals
 
   pub literal-after :
-      {P : Pool} → Keeps P → (t : Bool) (z : ℤ) (k : ℕ) → (t ≡ true → isLiteral z ≡ true) → After P (λ y. (t ≡ true) × (y ≡ A .int z)) (literal (pick t (Value z) (Refused k)) P)
+      {P : Pool} → Keeps P → (t : Bool) (z : ℤ) (k : ℕ) → (t ≡ true → isLiteral z ≡ true) → After P (λ y. (t ≡ true) × (y ≡ A .int z)) (literal (cond t (Value z) (Refused k)) P)
   unfolding valueNode
   literal-after {P} kP true z k fits = after-weaker (λ y e. (refl, e)) (append-after kP (record { below = tt; range = fits refl }))
   literal-after kP false z k fits = ended

@@ -1,7 +1,7 @@
 -- What writing a file leaves in the lent output.
 -- Assumes nothing.
 use mathlib.Core.Path.{_≡_}
-use mathlib.Core.Bool.{Bool, true, false}
+use mathlib.Core.Bool.{Bool, true, false, cond}
 use mathlib.Core.List.{List, _++_}
 use Prim.Native.Nat.{ℕ, _<_}
 use lib.Dec.{leb}
@@ -24,10 +24,6 @@ pub record Wrote : Type 0 where
 abbrev pub wrote : FileLength → List ℕ → Wrote
 wrote r out = record { answer = r; out = out }
 
-abbrev pub pickWrote : Bool → Wrote → Wrote → Wrote
-pickWrote true a b = a
-pickWrote false a b = b
-
 -- the file where it fits, "the output's bytes past the result are unchanged"; 19: "The lent output is too short", and it is unchanged
 unfoldable pub puts : List ℕ → List ℕ → Wrote
-puts file old = pickWrote (leb (length file) (length old)) (wrote (Bytes (length file)) (file ++ drop (length file) old)) (wrote NoRoom old)
+puts file old = cond (leb (length file) (length old)) (wrote (Bytes (length file)) (file ++ drop (length file) old)) (wrote NoRoom old)

@@ -1,12 +1,12 @@
 -- The value of digits, read from left to right: what the digits passed have given goes on to the same value.
 -- Assumes nothing.
 use mathlib.Core.Path.{_≡_, refl, ap, sym, _∙_}
-use mathlib.Core.Bool.{Bool, true, false}
+use mathlib.Core.Bool.{Bool, true, false, cond}
 use mathlib.Core.List.{List, [], _∷_}
 use Prim.Native.Nat.{ℕ, _+_, _*_, _-_, _≤_, _<_}
 use native.Mathlib.Omega.{arith}
 use lib.ListN.{length, getD, drop, drop-of-length-le}
-use Rattle.number_list.specs.Numbers.{greatest, isDigit, pick, value, Reads}
+use Rattle.number_list.specs.Numbers.{greatest, isDigit, value, Reads}
 use Rattle.number_list.proofs.Runs.{here}
 
 -- digits only make a number greater
@@ -15,7 +15,7 @@ unfolding value
 grows n [] = omega arith
 grows n (b ∷ bs) = go (isDigit b) (grows (10 * n + (b - 48)) bs)
   where
-    go : (t : Bool) → 10 * n + (b - 48) ≤ value (10 * n + (b - 48)) bs → n ≤ pick t (value (10 * n + (b - 48)) bs) n
+    go : (t : Bool) → 10 * n + (b - 48) ≤ value (10 * n + (b - 48)) bs → n ≤ cond t (value (10 * n + (b - 48)) bs) n
     go true h = omega arith
     go false h = omega arith
 
@@ -28,10 +28,10 @@ pub starts : (text : List ℕ) (from : ℕ) → Reading text from 0 from
 starts text from = record { small = omega arith; gives = refl }
 
 module _ (text : List ℕ) (from n i : ℕ) (r : Reading text from n i) where
-  at : (t : Bool) → i < length text → t ≡ isDigit (getD text i 0) → pick t (value (10 * n + (getD text i 0 - 48)) (drop (i + 1) text)) n ≡ value 0 (drop from text)
+  at : (t : Bool) → i < length text → t ≡ isDigit (getD text i 0) → cond t (value (10 * n + (getD text i 0 - 48)) (drop (i + 1) text)) n ≡ value 0 (drop from text)
   unfolding value
   at t h e =
-      ap (λ (s : Bool). pick s (value (10 * n + (getD text i 0 - 48)) (drop (i + 1) text)) n) e
+      ap (λ (s : Bool). cond s (value (10 * n + (getD text i 0 - 48)) (drop (i + 1) text)) n) e
       ∙ ap (value n) (sym (here text i h))
       ∙ r .gives
 

@@ -1,7 +1,7 @@
 -- Numbers in a text: each is a run of digits, and what stands between them is passed over.
 -- Assumes nothing.
 use mathlib.Core.Path.{_≡_}
-use mathlib.Core.Bool.{Bool, true, false, not, _&&_}
+use mathlib.Core.Bool.{Bool, true, false, not, _&&_, cond}
 use mathlib.Core.List.{List, [], _∷_}
 use Prim.Native.Nat.{ℕ, suc, _+_, _*_, _-_, _≤_, _<_}
 use lib.Dec.{leb}
@@ -18,19 +18,15 @@ abbrev pub belongsTo : Bool → ℕ → Bool
 belongsTo true b = isDigit b
 belongsTo false b = not (isDigit b)
 
-abbrev pub pick : Bool → ℕ → ℕ → ℕ
-pick true m n = m
-pick false m n = n
-
 -- how many bytes at the start are digits, or are none
 unfoldable pub run : Bool → List ℕ → ℕ
 run digits [] = 0
-run digits (b ∷ bs) = pick (belongsTo digits b) (suc (run digits bs)) 0
+run digits (b ∷ bs) = cond (belongsTo digits b) (suc (run digits bs)) 0
 
 -- what the digits at the start make of the number before them
 unfoldable pub value : ℕ → List ℕ → ℕ
 value n [] = n
-value n (b ∷ bs) = pick (isDigit b) (value (10 * n + (b - 48)) bs) n
+value n (b ∷ bs) = cond (isDigit b) (value (10 * n + (b - 48)) bs) n
 
 -- the place of the first digit from a place on
 abbrev pub firstDigit : List ℕ → ℕ → ℕ

@@ -1,12 +1,12 @@
 -- What the definitions' search finds: a number below the bound that passes, or the refusal where none passes.
 -- Every fact on quotients goes by these two cases. Assumes nothing.
 use mathlib.Core.Path.{_≡_, refl, ap, _∙_}
-use mathlib.Core.Bool.{Bool, true, false}
+use mathlib.Core.Bool.{Bool, true, false, cond}
 use mathlib.Core.Logic.{⊎-elim}
 use Prim.Native.Nat.{ℕ, zero, suc, _<_}
 use native.Mathlib.Nat.{le-step, lt-suc-self, eq-or-lt-of-le, le-of-suc-le-suc, not-suc-le-zero}
 use Rattle.refusals.specs.Refusals.{noInverse}
-use Rattle.residue.specs.Residue.{firstBelow, orElse, pick}
+use Rattle.residue.specs.Residue.{firstBelow, orElse}
 use Rattle.residue.specs.declared.Divided.{Divided}
 use Rattle.residue.specs.declared.Divided.the-variants.{Residue, Refused}
 
@@ -14,7 +14,7 @@ pub data Sought (n : ℕ) (passes : ℕ → Bool) : Divided → Type 0 where
   found : (q : ℕ) → q < n → passes q ≡ true → Sought n passes (Residue q)
   missing : ((q : ℕ) → q < n → passes q ≡ false) → Sought n passes (Refused noInverse)
 
-one-more : {n : ℕ} {passes : ℕ → Bool} {r : Divided} → Sought n passes r → (t : Bool) → passes n ≡ t → Sought (suc n) passes (orElse r (pick t (Residue n) (Refused noInverse)))
+one-more : {n : ℕ} {passes : ℕ → Bool} {r : Divided} → Sought n passes r → (t : Bool) → passes n ≡ t → Sought (suc n) passes (orElse r (cond t (Residue n) (Refused noInverse)))
 one-more (found q h e) t et = found q (le-step h) e
 one-more {n} (missing f) true et = found n (lt-suc-self n) et
 one-more {n} {passes} (missing f) false et =

@@ -1,6 +1,6 @@
 -- Residues, from document 01's "By residues .." and document 02's C-17: the modulus is a parameter, and need not be prime.
 -- Assumes nothing.
-use mathlib.Core.Bool.{Bool, true, false}
+use mathlib.Core.Bool.{Bool, true, false, cond}
 use Prim.Native.Nat.{ℕ, zero, suc, _+_, _-_, _*_, _%_, _^_, _≤_}
 use lib.Dec.{eqb}
 use lib.IntN.{ℤ, pos, negsuc}
@@ -31,10 +31,6 @@ productOf m a b = a * b % m
 abbrev pub powerOf : ℕ → ℕ → ℕ → ℕ
 powerOf m a e = a ^ e % m
 
-abbrev pub pick : Bool → Divided → Divided → Divided
-pick true a b = a
-pick false a b = b
-
 abbrev pub orElse : Divided → Divided → Divided
 orElse (Residue q) other = Residue q
 orElse (Refused k) other = other
@@ -42,7 +38,7 @@ orElse (Refused k) other = other
 -- the first of 0, .., n - 1 that passes, and 17 where none does
 unfoldable pub firstBelow : ℕ → (ℕ → Bool) → Divided
 firstBelow zero passes = Refused noInverse
-firstBelow (suc n) passes = orElse (firstBelow n passes) (pick (passes n) (Residue n) (Refused noInverse))
+firstBelow (suc n) passes = orElse (firstBelow n passes) (cond (passes n) (Residue n) (Refused noInverse))
 
 -- the residue whose product with the divisor is the dividend
 abbrev pub dividesTo : ℕ → ℕ → ℕ → Divided

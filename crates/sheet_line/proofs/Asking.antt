@@ -1,7 +1,7 @@
 -- What a line asks for, from its fields as they were read: a field that is no number is `usage`.
 -- Assumes nothing.
 use mathlib.Core.Path.{_≡_, refl, ap, sym, _∙_}
-use mathlib.Core.Bool.{Bool}
+use mathlib.Core.Bool.{Bool, cond}
 use mathlib.Core.List.{List, [], _∷_}
 use Prim.Native.Nat.{ℕ, zero, suc, _+_, _-_, _≤_, _<_}
 use native.Mathlib.Omega.{arith}
@@ -12,7 +12,7 @@ use mir.Syntax.{w64}
 use mir.Val.{SFits}
 use Rattle.literal.proofs.Sizes.{fits-of-size, size-negation}
 use Rattle.taylor.specs.Expand.{Point, none}
-use Rattle.sheet_text.specs.Line.{Read, nothing, read, decimalOf, negative, positive, either, pointOf, asked, atPoint, lineOf, longestLine, parse}
+use Rattle.sheet_text.specs.Line.{Read, nothing, read, decimalOf, negative, positive, pointOf, asked, atPoint, lineOf, longestLine, parse}
 use Rattle.sheet_line.specs.declared.Number.the-variants as number
 use Rattle.sheet_line.specs.declared.Whole.the-variants as whole
 use Rattle.sheet_line.specs.declared.Place.the-variants as place
@@ -101,7 +101,7 @@ unfolding pointOf
 after-minus [] h e = absurd (h refl)
 after-minus (b ∷ bs) h e =
     ap (λ (l : List ℕ). negative (decimalOf l)) (rest-of (b ∷ bs) 1)
-    ∙ ap (λ (t : Bool). either t (negative (decimalOf bs)) (positive (decimalOf (b ∷ bs)))) (sym (eq-eqb b 45 e))
+    ∙ ap (λ (t : Bool). cond t (negative (decimalOf bs)) (positive (decimalOf (b ∷ bs)))) (sym (eq-eqb b 45 e))
 
 module _ (bytes : List ℕ) (some : length bytes ≡ 0 → ⊥) (minus : getD bytes 0 0 ≡ 45) where
   pub minus-none : number.None ≡ cutNumber (decimalOf (behind bytes)) → whole.None ≡ cutWhole (pointOf bytes)
@@ -117,7 +117,7 @@ module _ (bytes : List ℕ) (some : length bytes ≡ 0 → ⊥) (minus : getD by
 without-minus : (bytes : List ℕ) → (length bytes ≡ 0 → ⊥) → (getD bytes 0 0 ≡ 45 → ⊥) → positive (decimalOf bytes) ≡ pointOf bytes
 unfolding pointOf
 without-minus [] h e = absurd (h refl)
-without-minus (b ∷ bs) h e = ap (λ (t : Bool). either t (negative (decimalOf bs)) (positive (decimalOf (b ∷ bs)))) (sym (ne-eqb b 45 e))
+without-minus (b ∷ bs) h e = ap (λ (t : Bool). cond t (negative (decimalOf bs)) (positive (decimalOf (b ∷ bs)))) (sym (ne-eqb b 45 e))
 
 module _ (bytes : List ℕ) (some : length bytes ≡ 0 → ⊥) (plain : getD bytes 0 0 ≡ 45 → ⊥) where
   pub plain-none : number.None ≡ cutNumber (decimalOf bytes) → whole.None ≡ cutWhole (pointOf bytes)

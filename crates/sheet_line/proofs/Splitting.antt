@@ -1,7 +1,7 @@
 -- The fields of a line are what its content is split into, and a split starts with what stands before the first space.
 -- Assumes nothing.
 use mathlib.Core.Path.{_≡_, refl, ap, sym, _∙_}
-use mathlib.Core.Bool.{Bool, true, false}
+use mathlib.Core.Bool.{Bool, true, false, cond}
 use mathlib.Core.List.{List, [], _∷_}
 use Prim.Native.Nat.{ℕ, zero, suc, _+_, _-_, _≤_, _<_}
 use native.Mathlib.Numerals.{add-one}
@@ -10,8 +10,8 @@ use lib.Dec.{eqb}
 use lib.ListN.{length, getD, take, drop, length-drop, drop-of-length-le}
 use lib.Seq.{drop-cons, take-all}
 use borrow.Author.Tests.{eq-eqb, ne-eqb}
-use Rattle.sheet_text.specs.Line.{fields, pickFields, joined}
-use Rattle.sheet_line.specs.Split.{pickIndex, contentLength, firstSpace, split}
+use Rattle.sheet_text.specs.Line.{fields, joined}
+use Rattle.sheet_line.specs.Split.{contentLength, firstSpace, split}
 
 -- the content
 pub content-within : (bytes : List ℕ) → contentLength bytes ≤ length bytes
@@ -19,7 +19,7 @@ unfolding contentLength
 content-within [] = omega arith
 content-within (b ∷ []) = go (eqb b 10)
   where
-    go : (t : Bool) → pickIndex t 0 1 ≤ 1
+    go : (t : Bool) → cond t 0 1 ≤ 1
     go true = omega arith
     go false = omega arith
 content-within (b ∷ c ∷ bs) = let h = content-within (c ∷ bs) in omega arith
@@ -34,10 +34,10 @@ unfolding fields split contentLength
 split-content [] = refl
 split-content (b ∷ []) = go (eqb b 10)
   where
-    go : (t : Bool) → pickFields t ([] ∷ []) (pickFields (eqb b 32) ([] ∷ [] ∷ []) ((b ∷ []) ∷ [])) ≡ split (take (pickIndex t 0 1) (b ∷ []))
+    go : (t : Bool) → cond t ([] ∷ []) (cond (eqb b 32) ([] ∷ [] ∷ []) ((b ∷ []) ∷ [])) ≡ split (take (cond t 0 1) (b ∷ []))
     go true = refl
     go false = refl
-split-content (b ∷ c ∷ bs) = ap (λ (l : List (List ℕ)). pickFields (eqb b 32) ([] ∷ l) (joined b l)) (split-content (c ∷ bs))
+split-content (b ∷ c ∷ bs) = ap (λ (l : List (List ℕ)). cond (eqb b 32) ([] ∷ l) (joined b l)) (split-content (c ∷ bs))
 
 -- k is the index of the last byte
 ended : (bytes : List ℕ) (k : ℕ) → suc k ≡ length bytes → getD bytes k 0 ≡ 10 → k ≡ contentLength bytes
@@ -80,14 +80,14 @@ module _ (bytes : List ℕ) (i : ℕ) (s : Seeking bytes i) where
   pub found : i < length bytes → getD bytes i 0 ≡ 32 → i ≡ firstSpace bytes
   unfolding firstSpace
   found h e =
-      let p : i + pickIndex (eqb (getD bytes i 0) 32) 0 (suc (firstSpace (drop (i + 1) bytes))) ≡ firstSpace bytes = here h in
+      let p : i + cond (eqb (getD bytes i 0) 32) 0 (suc (firstSpace (drop (i + 1) bytes))) ≡ firstSpace bytes = here h in
       let q : i + 0 ≡ firstSpace bytes = rw (eq-eqb (getD bytes i 0) 32 e) at p in
       omega arith
 
   pub turn : i < length bytes → (getD bytes i 0 ≡ 32 → ⊥) → Seeking bytes (i + 1)
   unfolding firstSpace
   turn h e =
-      let p : i + pickIndex (eqb (getD bytes i 0) 32) 0 (suc (firstSpace (drop (i + 1) bytes))) ≡ firstSpace bytes = here h in
+      let p : i + cond (eqb (getD bytes i 0) 32) 0 (suc (firstSpace (drop (i + 1) bytes))) ≡ firstSpace bytes = here h in
       let q : i + suc (firstSpace (drop (i + 1) bytes)) ≡ firstSpace bytes = rw (ne-eqb (getD bytes i 0) 32 e) at p in
       record { within = omega arith; first = omega arith }
 
@@ -103,7 +103,7 @@ unfolding split firstSpace
 no-space [] h = refl
 no-space (b ∷ bs) h = go (eqb b 32) (no-space bs) h
   where
-    go : (t : Bool) → (length bs ≤ firstSpace bs → split bs ≡ bs ∷ []) → suc (length bs) ≤ pickIndex t 0 (suc (firstSpace bs)) → pickFields t ([] ∷ split bs) (joined b (split bs)) ≡ (b ∷ bs) ∷ []
+    go : (t : Bool) → (length bs ≤ firstSpace bs → split bs ≡ bs ∷ []) → suc (length bs) ≤ cond t 0 (suc (firstSpace bs)) → cond t ([] ∷ split bs) (joined b (split bs)) ≡ (b ∷ bs) ∷ []
     go true later k = absurd (omega arith)
     go false later k = ap (joined b) (later (omega arith))
 
@@ -115,7 +115,7 @@ unfolding split firstSpace
 split-at-first [] h = absurd (omega arith)
 split-at-first (b ∷ bs) h = go (eqb b 32) (split-at-first bs) h
   where
-    go : (t : Bool) → (firstSpace bs < length bs → split bs ≡ take (firstSpace bs) bs ∷ split (drop (suc (firstSpace bs)) bs)) → pickIndex t 0 (suc (firstSpace bs)) < suc (length bs) → pickFields t ([] ∷ split bs) (joined b (split bs)) ≡ take (pickIndex t 0 (suc (firstSpace bs))) (b ∷ bs) ∷ split (drop (suc (pickIndex t 0 (suc (firstSpace bs)))) (b ∷ bs))
+    go : (t : Bool) → (firstSpace bs < length bs → split bs ≡ take (firstSpace bs) bs ∷ split (drop (suc (firstSpace bs)) bs)) → cond t 0 (suc (firstSpace bs)) < suc (length bs) → cond t ([] ∷ split bs) (joined b (split bs)) ≡ take (cond t 0 (suc (firstSpace bs))) (b ∷ bs) ∷ split (drop (suc (cond t 0 (suc (firstSpace bs)))) (b ∷ bs))
     go true later k = refl
     go false later k = ap (joined b) (later (omega arith))
 
@@ -135,7 +135,7 @@ unfolding split
 some-field [] = omega arith
 some-field (b ∷ bs) = go (eqb b 32) (split bs)
   where
-    go : (t : Bool) (l : List (List ℕ)) → 0 < length (pickFields t ([] ∷ l) (joined b l))
+    go : (t : Bool) (l : List (List ℕ)) → 0 < length (cond t ([] ∷ l) (joined b l))
     go true l = omega arith
     go false [] = omega arith
     go false (f ∷ fs) = omega arith

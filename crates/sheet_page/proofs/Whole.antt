@@ -1,7 +1,7 @@
 -- The pieces are short enough to be put, and all of them in order are the sheet.
 -- Assumes nothing.
 use mathlib.Core.Path.{_≡_, refl, sym, ap, _∙_}
-use mathlib.Core.Bool.{Bool, true, false}
+use mathlib.Core.Bool.{Bool, true, false, cond}
 use mathlib.Core.Logic.{_≢_}
 use mathlib.Core.List.{List, [], _∷_, _++_, append-nil, append-assoc}
 use Prim.Native.Nat.{ℕ, zero, suc, _+_, _-_, min, _≤_, _<_}
@@ -20,7 +20,7 @@ use Rattle.taylor.specs.Expand.{Point, none, point}
 use Rattle.taylor_base.specs.Answers.{terms}
 use Rattle.expand.specs.Points.{pointOf}
 use Rattle.sheet_text.specs.Sheet.{lineEnd, space, colon, refusedText, pointText, linesFrom}
-use Rattle.sheet_page.specs.Pages.{refusedLine, firstLine, headBy, headOf, pick, partOf, textAt, pieceOf, lineOf, linesUpTo, wholeOf, short, putOf, Printable, Put}
+use Rattle.sheet_page.specs.Pages.{refusedLine, firstLine, headBy, headOf, partOf, textAt, pieceOf, lineOf, linesUpTo, wholeOf, short, putOf, Printable, Put}
 use Rattle.sheet_page.specs.declared.first.Page.{Page}
 use Rattle.sheet_page.specs.declared.first.Verdict.{Verdict}
 use Rattle.sheet_page.specs.declared.first.Verdict.the-variants.{Usage, Refused, Lines}
@@ -135,7 +135,7 @@ module _ (page : Page) (ks ws : List ℕ) where
 
       of-line : (part : ℕ) → partOf (textAt page ks ws (line - 1)) (line - 1) part ≡ pieceOf page ks ws line part
       unfolding pieceOf
-      of-line part = ap (λ (t : Bool). pick t (partOf (textAt page ks ws (line - 1)) (line - 1) part) []) (sym (lt-ltb (line - 1) (page .lines) below)) ∙ ap (λ (n : ℕ). pieceOf page ks ws n part) next
+      of-line part = ap (λ (t : Bool). cond t (partOf (textAt page ks ws (line - 1)) (line - 1) part) []) (sym (lt-ltb (line - 1) (page .lines) below)) ∙ ap (λ (n : ℕ). pieceOf page ks ws n part) next
 
       pub index-piece : {part : ℕ} → part ≡ 0 → decimal (line - 1) ++ colon ≡ pieceOf page ks ws line part
       index-piece e = rw e (of-line 0)
@@ -200,7 +200,7 @@ module _ (page : Page) (ks ws : List ℕ) (p : Printable page ks ws) where
   piece-short zero (suc part) = omega arith
   piece-short (suc i) part = go (ltb i (page .lines)) refl part
     where
-      go : (t : Bool) → ltb i (page .lines) ≡ t → (part : ℕ) → length (pick t (partOf (textAt page ks ws i) i part) []) ≤ longestText
+      go : (t : Bool) → ltb i (page .lines) ≡ t → (part : ℕ) → length (cond t (partOf (textAt page ks ws i) i part) []) ≤ longestText
       go true e zero = label-short i
       go true e (suc zero) = p .short i (ltb-true i (page .lines) e)
       go true e (suc (suc zero)) = end-short

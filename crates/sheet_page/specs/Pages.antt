@@ -1,7 +1,7 @@
 -- A sheet in pieces, line by line: the first line is one piece; of each further line the index, the text and the line end are one each.
 -- Assumes nothing.
 use mathlib.Core.Path.{_≡_}
-use mathlib.Core.Bool.{Bool, true, false, _&&_}
+use mathlib.Core.Bool.{Bool, true, false, _&&_, cond}
 use mathlib.Core.List.{List, [], _∷_, _++_}
 use Prim.Native.Nat.{ℕ, zero, suc, _≤_, _<_}
 use lib.Dec.{leb, ltb}
@@ -45,10 +45,6 @@ partOf text i (suc zero) = text
 partOf text i (suc (suc zero)) = lineEnd
 partOf text i (suc (suc (suc part))) = []
 
-abbrev pub pick : Bool → List ℕ → List ℕ → List ℕ
-pick true a b = a
-pick false a b = b
-
 -- the text of coefficient i
 abbrev pub textAt : Page → List ℕ → List ℕ → ℕ → List ℕ
 textAt page ks ws i = textOf (nodeIn ks ws) (at (page .nodes) i)
@@ -56,7 +52,7 @@ textAt page ks ws i = textOf (nodeIn ks ws) (at (page .nodes) i)
 unfoldable pub pieceOf : Page → List ℕ → List ℕ → ℕ → ℕ → List ℕ
 pieceOf page ks ws zero zero = headOf page
 pieceOf page ks ws zero (suc part) = []
-pieceOf page ks ws (suc i) part = pick (ltb i (page .lines)) (partOf (textAt page ks ws i) i part) []
+pieceOf page ks ws (suc i) part = cond (ltb i (page .lines)) (partOf (textAt page ks ws i) i part) []
 
 -- the pieces of a line, and of the first n lines
 abbrev pub lineOf : Page → List ℕ → List ℕ → ℕ → List ℕ
@@ -72,11 +68,11 @@ wholeOf page ks ws = linesUpTo page ks ws (suc (page .lines))
 
 -- a piece, unless it is above 65,535 bytes
 abbrev pub short : List ℕ → List ℕ
-short piece = pick (leb (length piece) longestText) piece []
+short piece = cond (leb (length piece) longestText) piece []
 
 -- what is put of a piece: nothing where the output has no room for the longest text, or the page more lines than an expansion has entries
 abbrev pub putOf : Page → List ℕ → List ℕ → ℕ → ℕ → ℕ → List ℕ
-putOf page ks ws line part room = pick (leb longestText room && leb (page .lines) terms) (short (pieceOf page ks ws line part)) []
+putOf page ks ws line part room = cond (leb longestText room && leb (page .lines) terms) (short (pieceOf page ks ws line part)) []
 
 -- "19 here means one coefficient's text above 65,535 bytes": no text is, and every piece is put whole (`whole-put` in proofs/)
 pub record Printable (page : Page) (ks ws : List ℕ) : Type 0 where

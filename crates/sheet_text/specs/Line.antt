@@ -1,6 +1,6 @@
 -- The input line of `sheet`: "a line of variable, order and, if wanted, point: decimals without leading zeros, one space between, a minus only before a nonzero point, a line end .. or none, 64 bytes at most".
 -- Assumes nothing.
-use mathlib.Core.Bool.{Bool, true, false, not, _&&_}
+use mathlib.Core.Bool.{Bool, true, false, not, _&&_, cond}
 use mathlib.Core.List.{List, [], _∷_, _++_}
 use Prim.Native.Nat.{ℕ, zero, suc, _+_, _-_, _*_}
 use lib.Dec.{leb, ltb, eqb}
@@ -46,31 +46,23 @@ abbrev pub positive : Read ℕ → Read ℤ
 positive nothing = nothing
 positive (read n) = read (pos n)
 
-abbrev pub either : Bool → Read ℤ → Read ℤ → Read ℤ
-either true a b = a
-either false a b = b
-
 -- "a minus only before a nonzero point"
 unfoldable pub pointOf : List ℕ → Read ℤ
 pointOf [] = nothing
-pointOf (b ∷ bs) = either (eqb b 45) (negative (decimalOf bs)) (positive (decimalOf (b ∷ bs)))
+pointOf (b ∷ bs) = cond (eqb b 45) (negative (decimalOf bs)) (positive (decimalOf (b ∷ bs)))
 
 -- the byte in front of the first of the fields
 abbrev pub joined : ℕ → List (List ℕ) → List (List ℕ)
 joined b [] = (b ∷ []) ∷ []
 joined b (f ∷ fs) = (b ∷ f) ∷ fs
 
-abbrev pub pickFields : Bool → List (List ℕ) → List (List ℕ) → List (List ℕ)
-pickFields true a b = a
-pickFields false a b = b
-
 -- what stands between single spaces, and before a line end that is the last byte
 unfoldable pub fields : List ℕ → List (List ℕ)
 fields [] = [] ∷ []
-fields (b ∷ []) = pickFields (eqb b 10) ([] ∷ []) (pickFields (eqb b 32) ([] ∷ [] ∷ []) ((b ∷ []) ∷ []))
+fields (b ∷ []) = cond (eqb b 10) ([] ∷ []) (cond (eqb b 32) ([] ∷ [] ∷ []) ((b ∷ []) ∷ []))
 fields (b ∷ c ∷ bs) =
     let rest = fields (c ∷ bs) in
-    pickFields (eqb b 32) ([] ∷ rest) (joined b rest)
+    cond (eqb b 32) ([] ∷ rest) (joined b rest)
 
 abbrev pub asked : Read ℕ → Read ℕ → Read Point → Line
 asked nothing order x = usage
@@ -94,9 +86,5 @@ lineOf (v ∷ o ∷ p ∷ q ∷ more) = usage
 abbrev pub longestLine : ℕ
 longestLine = 64
 
-abbrev pub pickLine : Bool → Line → Line → Line
-pickLine true a b = a
-pickLine false a b = b
-
 unfoldable pub parse : List ℕ → Line
-parse bytes = pickLine (leb (length bytes) longestLine) (lineOf (fields bytes)) usage
+parse bytes = cond (leb (length bytes) longestLine) (lineOf (fields bytes)) usage

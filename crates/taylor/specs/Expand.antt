@@ -1,6 +1,6 @@
 -- `taylor_coeffs_with` of src/symbolic.rs: the expansion of an expression. It visits "left before right" and keeps "each visited node's result for that call".
 -- Assumes nothing.
-use mathlib.Core.Bool.{Bool, true, false}
+use mathlib.Core.Bool.{Bool, true, false, cond}
 use mathlib.Core.List.{List}
 use Prim.Native.Nat.{ℕ, zero, suc}
 use lib.Dec.{eqb}
@@ -48,10 +48,6 @@ keep i e S = done e (state (S .pool) (set (S .results) i (kept e)))
 abbrev pub once : (ℕ → Walk) → ℕ → Kept → Walk
 once visit i nothing S = (visit i >>= keep i) S
 once visit i (kept e) S = done e S
-
-abbrev pub choose : Bool → Went → Went → Went
-choose true a b = a
-choose false a b = b
 
 -- where an expansion is made: at a point, or at the variable itself
 pub data Point : Type 0 where
@@ -110,7 +106,7 @@ expandAt v x order down term S = expandNode v x order down term (nodeAt (S .pool
 unfoldable pub expandBelow : ℕ → Point → ℕ → ℕ → ℕ → Walk
 expandBelow v x order zero i S = refused brokenPool
 expandBelow v x order (suc k) i S =
-    choose (eqb i k) (once (expandAt v x order (expandBelow v x order k)) k (getD (S .results) k nothing) S) (expandBelow v x order k i S)
+    cond (eqb i k) (once (expandAt v x order (expandBelow v x order k)) k (getD (S .results) k nothing) S) (expandBelow v x order k i S)
 
 abbrev pub expanded : Went → Result Expansion
 expanded (done e S) = done e (S .pool)

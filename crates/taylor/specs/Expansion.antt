@@ -1,6 +1,6 @@
 -- `TaylorExpansion` of src/univariate_taylor.rs: its operations in the Rust's order of evaluation, its literals appended where the Rust appends them.
 -- Assumes nothing.
-use mathlib.Core.Bool.{Bool, true, false}
+use mathlib.Core.Bool.{Bool, true, false, cond}
 use mathlib.Core.List.{List, [], _∷_, _++_, reverse}
 use Prim.Native.Nat.{ℕ, zero, suc, _+_, _-_, _/_, _%_, _^_, min}
 use lib.Dec.{eqb}
@@ -188,15 +188,11 @@ logarithm (Polynomial us) = polynomial (do
   fill (logAt us z) (length us - 1) (r ∷ []))
 
 -- ---- pow: while exp > 0 { if exp & 1 == 1 { res *= base }; base *= base; exp >>= 1 }, without "the square after the exponent's highest one bit"
-abbrev pub when : Bool → Work Expansion → Work Expansion → Work Expansion
-when true a b = a
-when false a b = b
-
 unfoldable pub powFrom : ℕ → ℕ → Expansion → Expansion → Work Expansion
 powFrom zero e res base = yield res
 powFrom (suc k) e res base = do
-  res2 ← when (eqb (e % 2) 1) (times res base) (yield res)
-  when (eqb (e / 2) 0) (yield res2) (times base base >>= (λ base2. powFrom k (e / 2) res2 base2))
+  res2 ← cond (eqb (e % 2) 1) (times res base) (yield res)
+  cond (eqb (e / 2) 0) (yield res2) (times base base >>= (λ base2. powFrom k (e / 2) res2 base2))
 
 -- how many bits an exponent has
 abbrev pub digits : ℕ

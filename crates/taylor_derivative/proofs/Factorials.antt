@@ -1,6 +1,6 @@
 -- The source's fold makes the literals that the table of factorials has: i - 1 factors are multiplied up to the literal (i - 1)!, so the product with i is i!.
 -- Assumes nothing.
-use mathlib.Core.Bool.{Bool, true, false}
+use mathlib.Core.Bool.{Bool, true, false, cond}
 use mathlib.Core.Path.{_≡_, refl, sym, ap, _∙_}
 use mathlib.Core.Logic.{_≢_}
 use mathlib.Core.List.{List}
@@ -13,7 +13,7 @@ use lib.ListN.{length, length-set}
 use lib.Seq.{getD-set-same}
 use borrow.Author.Tests.{lt-ltb, le-leb, lt-leb, ne-eqb}
 use Rattle.factorial.specs.Factorial.{factorialOf}
-use Rattle.literal.specs.Literal.{isLiteral, folded, pick}
+use Rattle.literal.specs.Literal.{isLiteral, folded}
 use Rattle.literal.specs.declared.Folded.the-variants as as-folded
 use Rattle.refusals.specs.Refusals.{outOfRange}
 use Rattle.pool.specs.declared.node.Node.{Node}
@@ -101,7 +101,7 @@ module _ (z : ℤ) (P : Pool) (long : Long P) where
   unfolding folded
   lit-made = go (isLiteral z) refl
     where
-      go : (t : Bool) → isLiteral z ≡ t → After (Made-after P z) (answered (literal (pick t (as-folded.Value z) (as-folded.Refused outOfRange)) P))
+      go : (t : Bool) → isLiteral z ≡ t → After (Made-after P z) (answered (literal (cond t (as-folded.Value z) (as-folded.Refused outOfRange)) P))
       go true e = append-comes-to (λ (o : Out). After (Made-after P z) (answered o)) (Lit z) P (λ room below. is-made e below) tt
       go false e = tt
 

@@ -1,6 +1,6 @@
 -- The operations on expansions only append: each is made of constructors and literals, one after the other.
 -- Assumes nothing.
-use mathlib.Core.Bool.{Bool, true, false}
+use mathlib.Core.Bool.{Bool, true, false, cond}
 use mathlib.Core.List.{List, [], _∷_, _++_, reverse}
 use Prim.Native.Nat.{ℕ, zero, suc, _-_, _/_, _%_, min}
 use lib.Dec.{eqb}
@@ -16,8 +16,8 @@ use Rattle.constructor_laws.specs.Grown.{Grown}
 pub use Rattle.constructor_laws.proofs.Growth.{Growing}
 use Rattle.constructor_laws.proofs.Growth.{_>>=_, yield-grows, refuse-grows, grown-by-nothing, grown-by-both, literal-grows, append-grows, calls-grow}
 use Rattle.taylor.specs.Work.{Result, Work, bind, yield, refuse, answered, node, lit, from, add, mul, div, neg, sub, at, each, eachTwo, fold, fill}
-use Rattle.taylor.specs.Expansion.{Expansion, Constant, Polynomial, polynomial, constant, first, varCoeffs, var, coeff, derivative, addTo, negate, subFrom, productAt, times, quotientAt, quotient, expTerm, expAt, exponential, logTerm, logAt, logarithm, when, powFrom, power, maximum, horner, subst}
-use Rattle.taylor.specs.Expand.{Kept, State, state, Went, Walk, lifted, lift, keep, once, choose, Point, none, point, pointNode, ofVariable, expandNode, expandAt, expandBelow, expanded, expand}
+use Rattle.taylor.specs.Expansion.{Expansion, Constant, Polynomial, polynomial, constant, first, varCoeffs, var, coeff, derivative, addTo, negate, subFrom, productAt, times, quotientAt, quotient, expTerm, expAt, exponential, logTerm, logAt, logarithm, powFrom, power, maximum, horner, subst}
+use Rattle.taylor.specs.Expand.{Kept, State, state, Went, Walk, lifted, lift, keep, once, Point, none, point, pointNode, ofVariable, expandNode, expandAt, expandBelow, expanded, expand}
 use Rattle.taylor.specs.Expand as walk
 use Rattle.taylor_laws.specs.Grown.{Grows}
 
@@ -211,7 +211,7 @@ logarithm-grows (Polynomial us) = polynomial-grows (do
   r ← (calls-grow depth .log-at (at us 0))
   fill-grows (log-at-grows us z) (length us - 1) (r ∷ []))
 
-when-grows : (t : Bool) {a b : Work Expansion} → Growing a → Growing b → Growing (when t a b)
+when-grows : (t : Bool) {a b : Work Expansion} → Growing a → Growing b → Growing (cond t a b)
 when-grows true g h = g
 when-grows false g h = h
 
@@ -321,7 +321,7 @@ module _ (v : ℕ) (x : Point) (order : ℕ) where
       here : ((i : ℕ) → GrowingWalk (expandBelow v x order k i)) → (S : State) → GrowsWalk (S .pool) (visits S)
       here g S = once-grows (expandAt v x order (expandBelow v x order k)) k (record { grows = λ T. node-walk-grows g k (nodeAt (T .pool) k) .grows T }) (getD (S .results) k walk.nothing) .grows S
 
-      go : (S : State) (t : Bool) (a b : Went) → GrowsWalk (S .pool) a → GrowsWalk (S .pool) b → GrowsWalk (S .pool) (choose t a b)
+      go : (S : State) (t : Bool) (a b : Went) → GrowsWalk (S .pool) a → GrowsWalk (S .pool) b → GrowsWalk (S .pool) (cond t a b)
       go S true a b g h = g
       go S false a b g h = h
 

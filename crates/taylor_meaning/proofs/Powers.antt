@@ -1,7 +1,7 @@
 -- Powers of expansions, by repeated squares: what is left to multiply is a power of the squares so far, so the result has the coefficients of the power.
 -- Assumes nothing.
 use mathlib.Core.Path.{_≡_, refl, sym, ap, _∙_}
-use mathlib.Core.Bool.{Bool, true, false}
+use mathlib.Core.Bool.{Bool, true, false, cond}
 use Prim.Native.Nat.{ℕ, zero, suc, _+_, _*_, _/_, _%_, _^_, _<_}
 use native.Mathlib.Nat.{pow-suc}
 use native.Mathlib.Omega.{arith}
@@ -11,7 +11,7 @@ use borrow.Author.Tests.{eqb-true, eqb-false}
 use Rattle.pool.specs.Pool.{Pool}
 use Rattle.constructor_laws.specs.Keeps.{Keeps}
 use Rattle.taylor.specs.Work.{yield}
-use Rattle.taylor.specs.Expansion.{Expansion, times, when, powFrom, power}
+use Rattle.taylor.specs.Expansion.{Expansion, times, powFrom, power}
 use Rattle.meaning.specs.Model.{Algebra, Model, Distributive}
 use Rattle.meaning.specs.Model as model
 use Rattle.meaning.specs.Value.{Values}
@@ -33,13 +33,13 @@ module _ {A : Algebra} (M : Model A) (D : Distributive A) (env : Values A) where
 
   -- an odd exponent takes the base in
   odd-gives :
-      {n : ℕ} {r b : Series A} {P : Pool} {res base : Expansion} (e : ℕ) → Keeps P → Expands M env n r P res → Expands M env n b P base → Gives P (Expands M env n (timesSeries A r (pow b (e % 2)))) (when (eqb (e % 2) 1) (times res base) (yield res) P)
+      {n : ℕ} {r b : Series A} {P : Pool} {res base : Expansion} (e : ℕ) → Keeps P → Expands M env n r P res → Expands M env n b P base → Gives P (Expands M env n (timesSeries A r (pow b (e % 2)))) (cond (eqb (e % 2) 1) (times res base) (yield res) P)
   odd-gives {n} {r} {b} {P} {res} {base} e k hr hb = go (eqb (e % 2) 1) refl
     where
       even : (e : ℕ) → (e % 2 ≡ 1 → ⊥) → e % 2 ≡ 0
       even e h = omega arith
 
-      go : (t : Bool) → eqb (e % 2) 1 ≡ t → Gives P (Expands M env n (timesSeries A r (pow b (e % 2)))) (when t (times res base) (yield res) P)
+      go : (t : Bool) → eqb (e % 2) 1 ≡ t → Gives P (Expands M env n (timesSeries A r (pow b (e % 2)))) (cond t (times res base) (yield res) P)
       go true t =
           gives-weaker (λ Q x g h. same-series (ap (timesSeries A r) (sym (ap (pow b) (eqb-true (e % 2) 1 t) ∙ power-one PM b))) h) (times-gives M env k hr hb)
       go false t =
@@ -72,7 +72,7 @@ module _ {A : Algebra} (M : Model A) (D : Distributive A) (env : Values A) where
           (res2 : Expansion) (Q : Pool) → Keeps Q → Expands M env n b Q base → Expands M env n (timesSeries A r (pow b (e % 2))) Q res2
           → ((Q′ : Pool) (res2′ base2 : Expansion) → Keeps Q′ → Expands M env n (timesSeries A r (pow b (e % 2))) Q′ res2′ → Expands M env n (timesSeries A b b) Q′ base2 → Gives Q′ (Expands M env n (timesSeries A (timesSeries A r (pow b (e % 2))) (pow (timesSeries A b b) (e / 2)))) (powFrom fuel (e / 2) res2′ base2 Q′))
           → (t : Bool) → eqb (e / 2) 0 ≡ t
-          → Gives Q (Expands M env n (timesSeries A r (pow b e))) (when t (yield res2) (λ R. Rattle.taylor.specs.Work.bind (times base base R) (λ base2. powFrom fuel (e / 2) res2 base2)) Q)
+          → Gives Q (Expands M env n (timesSeries A r (pow b e))) (cond t (yield res2) (λ R. Rattle.taylor.specs.Work.bind (times base base R) (λ base2. powFrom fuel (e / 2) res2 base2)) Q)
       go res2 Q kQ hbQ h2 more true t = gives-here kQ (same-series (ap (λ j. timesSeries A r (pow b j)) (whole e (eqb-true (e / 2) 0 t))) h2)
       go res2 Q kQ hbQ h2 more false t =
           gives-weaker (λ R x g h.

@@ -1,7 +1,7 @@
 -- The walk that expands an expression gives at each node an expansion of the series that the node should have, if what it does at a node does, and so does every result that it keeps.
 -- Assumes nothing.
 use mathlib.Core.Path.{_≡_, refl, sym, subst}
-use mathlib.Core.Bool.{Bool, true, false}
+use mathlib.Core.Bool.{Bool, true, false, cond}
 use Prim.Native.Nat.{ℕ, zero, suc}
 use lib.Dec.{eqb}
 use lib.ListN.{getD, replicate}
@@ -12,7 +12,7 @@ use Rattle.constructor_laws.specs.Keeps.{Keeps}
 use Rattle.constructor_laws.proofs.Growth.{grown-by-nothing, grown-by-both}
 use Rattle.taylor.specs.Work.{Result, Work}
 use Rattle.taylor.specs.Expansion.{Expansion}
-use Rattle.taylor.specs.Expand.{Kept, nothing, kept, State, state, Went, Walk, Point, bind, lifted, lift, keep, once, choose, expandAt, expandBelow, expanded, expand}
+use Rattle.taylor.specs.Expand.{Kept, nothing, kept, State, state, Went, Walk, Point, bind, lifted, lift, keep, once, expandAt, expandBelow, expanded, expand}
 use Rattle.meaning.specs.Model.{Algebra, Model}
 use Rattle.meaning.specs.Value.{Values}
 use Rattle.walk_meaning.proofs.Walking.{set-entry}
@@ -93,7 +93,7 @@ module _ {A : Algebra} (M : Model A) (env : Values A) (P₀ : Pool) (n : ℕ) (g
       unfolding expandBelow
       more-walked k less i c S good = go (eqb i k) refl
         where
-          go : (t : Bool) → eqb i k ≡ t → Walked S (goal i) (choose t (once (expandAt v x order (expandBelow v x order k)) k (getD (S .results) k nothing) S) (expandBelow v x order k i S))
+          go : (t : Bool) → eqb i k ≡ t → Walked S (goal i) (cond t (once (expandAt v x order (expandBelow v x order k)) k (getD (S .results) k nothing) S) (expandBelow v x order k i S))
           go true e =
               subst (λ j. Walked S (goal j) (once (expandAt v x order (expandBelow v x order k)) k (getD (S .results) k nothing) S)) (sym (eqb-true i k e))
               (once-walked (expandAt v x order (expandBelow v x order k)) k (getD (S .results) k nothing) good (good .results k) (at (expandBelow v x order k) less k (subst C (eqb-true i k e) c) S good))

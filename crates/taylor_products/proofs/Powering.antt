@@ -1,6 +1,7 @@
 -- The rounds of a power: as many as the exponent has binary digits, which its leading zeros tell; in each the result takes the square on an odd exponent, and while digits are left the square is squared.
 -- Assumes nothing.
 use mathlib.Core.Path.{_≡_, refl, sym, ap, _∙_}
+use mathlib.Core.Bool.{cond}
 use mathlib.Core.List.{List}
 use Prim.Native.Nat.{ℕ, zero, suc, _+_, _-_, _*_, _/_, _%_, _^_, _≤_, _<_}
 use native.Mathlib.Nat.{pow-suc, div-add-mod', mod-lt}
@@ -13,7 +14,7 @@ use Rattle.pool.specs.Pool.{Pool, done}
 use Rattle.pool.specs.Made.{poolOf}
 use Rattle.pool.specs.declared.table.Room.{Room}
 use Rattle.taylor.specs.Work.{Result, Work, bind, yield}
-use Rattle.taylor.specs.Expansion.{Expansion, Constant, times, when, powFrom, digits}
+use Rattle.taylor.specs.Expansion.{Expansion, Constant, times, powFrom, digits}
 use Rattle.taylor_base.specs.Answers.{expansionOf, Tidy, Answers, constantOf}
 use Rattle.taylor_base.specs.declared.answer.Expansion as coded
 use Rattle.taylor_base.specs.declared.answer.Expanded.{Expanded}
@@ -66,7 +67,7 @@ nothing-left (suc k) res base P = refl
 -- after the product comes the square, while digits are left
 squares :
     (e n k : ℕ) (res base : Expansion) (P : Pool) → Digits (e / 2) n
-    → bind (timesIf (ltb 0 n) base base P) (powFrom k (e / 2) res) ≡ when (eqb (e / 2) 0) (yield res) (λ Q. bind (times base base Q) (powFrom k (e / 2) res)) P
+    → bind (timesIf (ltb 0 n) base base P) (powFrom k (e / 2) res) ≡ cond (eqb (e / 2) 0) (yield res) (λ Q. bind (times base base Q) (powFrom k (e / 2) res)) P
 squares e zero k res base P d =
     rw (no-digits d) (sym (nothing-left k res base P))
 squares e (suc n) k res base P d =
@@ -112,7 +113,7 @@ module _ {extra : ℕ} {whole : Result Expansion} {e rounds : ℕ} {res square :
   unfolding powFrom
   turn =
       let more : suc (extra + (rounds - 1)) ≡ extra + rounds = omega arith in
-      bind-same (timesIf (eqb (e % 2) 1) (expansionOf res) (expansionOf square) P) next (λ res2. when (eqb (e / 2) 0) (yield res2) (λ Q. bind (times (expansionOf square) (expansionOf square) Q) (last res2)))
+      bind-same (timesIf (eqb (e % 2) 1) (expansionOf res) (expansionOf square) P) next (λ res2. cond (eqb (e / 2) 0) (yield res2) (λ Q. bind (times (expansionOf square) (expansionOf square) Q) (last res2)))
       (λ res2 Q. squares e (rounds - 1) (extra + (rounds - 1)) res2 (expansionOf square) Q fewer)
       ∙ ap (λ (k : ℕ). powFrom k e (expansionOf res) (expansionOf square) P) more ∙ g .is
 

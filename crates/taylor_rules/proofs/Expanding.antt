@@ -1,6 +1,6 @@
 -- The expansion of an expression keeps the rules of the pool: what is done at a node does, and expansions that are kept may be given all along.
 -- Assumes nothing.
-use mathlib.Core.Bool.{Bool, true, false}
+use mathlib.Core.Bool.{Bool, true, false, cond}
 use mathlib.Core.Path.{_≡_, refl}
 use mathlib.Core.Logic.{_⊎_, inl, inr}
 use mathlib.Core.List.{List, [], _∷_}
@@ -23,7 +23,7 @@ use Rattle.constructor_laws.proofs.Rules.{AllBelow, parts-below}
 use Rattle.constructor_laws.proofs.Keeping.{append-keeps}
 use Rattle.taylor.specs.Work.{Result, Work}
 use Rattle.taylor.specs.Work as work
-use Rattle.taylor.specs.Expansion.{Expansion, Constant, order, times, when, powFrom, power, endless}
+use Rattle.taylor.specs.Expansion.{Expansion, Constant, order, times, powFrom, power, endless}
 use Rattle.taylor.specs.Expand.{Kept, nothing, kept, State, state, Went, Walk, bind, yield, refuse, lifted, lift, keep, once, Point, none, point, pointNode, ofVariable, expandNode, expandAt, expandBelow, expanded, expand}
 use Rattle.taylor_base.specs.Answers.{terms}
 use Rattle.taylor_rules.specs.Kept.{ExpandedOrder}
@@ -53,7 +53,7 @@ module _ (ord : ℕ) (small : ord < terms) where
   product-comes : {n : ℕ} (s t : Expansion) → Come n s → Come n t → Keeping n Come (times s t)
   product-comes s t hs ht = come-by (shorter (order s) (order t) (hs .size) (ht .size)) (times-keeps s t (hs .within) (ht .within))
 
-  when-keeps : {n : ℕ} (t : Bool) {a b : Work Expansion} → Keeping n Come a → Keeping n Come b → Keeping n Come (when t a b)
+  when-keeps : {n : ℕ} (t : Bool) {a b : Work Expansion} → Keeping n Come a → Keeping n Come b → Keeping n Come (cond t a b)
   when-keeps true wa wb = wa
   when-keeps false wa wb = wb
 

@@ -1,6 +1,7 @@
 -- The operations on expansions keep the rules of the pool and answer what may be given again, of the order that they should have: each is made of work on nodes, which does.
 -- Assumes nothing.
 use mathlib.Core.Path.{_≡_, refl, sym, ap, _∙_}
+use mathlib.Core.Bool.{cond}
 use mathlib.Core.List.{List, [], _∷_, reverse, reverseAux}
 use Prim.Native.Nat.{ℕ, zero, suc, _+_, _-_, _*_, _/_, _%_, _^_, min, _≤_, _<_}
 use native.Mathlib.Nat.{le-refl, min-le-left, min-le-right, le-min, min-eq-left, min-eq-right, pow-suc, div-add-mod', mod-lt}
@@ -12,7 +13,7 @@ use borrow.Author.Tests.{eq-eqb, ne-eqb}
 use Rattle.refusals.specs.Refusals.{maxReached}
 use Rattle.constructor_laws.proofs.Rules.{AllBelow, all-below-more}
 use Rattle.taylor.specs.Work.{Work, bind, yield, from, add, mul, at}
-use Rattle.taylor.specs.Expansion.{Expansion, Constant, Polynomial, polynomial, constant, varCoeffs, var, coeff, order, derivative, addTo, negate, subFrom, productAt, times, quotientAt, quotient, expAt, exponential, logAt, logarithm, when, powFrom, power, maximum, horner, subst, endless}
+use Rattle.taylor.specs.Expansion.{Expansion, Constant, Polynomial, polynomial, constant, varCoeffs, var, coeff, order, derivative, addTo, negate, subFrom, productAt, times, quotientAt, quotient, expAt, exponential, logAt, logarithm, powFrom, power, maximum, horner, subst, endless}
 use Rattle.taylor_base.specs.Answers.{terms}
 use Rattle.taylor_rules.specs.Kept.{nodesOf, powerOrder, substOrder}
 use Rattle.taylor_rules.proofs.Nodes.{Keeping, yield-keeps, refuse-keeps, next-keeps, Node, Nodes, at-below, nodes-as, from-keeps, add-keeps, mul-keeps, div-keeps, max-keeps, neg-keeps, sub-keeps, exp-keeps, log-keeps, each-keeps, first-keeps, two-keep, fold-keeps, fill-keeps}
@@ -292,7 +293,7 @@ pow-from-keeps (suc k) e l n r b res base hr hb = go (ℕ-discrete (e % 2) 1) (�
     small = mod-lt e (omega arith)
 
     next : (res2 : Expansion) → Work Expansion
-    next res2 = when (eqb (e / 2) 0) (yield res2) (λ P. bind (times base base P) (λ base2. powFrom k (e / 2) res2 base2))
+    next res2 = cond (eqb (e / 2) 0) (yield res2) (λ P. bind (times base base P) (λ base2. powFrom k (e / 2) res2 base2))
 
     no-power : e ≡ 0 → r ≡ powOrder e r b
     no-power z = rw z refl
@@ -312,7 +313,7 @@ pow-from-keeps (suc k) e l n r b res base hr hb = go (ℕ-discrete (e % 2) 1) (�
     go :
         Dec (e % 2 ≡ 1) → Dec (e / 2 ≡ 0)
         → PowKeeps k (e / 2)
-        → Keeping n (Series (powOrder e r b)) (λ P. bind (when (eqb (e % 2) 1) (times res base) (yield res) P) next)
+        → Keeping n (Series (powOrder e r b)) (λ P. bind (cond (eqb (e % 2) 1) (times res base) (yield res) P) next)
     go (yes odd) (yes last) less =
         let some : e ≡ 0 → ⊥ = λ z. omega (arith, odd, z) in
         rw (eq-eqb (e % 2) 1 odd)

@@ -1,7 +1,7 @@
 -- Decimal digits, one by one from the last: how many there are, and what the digits still to come and those written already make together.
 -- Assumes nothing.
 use mathlib.Core.Path.{_≡_, refl, _∙_, ap, sym}
-use mathlib.Core.Bool.{Bool, true, false}
+use mathlib.Core.Bool.{Bool, true, false, cond}
 use mathlib.Core.List.{List, [], _∷_, _++_, append-assoc, append-nil}
 use Prim.Native.Nat.{ℕ, zero, suc, _+_, _-_, _/_, _%_, _^_, _<_, _≤_}
 use native.Mathlib.Nat.{pow-suc}
@@ -11,7 +11,7 @@ use lib.ListN.{length, drop, set, length-append, length-set}
 use borrow.Author.Tests.{lt-ltb, le-ltb}
 use mir.Syntax.{w64}
 use mir.Val.{bits}
-use Rattle.text.specs.Text.{pick, digit, digitsWithin, mostDigits, decimal, Written, room}
+use Rattle.text.specs.Text.{digit, digitsWithin, mostDigits, decimal, Written, room}
 use Rattle.text.proofs.Fronts.{one-more-in-front, one-byte}
 
 pub one-digit : (k n : ℕ) → n < 10 → digitsWithin (suc k) n ≡ digit n ∷ []
@@ -30,7 +30,7 @@ unfolding digitsWithin
 at-most zero n = omega arith
 at-most (suc k) n = go (ltb n 10) (digitsWithin k (n / 10)) (at-most k (n / 10))
   where
-    go : (t : Bool) (higher : List ℕ) → length higher ≤ k → length (pick t (digit n ∷ []) (higher ++ (digit (n % 10) ∷ []))) ≤ suc k
+    go : (t : Bool) (higher : List ℕ) → length higher ≤ k → length (cond t (digit n ∷ []) (higher ++ (digit (n % 10) ∷ []))) ≤ suc k
     go true higher h = omega arith
     go false higher h = omega (arith, length-append higher (digit (n % 10) ∷ []))
 

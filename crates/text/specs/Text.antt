@@ -1,17 +1,13 @@
 -- Decimal numbers as document 01 prints them, and `Var`'s Display of src/ppl.rs, as bytes.
 -- Assumes nothing.
 use mathlib.Core.Path.{_≡_}
-use mathlib.Core.Bool.{Bool, true, false}
+use mathlib.Core.Bool.{Bool, true, false, cond}
 use mathlib.Core.List.{List, [], _∷_, _++_}
 use Prim.Native.Nat.{ℕ, zero, suc, _+_, _/_, _%_, _≤_}
 use lib.Dec.{ltb}
 use lib.ListN.{length, drop}
 use lib.IntN.{ℤ, pos, negsuc}
 use Rattle.text.specs.declared.Text.{Text}
-
-abbrev pub pick : Bool → List ℕ → List ℕ → List ℕ
-pick true a b = a
-pick false a b = b
 
 -- the bytes of '-', 'a', 'x' and '_'
 abbrev pub minus : ℕ
@@ -35,7 +31,7 @@ unfoldable pub digitsWithin : ℕ → ℕ → List ℕ
 digitsWithin zero n = []
 digitsWithin (suc k) n =
     let higher = digitsWithin k (n / 10) in
-    pick (ltb n 10) (digit n ∷ []) (higher ++ (digit (n % 10) ∷ []))
+    cond (ltb n 10) (digit n ∷ []) (higher ++ (digit (n % 10) ∷ []))
 
 -- a number of 64 bits has at most 20 digits
 abbrev pub mostDigits : ℕ
@@ -55,7 +51,7 @@ letters = 26
 
 -- if i < 26 { 'a' + i } else { "x_{i}" }
 unfoldable pub display : ℕ → List ℕ
-display v = pick (ltb v letters) ((letterA + v) ∷ []) (letterX ∷ underscore ∷ decimal v)
+display v = cond (ltb v letters) ((letterA + v) ∷ []) (letterX ∷ underscore ∷ decimal v)
 
 -- how many bytes a short text has room for
 abbrev pub room : ℕ
