@@ -67,9 +67,9 @@ int main(int argc, char **argv) {
     /* x^3 - 2x + 5 */
     save(argv[1], "polynomial", sum(sum(power(x, 3), product(lit(-2), x)), lit(5)));
 
-    /* (x + 1) / (x^2 + 1), with a literal 1 for each sum */
+    /* (x + 1) / (x^2 + 3) */
     above = sum(x, lit(1));
-    save(argv[1], "quotient", quotient(above, sum(power(x, 2), lit(1))));
+    save(argv[1], "quotient", quotient(above, sum(power(x, 2), lit(3))));
 
     /* exp(x) * log(x + 1) */
     need(bunlayog_exp(BUNLAYOG_LEND(&pool), x, &e));

@@ -30,7 +30,7 @@ ends() { # FOLDER STATUS PRINTED SAID ARGUMENT..
 # ---- questions, with the programs as they are built
 ./sheet.sh samples/polynomial.bin 0 0 > /dev/null 2>&1 # builds where a crate is newer
 ends . 0 $'a^3 + -2*a + 5\n0 3 2\n0: 9\n1: 10\n2: 6\n3: 1' '' samples/polynomial.bin 0 3 2
-ends . 0 $'a^3 + -2*a + 5\n1 2 -7\n0: a^3 + -2*a + 5' '' samples/polynomial.bin 1 2 -7
+ends . 0 $'a^3 + -2*a + 5\n1 2 -7\n0: a*a*a + -2*a + 5' '' samples/polynomial.bin 1 2 -7
 ends . 1 $'a^3 + -2*a + 5\nrefused 5' '^5: an order is above 24' samples/polynomial.bin 0 25
 ends . 1 $'exp(a)*log(a + 1)\nrefused 11' '^11: exp or log of a literal is needed that has none$' samples/exp_log.bin 0 3 1
 head -c 30 samples/quotient.bin > "$out/short.bin"
