@@ -23,8 +23,8 @@
  *
  * Calls at once. All functions may run at once on different pools. Functions that only read a pool may run at once on the same one.
  *
- * Stack, as measured (docs/MEASUREMENTS.md has a figure for each function and the worst pool for it):
- *   check, taylor_order, taylor_from_coefficients       1,024 bytes
+ * Stack in bytes, as measured (docs/MEASUREMENTS.md has more figures, and the worst pool for each):
+ *   check, taylor_order, taylor_from_coefficients       1,024
  *   lit, var and the constructors                      81,880
  *   the other operations on expansions                 85,640
  *   write, read                                       368,784
