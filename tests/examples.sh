@@ -1,7 +1,7 @@
 #!/usr/bin/env bash
 # The first programs: examples/first.c as C and as C++, and examples/first.rs with its bindings by rustc alone, where there is one. Each prints
 # examples/first.expected, which was worked out by hand (its origin is in examples/README.md), and writes the bytes of samples/polynomial.bin. Under valgrind
-# where it is installed.
+# where it is installed. Every call of the bindings is tried too (tests/rust).
 set -eu
 cd "$(dirname "$0")/.."
 . tests/parts/archive.sh
@@ -27,8 +27,10 @@ runs c++11
 if command -v rustc > /dev/null; then
   rustc --edition 2021 -D warnings -L target/staticlib examples/first.rs -o "$out/rust"
   runs rust
+  rustc --edition 2021 -D warnings -L target/staticlib tests/rust/bindings.rs -o "$out/bindings"
+  "$out/bindings"
 else
-  echo "skipped: rustc is not here, so examples/first.rs was not run"
+  echo "skipped: rustc is not here, so examples/first.rs and the bindings were not run"
 fi
 command -v valgrind > /dev/null || echo "skipped: valgrind is not here, so the programs were run without it"
 echo "the first program prints and writes what was worked out:$said"
