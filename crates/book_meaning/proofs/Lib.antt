@@ -1,0 +1,3 @@
+pub mod Soundness
+pub mod Working
+pub mod Recurrences
