@@ -1,0 +1,5 @@
+pub mod Follows
+pub mod Answers
+pub mod Operations
+pub mod Walk
+pub mod Expressions
