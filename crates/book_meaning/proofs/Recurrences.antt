@@ -31,6 +31,12 @@ pub data Known (K : ℕ → Type 0) (xs : List ℕ) (i : ℕ) : ℕ → Type 0 w
   there : {j : ℕ} → K j → Known K xs i j
   before : (m : ℕ) → m < i → Known K xs i (at xs m)
 
+-- a node that formula k of a recurrence may name: one of the first pool, one that is shared, or an earlier coefficient
+pub data Earlier (P : Pool) (nodes cs : List ℕ) (k : ℕ) : ℕ → Type 0 where
+  given : {j : ℕ} → j < P .count → Earlier P nodes cs k j
+  shared : (m : ℕ) → m < length nodes → Earlier P nodes cs k (at nodes m)
+  coefficient : (m : ℕ) → m < k → Earlier P nodes cs k (at cs m)
+
 -- a refusal is no answer
 no-answer : {A B : Type 0} {k : ℕ} {v : A} {Q : Pool} → _≡_ {A = Result A} (refused-work k) (gives v Q) → B
 no-answer {A} {k = k} {v} {Q} h = absurd (never h)
@@ -73,6 +79,10 @@ module _ {A : Algebra} (M : Model A) (env : Values A) where
       go : Gives P (λ Q i. Has M env Q i x) (gives c B) → Gave P x c B
       go (gave k g s) = record { keeps = k; grown = g; has = s }
 
+  -- one formula that was worked, its nodes having the values that they have in the end
+  pub worked-has-its-value : (f : Formula) (P : Pool) {c : ℕ} {Q : Pool} → Keeps P → Stands P f → work f P ≡ gives c Q → val Q c ≡ formulaValue A (val Q) f
+  worked-has-its-value f P k h e = let g = opened (work-has-its-value M env f P k h) e in g .has .is ∙ sym (formula-kept M env k (g .grown) f h)
+
   -- one formula more, worked first
   module _
       (f : Formula) (fs : List Formula) (K : ℕ → Type 0) (P : Pool) (k : Keeps P) (below : (j : ℕ) → K j → j < P .count) (c : ℕ) (B : Pool) (e : work f P ≡ gives c B) (cs : List ℕ)
@@ -84,7 +94,7 @@ module _ {A : Algebra} (M : Model A) (env : Values A) where
         none : m < 0 → ⊥
         none l = omega arith
 
-    first-stands : Stands M env P f
+    first-stands : Stands P f
     first-stands = names-more first-known f (named 0 (omega arith))
 
     first-gave : Gave P (formulaValue A (val P) f) c B
@@ -148,16 +158,10 @@ module _ {A : Algebra} (M : Model A) (env : Values A) where
 
   -- ---- recurrences
 
-  -- a node that formula k of a recurrence may name: one of the first pool, one that is shared, or an earlier coefficient
-  pub data Earlier (P : Pool) (nodes cs : List ℕ) (k : ℕ) : ℕ → Type 0 where
-    given : {j : ℕ} → j < P .count → Earlier P nodes cs k j
-    shared : (m : ℕ) → m < length nodes → Earlier P nodes cs k (at nodes m)
-    coefficient : (m : ℕ) → m < k → Earlier P nodes cs k (at cs m)
-
   module _
       {shares : List Formula} {nodes : List ℕ} {book ordered : ℕ → Formula} {n : ℕ} {cs : List ℕ} {P Q : Pool} (keeps : Keeps P)
       (long : length nodes ≡ length shares)
-      (stands : (i : ℕ) → i < length shares → Stands M env P (getD shares i (whole 0)))
+      (stands : (i : ℕ) → i < length shares → Stands P (getD shares i (whole 0)))
       (names : (k : ℕ) → k < n → Names (Earlier P nodes cs k) (ordered k))
       (follows : Recurrence shares nodes book ordered n cs P Q) where
     all : List Formula

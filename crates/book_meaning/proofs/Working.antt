@@ -32,6 +32,10 @@ Names K (f ⊟ g) = Names K f × Names K g
 Names K (Exp f) = Names K f
 Names K (Log f) = Names K f
 
+-- they are in the pool
+abbrev pub Stands : Pool → Formula → Type 0
+Stands P f = Names (λ i. i < P .count) f
+
 pub names-more : {K L : ℕ → Type 0} → ((i : ℕ) → K i → L i) → (f : Formula) → Names K f → Names L f
 names-more more (# i) h = more i h
 names-more more (whole n) h = tt
@@ -59,10 +63,6 @@ formula-same A p q (Log f) h = ap (A .log) (formula-same A p q f h)
 module _ {A : Algebra} (M : Model A) (env : Values A) where
   abbrev val : Pool → ℕ → A .carrier
   val P i = value A env (nodeAt P) i
-
-  -- the nodes that a formula names are in the pool
-  abbrev pub Stands : Pool → Formula → Type 0
-  Stands P f = Names (λ i. i < P .count) f
 
   stands-later : {P Q : Pool} → Grown P Q → (f : Formula) → Stands P f → Stands Q f
   stands-later g f h = names-more (λ i l. omega (arith, g .no-fewer)) f h
