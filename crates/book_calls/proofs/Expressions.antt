@@ -17,6 +17,7 @@ use Rattle.pool.specs.Pool.{Pool, limit, nodeAt}
 use Rattle.constructor_laws.specs.Keeps.{Keeps}
 use Rattle.constructor_laws.proofs.Rules.{all-below, rules-of}
 use Rattle.shape.specs.Shape.{has, Reach, root, part}
+use Rattle.shape.proofs.Lists.{here}
 use Rattle.taylor.specs.Work.{Result, gives, refused-work, Work}
 use Rattle.taylor.specs.Expansion.{Expansion, Constant, addTo, power}
 use Rattle.taylor.specs.Expand.{Kept, nothing, kept, State, state, Went, went, refused-walk, Point, none, point, isPoint, expandBelow, expanded, expand}
@@ -150,6 +151,10 @@ module _ (P : Pool) (v : ℕ) (x : Point) (order : ℕ) where
           where
             never : _≡_ {A = Result Expansion} (refused-work k) (gives e Q) → ⊥
             never h = let z : _≡_ {A = ℕ} 0 1 = cc in omega arith
+
+-- the root is reached
+pub root-follows-the-book : {P Q : Pool} {v : ℕ} {x : Point} {order from : ℕ} {e : Expansion} (h : Expanded P Q v x order from e) → NodeFollows P Q v x order (h .of) from (nodeAt P from)
+root-follows-the-book {from = from} h = h .each from (root (here from []))
 
 -- ---- the calls
 module _ {ks ws : List ℕ} {n : ℕ} {r : Outcome} {ks′ ws′ : List ℕ} {n′ : ℕ} (from v order : ℕ) where

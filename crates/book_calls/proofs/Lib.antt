@@ -3,3 +3,4 @@ pub mod Answers
 pub mod Operations
 pub mod Walk
 pub mod Expressions
+pub mod Values

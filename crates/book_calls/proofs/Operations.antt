@@ -23,7 +23,7 @@ use Rattle.book_calls.proofs.Answers.{done-by, holds-of-the-answer, one
 
 module _ {ks ws : List ℕ} {n : ℕ} {r : Outcome} {ks′ ws′ : List ℕ} {n′ : ℕ} where
   -- a call on two expansions, and on one
-  two-follow :
+  pub two-follow :
       (op : Expansion → Expansion → Work Expansion) (Follows : Pool → Expansion → Expansion → Expansion → Type 0)
       → ((s t e : Expansion) (Q : Pool) → Keeps (lentPool ks ws n) → Fits n s → Fits n t → op s t (lentPool ks ws n) ≡ gives e Q → Grown (lentPool ks ws n) Q × Fits (Q .count) e)
       → ((s t e : Expansion) (Q : Pool) → Keeps (lentPool ks ws n) → Fits n s → Fits n t → op s t (lentPool ks ws n) ≡ gives e Q → Follows Q s t e)
@@ -37,7 +37,7 @@ module _ {ks ws : List ℕ} {n : ℕ} {r : Outcome} {ks′ ws′ : List ℕ} {n�
       holds-of-the-answer (λ Q e. Follows Q (given lhs) (given rhs) e) done (k .0) (k .1)
       (follows (given lhs) (given rhs) (done .expansion) (done .finish) (done .keeps) (two .left) (two .right) (two .worked))
 
-  one-follows :
+  pub one-follows :
       (op : Expansion → Work Expansion) (Follows : Pool → Expansion → Expansion → Type 0)
       → ((s e : Expansion) (Q : Pool) → Keeps (lentPool ks ws n) → Fits n s → op s (lentPool ks ws n) ≡ gives e Q → Grown (lentPool ks ws n) Q × Fits (Q .count) e)
       → ((s e : Expansion) (Q : Pool) → Keeps (lentPool ks ws n) → Fits n s → op s (lentPool ks ws n) ≡ gives e Q → Follows Q s e)
