@@ -37,16 +37,16 @@ module _ (ord : ℕ) (small : ord < terms) where
     pub within : Within m e
     pub size : ExpandedOrder ord (order e)
 
-  come-more : {n m : ℕ} {e : Expansion} → n ≤ m → Come n e → Come m e
+  pub come-more : {n m : ℕ} {e : Expansion} → n ≤ m → Come n e → Come m e
   come-more {e = e} more h = record { within = within-more e more (h .within); size = h .size }
 
-  shorter : (a b : ℕ) → ExpandedOrder ord a → ExpandedOrder ord b → ExpandedOrder ord (min a b)
+  pub shorter : (a b : ℕ) → ExpandedOrder ord a → ExpandedOrder ord b → ExpandedOrder ord (min a b)
   shorter a b (inl p) (inl q) = inl (rw (p, q) refl)
   shorter a b (inl p) (inr q) = let l : suc ord ≤ endless = omega arith in inr (rw (p, q) (min-eq-right l))
   shorter a b (inr p) (inl q) = let l : suc ord ≤ endless = omega arith in inr (rw (p, q) (min-eq-left l))
   shorter a b (inr p) (inr q) = inr (rw (p, q) (min-eq-left (le-refl (suc ord))))
 
-  come-by : {n k : ℕ} {work : Work Expansion} → ExpandedOrder ord k → Keeping n (Series k) work → Keeping n Come work
+  pub come-by : {n k : ℕ} {work : Work Expansion} → ExpandedOrder ord k → Keeping n (Series k) work → Keeping n Come work
   come-by size w = said-as (λ m e h. record { within = h .within; size = rw (h .order) size }) w
 
   -- ---- pow, of any exponent
@@ -68,10 +68,10 @@ module _ (ord : ℕ) (small : ord < terms) where
       (λ m res2 more h. when-keeps (eqb (e / 2) 0) (given-comes h)
       (next-keeps (product-comes base base (come-more more hb) (come-more more hb)) (λ m′ base2 more′ h′. pow-from-comes k (e / 2) m′ res2 base2 (come-more more′ h) h′)))
 
-  constant-come : {n c : ℕ} → c < n → Come n (Constant c)
+  pub constant-come : {n c : ℕ} → c < n → Come n (Constant c)
   constant-come l = record { within = record { below = (l, tt); least = omega arith; most = omega arith }; size = inl refl }
 
-  power-comes : {n : ℕ} (base : Expansion) (e : ℕ) → Come n base → Keeping n Come (power base e)
+  pub power-comes : {n : ℕ} (base : Expansion) (e : ℕ) → Come n base → Keeping n Come (power base e)
   power-comes base e h = next-keeps (from-keeps 1) (λ m o more lo. pow-from-comes 32 e m (Constant o) base (constant-come lo) (come-more more h))
 
   -- ---- walks
@@ -159,7 +159,7 @@ module _ (ord : ℕ) (small : ord < terms) where
   WalksFrom n₀ down = (m i : ℕ) → n₀ ≤ m → i < m → WalkKeeps m (down i)
 
   module _ (v : ℕ) (x : Point) (variable : v ≤ greatestVariable) where
-    point-keeps : {n : ℕ} (p : Point) → Keeping n nodes.Node (pointNode v p)
+    pub point-keeps : {n : ℕ} (p : Point) → Keeping n nodes.Node (pointNode v p)
     point-keeps none = node-keeps (append-keeps (record { below = tt; range = variable }))
     point-keeps (point z) = lit-keeps z
 

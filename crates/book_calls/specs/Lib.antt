@@ -1,0 +1,4 @@
+pub mod Follows
+pub mod Calls
+pub mod Walk
+pub mod Formulas

@@ -1,0 +1,4 @@
+pub mod Soundness
+pub mod Working
+pub mod Recurrences
+pub mod Theorems
