@@ -10,10 +10,10 @@ use lib.Seq.{take-at, length-take-le}
 use borrow.Author.Tests.{eqb-false, ne-eqb}
 use Rattle.refusals.specs.Refusals.{brokenPool, unknownNode, wrongOrder}
 use Rattle.pool.specs.Nodes.{allBelow}
-use Rattle.pool.specs.Pool.{Pool, isPool}
+use Rattle.pool.specs.Pool.{Pool, isPool, done, refused}
 use Rattle.constructor_laws.specs.Grown.{Grown}
 use Rattle.constructor_laws.specs.Keeps.{Keeps}
-use Rattle.taylor.specs.Work.{Result, gives, refused-work, Work, at}
+use Rattle.taylor.specs.Work.{Result, Work, at}
 use Rattle.taylor.specs.Expansion.{Expansion, Constant, Polynomial, endless}
 use Rattle.taylor_base.specs.Answers.{terms}
 use Rattle.taylor_rules.specs.Kept.{Fits}
@@ -27,11 +27,11 @@ use Rattle.lent_series.proofs.Numbers.{few-entries, length-between}
 use Rattle.book_calls.specs.Calls.{Array, Answered}
 
 -- what is demanded holds where the work was accepted
-pub demanded : {A : Type 0} (t : Bool) (k : ℕ) {x : Result A} {e : A} {Q : Pool} → demand t k x ≡ gives e Q → (t ≡ true) × (x ≡ gives e Q)
+pub demanded : {A : Type 0} (t : Bool) (k : ℕ) {x : Result A} {e : A} {Q : Pool} → demand t k x ≡ done e Q → (t ≡ true) × (x ≡ done e Q)
 demanded true k h = (refl, h)
 demanded {A} false k {x} {e} {Q} h = absurd (never h)
   where
-    never : _≡_ {A = Result A} (refused-work k) (gives e Q) → ⊥
+    never : _≡_ {A = Result A} (refused k) (done e Q) → ⊥
     never h = let z : _≡_ {A = ℕ} 0 1 = cc in omega arith
 
 -- the work of a call that answered an expansion
@@ -39,7 +39,7 @@ pub record Done (work : Work Expansion) (ks ws : List ℕ) (n : ℕ) (r : Outcom
   pub keeps : Keeps (lentPool ks ws n)
   pub expansion : Expansion
   pub finish : Pool
-  pub worked : work (lentPool ks ws n) ≡ gives expansion finish
+  pub worked : work (lentPool ks ws n) ≡ done expansion finish
   pub outcome : r ≡ accepted expansion
   pub kinds : ks′ ≡ finish .kinds
   pub words : ws′ ≡ finish .words
@@ -51,7 +51,7 @@ done-by {work} {ks} {ws} {n} {r} {ks′} {ws′} {n′} h = go (demand (isPool k
     go :
         (x : Result Expansion) → demand (isPool ks ws n) brokenPool (work (lentPool ks ws n)) ≡ x → left r ks′ ws′ n′ ≡ leaves ks ws n x → 1 ≤ r .series .order
         → Done work ks ws n r ks′ ws′ n′
-    go (gives e Q) d c some =
+    go (done e Q) d c some =
         let both = demanded (isPool ks ws n) brokenPool d in
         record {
           keeps = record { rules = both .0; end = omega arith };
@@ -63,7 +63,7 @@ done-by {work} {ks} {ws} {n} {r} {ks′} {ws′} {n′} h = go (demand (isPool k
           words = ap (λ (l : Left). l .words) c;
           count = ap (λ (l : Left). l .count) c;
         }
-    go (refused-work k) d c some = absurd (never (ap (λ (l : Left). l .outcome .series .order) c) some)
+    go (refused k) d c some = absurd (never (ap (λ (l : Left). l .outcome .series .order) c) some)
       where
         never : r .series .order ≡ 0 → 1 ≤ r .series .order → ⊥
         never e l = omega arith
@@ -112,9 +112,9 @@ given-fits n s array below ok = go (isConstant s) refl
 -- one expansion that was given, and two
 pub record OneGiven (s : Series) (work : Work Expansion) (P : Pool) (e : Expansion) (Q : Pool) : Type 0 where
   pub fits : Fits (P .count) (given s)
-  pub worked : work P ≡ gives e Q
+  pub worked : work P ≡ done e Q
 
-pub one-given : (s : Series) → Array s → (work : Work Expansion) (P : Pool) {e : Expansion} {Q : Pool} → givenSeries s work P ≡ gives e Q → OneGiven s work P e Q
+pub one-given : (s : Series) → Array s → (work : Work Expansion) (P : Pool) {e : Expansion} {Q : Pool} → givenSeries s work P ≡ done e Q → OneGiven s work P e Q
 one-given s array work P h =
     let nodes = demanded (allBelow (P .count) (nodesOf s)) unknownNode h in
     let length = demanded (lengthOk s) wrongOrder (nodes .1) in
@@ -123,9 +123,9 @@ one-given s array work P h =
 pub record TwoGiven (s t : Series) (work : Work Expansion) (P : Pool) (e : Expansion) (Q : Pool) : Type 0 where
   pub left : Fits (P .count) (given s)
   pub right : Fits (P .count) (given t)
-  pub worked : work P ≡ gives e Q
+  pub worked : work P ≡ done e Q
 
-pub two-given : (s t : Series) → Array s → Array t → (work : Work Expansion) (P : Pool) {e : Expansion} {Q : Pool} → givenTwo s t (lengthOk s && lengthOk t) work P ≡ gives e Q → TwoGiven s t work P e Q
+pub two-given : (s t : Series) → Array s → Array t → (work : Work Expansion) (P : Pool) {e : Expansion} {Q : Pool} → givenTwo s t (lengthOk s && lengthOk t) work P ≡ done e Q → TwoGiven s t work P e Q
 two-given s t array array′ work P h =
     let nodes = demanded (allBelow (P .count) (nodesOf s) && allBelow (P .count) (nodesOf t)) unknownNode h in
     let lengths = demanded (lengthOk s && lengthOk t) wrongOrder (nodes .1) in

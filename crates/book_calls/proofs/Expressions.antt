@@ -13,14 +13,14 @@ use Rattle.refusals.specs.Refusals.{unknownNode, unknownVariable, notLiteral, w
 use Rattle.pool.specs.declared.node.Node.{Node}
 use Rattle.pool.specs.declared.node.Node.the-variants.{Empty, Variable, Lit, Add, Mul, Div, Exp, Log, Pow, Max}
 use Rattle.pool.specs.Nodes.{parts, greatestVariable, allBelow}
-use Rattle.pool.specs.Pool.{Pool, limit, nodeAt}
+use Rattle.pool.specs.Pool.{Pool, limit, nodeAt, done, refused}
 use Rattle.constructor_laws.specs.Keeps.{Keeps}
 use Rattle.constructor_laws.proofs.Rules.{all-below, rules-of}
 use Rattle.shape.specs.Shape.{has, Reach, root, part}
 use Rattle.shape.proofs.Lists.{here}
-use Rattle.taylor.specs.Work.{Result, gives, refused-work, Work}
+use Rattle.taylor.specs.Work.{Result, Work}
 use Rattle.taylor.specs.Expansion.{Expansion, Constant, addTo, power}
-use Rattle.taylor.specs.Expand.{Kept, nothing, kept, State, state, Went, went, refused-walk, Point, none, point, isPoint, expandBelow, expanded, expand}
+use Rattle.taylor.specs.Expand.{Kept, nothing, kept, State, state, Went, Point, none, point, isPoint, expandBelow, expanded, expand}
 use Rattle.taylor_base.specs.Answers.{terms}
 use Rattle.taylor_rules.proofs.Theorems.{expand-kept}
 use Rattle.lent.specs.Call.{lentPool}
@@ -51,7 +51,7 @@ module _ (P : Pool) (v : ℕ) (x : Point) (order : ℕ) where
     -- an operation on what is kept
     two-follow :
         (i : ℕ) {a b : ℕ} {op : Expansion → Expansion → Work Expansion} {d : Expansion} (Done : Pool → Pool → Expansion → Expansion → Expansion → Type 0)
-        → ((A B : Pool) (s t e : Expansion) → Keeps A → AllFit (A .count) (s ∷ t ∷ []) → op s t A ≡ gives e B → Done A B s t e)
+        → ((A B : Pool) (s t e : Expansion) → Keeps A → AllFit (A .count) (s ∷ t ∷ []) → op s t A ≡ done e B → Done A B s t e)
         → getD results i nothing ≡ kept d → OfTwo P v x order results Q a b op d → Between P Q (of a ∷ of b ∷ []) (λ A B. Done A B (of a) (of b) (of i))
     two-follow i Done follows k h =
         let w = h .worked in
@@ -60,7 +60,7 @@ module _ (P : Pool) (v : ℕ) (x : Point) (order : ℕ) where
 
     one-follows :
         (i : ℕ) {a : ℕ} {op : Expansion → Work Expansion} {d : Expansion} (Done : Pool → Pool → Expansion → Expansion → Type 0)
-        → ((A B : Pool) (s e : Expansion) → Keeps A → AllFit (A .count) (s ∷ []) → op s A ≡ gives e B → Done A B s e)
+        → ((A B : Pool) (s e : Expansion) → Keeps A → AllFit (A .count) (s ∷ []) → op s A ≡ done e B → Done A B s e)
         → getD results i nothing ≡ kept d → OfOne P v x order results Q a op d → Between P Q (of a ∷ []) (λ A B. Done A B (of a) (of i))
     one-follows i Done follows k h =
         let w = h .worked in
@@ -76,12 +76,12 @@ module _ (P : Pool) (v : ℕ) (x : Point) (order : ℕ) where
       node-follows Empty h = h
       node-follows (Variable u) h = variable-follows (eqb u v) h
       node-follows (Lit z) h = is-kept i k ∙ h
-      node-follows (Add a b) h = two-follow i (λ A B s t e. addTo s t A ≡ gives e B) (λ A B s t e k fit eq. eq) k h
+      node-follows (Add a b) h = two-follow i (λ A B s t e. addTo s t A ≡ done e B) (λ A B s t e k fit eq. eq) k h
       node-follows (Mul a b) h = two-follow i ProductFollows (λ A B s t e k fit eq. product-follows k s t e (fit .0) (fit .1 .0) eq) k h
       node-follows (Div a b) h = two-follow i QuotientFollows (λ A B s t e k fit eq. quotient-follows k s t e (fit .0) (fit .1 .0) eq) k h
       node-follows (Exp a) h = one-follows i ExpFollows (λ A B s e k fit eq. exponential-follows k s e (fit .0) eq) k h
       node-follows (Log a) h = one-follows i LogFollows (λ A B s e k fit eq. logarithm-follows k s e (fit .0) eq) k h
-      node-follows (Pow a n) h = one-follows i (λ A B s e. power s n A ≡ gives e B) (λ A B s e k fit eq. eq) k h
+      node-follows (Pow a n) h = one-follows i (λ A B s e. power s n A ≡ done e B) (λ A B s e k fit eq. eq) k h
       node-follows (Max a b) h = h
 
     -- ---- the parts of a node that is kept are kept
@@ -121,7 +121,7 @@ module _ (P : Pool) (v : ℕ) (x : Point) (order : ℕ) where
     abbrev start : State
     start = state P (replicate limit nothing)
 
-    walk-follows : (e : Expansion) (T : State) → expandBelow v x order (suc from) from start ≡ went e T → Expanded P (T .pool) v x order from e
+    walk-follows : (e : Expansion) (T : State) → expandBelow v x order (suc from) from start ≡ done e T → Expanded P (T .pool) v x order from e
     walk-follows e T eq =
         record {
           of = of (T .results) (T .pool);
@@ -139,17 +139,17 @@ module _ (P : Pool) (v : ℕ) (x : Point) (order : ℕ) where
         reached i (root h) = had-in-one (T .results) (T .pool) from i (e, answer-kept) h
         reached i (part {i = m} r h) = let k = reached m r in part-kept (T .results) (T .pool) m (k .0) i (nodeAt P m) (right .explained m (k .0) (k .1)) h
 
-    pub expand-follows-the-book : {e : Expansion} {Q : Pool} → expand from v x order P ≡ gives e Q → Expanded P Q v x order from e
+    pub expand-follows-the-book : {e : Expansion} {Q : Pool} → expand from v x order P ≡ done e Q → Expanded P Q v x order from e
     expand-follows-the-book {e} {Q} eq = go (expandBelow v x order (suc from) from start) refl eq
       where
-        go : (w : Went) → expandBelow v x order (suc from) from start ≡ w → expanded w ≡ gives e Q → Expanded P Q v x order from e
-        go (went d T) is h =
+        go : (w : Went) → expandBelow v x order (suc from) from start ≡ w → expanded w ≡ done e Q → Expanded P Q v x order from e
+        go (done d T) is h =
             let same : d ≡ e = cc in
             let last : T .pool ≡ Q = cc in
             subst (λ R. Expanded P R v x order from e) last (subst (Expanded P (T .pool) v x order from) same (walk-follows d T is))
-        go (refused-walk k) is h = absurd (never h)
+        go (refused k) is h = absurd (never h)
           where
-            never : _≡_ {A = Result Expansion} (refused-work k) (gives e Q) → ⊥
+            never : _≡_ {A = Result Expansion} (refused k) (done e Q) → ⊥
             never h = let z : _≡_ {A = ℕ} 0 1 = cc in omega arith
 
 -- the root is reached

@@ -4,9 +4,9 @@ use mathlib.Core.Path.{_≡_, ap, subst}
 use mathlib.Core.List.{List}
 use Prim.Native.Nat.{ℕ}
 use native.Mathlib.Omega.{arith}
-use Rattle.pool.specs.Pool.{Pool}
+use Rattle.pool.specs.Pool.{Pool, done, refused}
 use Rattle.constructor_laws.specs.Keeps.{Keeps}
-use Rattle.taylor.specs.Work.{Result, gives, refused-work, bind, yield, mul, div, exp, log}
+use Rattle.taylor.specs.Work.{Result, bind, yield, mul, div, exp, log}
 use Rattle.taylor.specs.Expansion.{Expansion, Constant, Polynomial, times, quotient, exponential, logarithm}
 use Rattle.taylor_rules.specs.Kept.{Fits, Kept, KeptBy}
 use Rattle.taylor_rules.proofs.Theorems.{times-kept, quotient-kept, exponential-kept, logarithm-kept}
@@ -16,17 +16,17 @@ use Rattle.book_calls.specs.Follows.{ProductFollows, QuotientFollows, Ex
 use Rattle.book_calls.specs.Follows as follows
 
 -- what is kept by accepted work
-pub kept-then : {P Q : Pool} {Order : ℕ → Type 0} {x : Result Expansion} {e : Expansion} → KeptBy P Order x → x ≡ gives e Q → Kept P Order e Q
+pub kept-then : {P Q : Pool} {Order : ℕ → Type 0} {x : Result Expansion} {e : Expansion} → KeptBy P Order x → x ≡ done e Q → Kept P Order e Q
 kept-then {P} {Order = Order} h e = subst (KeptBy P Order) e h
 
 -- a constant that work gave
-constant-given : (x : Result ℕ) {c : ℕ} {Q : Pool} → bind x (λ c. yield (Constant c)) ≡ gives (Constant c) Q → x ≡ gives c Q
-constant-given (gives a R) e = cc
-constant-given (refused-work k) e = cc
+constant-given : (x : Result ℕ) {c : ℕ} {Q : Pool} → bind x (λ c. yield (Constant c)) ≡ done (Constant c) Q → x ≡ done c Q
+constant-given (done a R) e = cc
+constant-given (refused k) e = cc
 
 -- the order says that an answer of lists is a list, and one of constants a constant
 module _ {P Q : Pool} (keeps : Keeps P) where
-  pub product-follows : (s t e : Expansion) → Fits (P .count) s → Fits (P .count) t → times s t P ≡ gives e Q → ProductFollows P Q s t e
+  pub product-follows : (s t e : Expansion) → Fits (P .count) s → Fits (P .count) t → times s t P ≡ done e Q → ProductFollows P Q s t e
   unfolding times work
   product-follows (Constant b) (Constant c) (Constant v) hs ht eq = follows.constants (constant-given (mul b c P) eq)
   product-follows (Constant c) (Polynomial ws) (Polynomial vs) hs ht eq = follows.constant-left (constant-product-follows-the-book P c ws eq)
@@ -37,7 +37,7 @@ module _ {P Q : Pool} (keeps : Keeps P) where
   product-follows (Polynomial us) (Constant c) (Constant v) hs ht eq = let k = kept-then (times-kept keeps (Polynomial us) (Constant c) hs ht) eq in absurd (omega (arith, k .order, hs .most))
   product-follows (Polynomial us) (Polynomial ws) (Constant v) hs ht eq = let k = kept-then (times-kept keeps (Polynomial us) (Polynomial ws) hs ht) eq in absurd (omega (arith, k .order, hs .most))
 
-  pub quotient-follows : (s t e : Expansion) → Fits (P .count) s → Fits (P .count) t → quotient s t P ≡ gives e Q → QuotientFollows P Q s t e
+  pub quotient-follows : (s t e : Expansion) → Fits (P .count) s → Fits (P .count) t → quotient s t P ≡ done e Q → QuotientFollows P Q s t e
   unfolding work
   quotient-follows (Constant b) (Constant c) (Constant v) hs ht eq = follows.constants (constant-given (div b c P) eq)
   quotient-follows (Constant c) (Polynomial ws) (Polynomial vs) hs ht eq = follows.constant-left (constant-quotient-follows-the-book P c ws (ht .least) eq)
@@ -48,14 +48,14 @@ module _ {P Q : Pool} (keeps : Keeps P) where
   quotient-follows (Polynomial us) (Constant c) (Constant v) hs ht eq = let k = kept-then (quotient-kept keeps (Polynomial us) (Constant c) hs ht) eq in absurd (omega (arith, k .order, hs .most))
   quotient-follows (Polynomial us) (Polynomial ws) (Constant v) hs ht eq = let k = kept-then (quotient-kept keeps (Polynomial us) (Polynomial ws) hs ht) eq in absurd (omega (arith, k .order, hs .most))
 
-  pub exponential-follows : (s e : Expansion) → Fits (P .count) s → exponential s P ≡ gives e Q → ExpFollows P Q s e
+  pub exponential-follows : (s e : Expansion) → Fits (P .count) s → exponential s P ≡ done e Q → ExpFollows P Q s e
   unfolding work
   exponential-follows (Constant c) (Constant v) hs eq = follows.of-constant (constant-given (exp c P) eq)
   exponential-follows (Polynomial us) (Polynomial vs) hs eq = follows.of-list (exponential-follows-the-book P us (hs .least) eq)
   exponential-follows (Constant c) (Polynomial vs) hs eq = let k = kept-then (exponential-kept keeps (Constant c) hs) eq in absurd (omega (arith, k .order, k .fits .most))
   exponential-follows (Polynomial us) (Constant v) hs eq = let k = kept-then (exponential-kept keeps (Polynomial us) hs) eq in absurd (omega (arith, k .order, hs .most))
 
-  pub logarithm-follows : (s e : Expansion) → Fits (P .count) s → logarithm s P ≡ gives e Q → LogFollows P Q s e
+  pub logarithm-follows : (s e : Expansion) → Fits (P .count) s → logarithm s P ≡ done e Q → LogFollows P Q s e
   unfolding work
   logarithm-follows (Constant c) (Constant v) hs eq = follows.of-constant (constant-given (log c P) eq)
   logarithm-follows (Polynomial us) (Polynomial vs) hs eq = follows.of-list (logarithm-follows-the-book P us (hs .least) eq)

@@ -4,10 +4,10 @@ use mathlib.Core.Path.{_≡_}
 use mathlib.Core.Bool.{_&&_}
 use mathlib.Core.List.{List}
 use Prim.Native.Nat.{ℕ}
-use Rattle.pool.specs.Pool.{Pool}
+use Rattle.pool.specs.Pool.{Pool, done}
 use Rattle.constructor_laws.specs.Grown.{Grown}
 use Rattle.constructor_laws.specs.Keeps.{Keeps}
-use Rattle.taylor.specs.Work.{gives, Work}
+use Rattle.taylor.specs.Work.{Work}
 use Rattle.taylor.specs.Expansion.{Expansion, times, quotient, exponential, logarithm}
 use Rattle.taylor_rules.specs.Kept.{Fits}
 use Rattle.taylor_rules.proofs.Theorems.{times-kept, quotient-kept, exponential-kept, logarithm-kept}
@@ -25,8 +25,8 @@ module _ {ks ws : List ℕ} {n : ℕ} {r : Outcome} {ks′ ws′ : List ℕ} {n�
   -- a call on two expansions, and on one
   pub two-follow :
       (op : Expansion → Expansion → Work Expansion) (Follows : Pool → Expansion → Expansion → Expansion → Type 0)
-      → ((s t e : Expansion) (Q : Pool) → Keeps (lentPool ks ws n) → Fits n s → Fits n t → op s t (lentPool ks ws n) ≡ gives e Q → Grown (lentPool ks ws n) Q × Fits (Q .count) e)
-      → ((s t e : Expansion) (Q : Pool) → Keeps (lentPool ks ws n) → Fits n s → Fits n t → op s t (lentPool ks ws n) ≡ gives e Q → Follows Q s t e)
+      → ((s t e : Expansion) (Q : Pool) → Keeps (lentPool ks ws n) → Fits n s → Fits n t → op s t (lentPool ks ws n) ≡ done e Q → Grown (lentPool ks ws n) Q × Fits (Q .count) e)
+      → ((s t e : Expansion) (Q : Pool) → Keeps (lentPool ks ws n) → Fits n s → Fits n t → op s t (lentPool ks ws n) ≡ done e Q → Follows Q s t e)
       → (lhs rhs : Series) → Array lhs → Array rhs
       → Answered (givenTwo lhs rhs (lengthOk lhs && lengthOk rhs) (op (given lhs) (given rhs))) ks ws n r ks′ ws′ n′
       → Follows (lentPool ks′ ws′ n′) (given lhs) (given rhs) (given (r .series))
@@ -39,8 +39,8 @@ module _ {ks ws : List ℕ} {n : ℕ} {r : Outcome} {ks′ ws′ : List ℕ} {n�
 
   pub one-follows :
       (op : Expansion → Work Expansion) (Follows : Pool → Expansion → Expansion → Type 0)
-      → ((s e : Expansion) (Q : Pool) → Keeps (lentPool ks ws n) → Fits n s → op s (lentPool ks ws n) ≡ gives e Q → Grown (lentPool ks ws n) Q × Fits (Q .count) e)
-      → ((s e : Expansion) (Q : Pool) → Keeps (lentPool ks ws n) → Fits n s → op s (lentPool ks ws n) ≡ gives e Q → Follows Q s e)
+      → ((s e : Expansion) (Q : Pool) → Keeps (lentPool ks ws n) → Fits n s → op s (lentPool ks ws n) ≡ done e Q → Grown (lentPool ks ws n) Q × Fits (Q .count) e)
+      → ((s e : Expansion) (Q : Pool) → Keeps (lentPool ks ws n) → Fits n s → op s (lentPool ks ws n) ≡ done e Q → Follows Q s e)
       → (arg : Series) → Array arg
       → Answered (givenSeries arg (op (given arg))) ks ws n r ks′ ws′ n′
       → Follows (lentPool ks′ ws′ n′) (given arg) (given (r .series))

@@ -6,10 +6,10 @@ use mathlib.Core.List.{List, [], _∷_}
 use Prim.Native.Nat.{ℕ, zero, suc, _<_}
 use native.Mathlib.Omega.{arith}
 use lib.ListN.{length}
-use Rattle.pool.specs.Pool.{Pool, nodeAt}
+use Rattle.pool.specs.Pool.{Pool, nodeAt, done}
 use Rattle.constructor_laws.specs.Keeps.{Keeps}
 use Rattle.constructor_laws.proofs.Rules.{AllBelow, all-below}
-use Rattle.taylor.specs.Work.{gives, at}
+use Rattle.taylor.specs.Work.{at}
 use Rattle.taylor.specs.Expansion.{Expansion, Constant, Polynomial, times, quotient, exponential, logarithm}
 use Rattle.taylor_rules.specs.Kept.{nodesOf, Fits}
 use Rattle.taylor_rules.proofs.Theorems.{times-kept, quotient-kept, exponential-kept, logarithm-kept}
@@ -51,7 +51,7 @@ module _ {A : Algebra} (M : Model A) (D : Distributive A) (fractions : Fractions
     node c h = all-below (P .count) (c ∷ []) (h .nodes) .0
 
     -- a constant that is one formula's
-    constant-values : {v : ℕ} (f : Formula) → Stands P f → work f P ≡ gives v Q → HasValues A env Q (Constant v) (λ k. f)
+    constant-values : {v : ℕ} (f : Formula) → Stands P f → work f P ≡ done v Q → HasValues A env Q (Constant v) (λ k. f)
     constant-values f h e zero l = worked-has-its-value M env f P keeps h e
     constant-values f h e (suc k) l = absurd (none l)
       where

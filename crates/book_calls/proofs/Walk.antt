@@ -15,15 +15,15 @@ use borrow.Author.Tests.{eq-eqb, ne-eqb}
 use Rattle.pool.specs.declared.node.Node.{Node}
 use Rattle.pool.specs.declared.node.Node.the-variants.{Empty, Variable, Lit, Add, Mul, Div, Exp, Log, Pow, Max}
 use Rattle.pool.specs.Nodes.{parts, greatestVariable}
-use Rattle.pool.specs.Pool.{Pool, limit, nodeAt}
+use Rattle.pool.specs.Pool.{Pool, limit, nodeAt, done, refused}
 use Rattle.constructor_laws.specs.Grown.{Grown}
 use Rattle.constructor_laws.specs.Keeps.{Keeps}
 use Rattle.constructor_laws.proofs.Growth.{grown-by-nothing, grown-by-both, earlier-same}
 use Rattle.constructor_laws.proofs.Rules.{AllBelow, below-all, rules-of, node-stands, standing-parts-below}
-use Rattle.taylor.specs.Work.{Result, gives, refused-work, Work}
+use Rattle.taylor.specs.Work.{Result, Work}
 use Rattle.taylor.specs.Work as work
 use Rattle.taylor.specs.Expansion.{Expansion, Constant, order, var, addTo, times, quotient, exponential, logarithm, power}
-use Rattle.taylor.specs.Expand.{Kept, nothing, kept, State, state, Went, went, refused-walk, Walk, bind, keep, once, lifted, lift, Point, pointNode, ofVariable, expandNode, expandAt, expandBelow}
+use Rattle.taylor.specs.Expand.{Kept, nothing, kept, State, state, Went, Walk, bind, keep, once, lifted, lift, Point, pointNode, ofVariable, expandNode, expandAt, expandBelow}
 use Rattle.taylor_base.specs.Answers.{terms}
 use Rattle.taylor_rules.specs.Kept.{nodesOf, Fits}
 use Rattle.taylor_rules.proofs.Nodes.{KeptAs, Keeping, next-keeps}
@@ -51,18 +51,18 @@ module _ (P₀ : Pool) (v : ℕ) (x : Point) (ord : ℕ) where
     pub right : Expansion
     pub left-kept : getD results a nothing ≡ kept left
     pub right-kept : getD results b nothing ≡ kept right
-    pub worked : Between P₀ Q (left ∷ right ∷ []) (λ A B. op left right A ≡ gives d B)
+    pub worked : Between P₀ Q (left ∷ right ∷ []) (λ A B. op left right A ≡ done d B)
 
   pub record OfOne (results : List Kept) (Q : Pool) (a : ℕ) (op : Expansion → Work Expansion) (d : Expansion) : Type 0 where
     pub only : Expansion
     pub only-kept : getD results a nothing ≡ kept only
-    pub worked : Between P₀ Q (only ∷ []) (λ A B. op only A ≡ gives d B)
+    pub worked : Between P₀ Q (only ∷ []) (λ A B. op only A ≡ done d B)
 
   abbrev pub variableWork : Work Expansion
   variableWork P = work.bind (pointNode v x P) (λ p. var p ord)
 
   abbrev pub OfVariable : Pool → ℕ → Expansion → Bool → Type 0
-  OfVariable Q i d true = Between P₀ Q [] (λ A B. variableWork A ≡ gives d B)
+  OfVariable Q i d true = Between P₀ Q [] (λ A B. variableWork A ≡ done d B)
   OfVariable Q i d false = d ≡ Constant i
 
   abbrev pub Explained : List Kept → Pool → ℕ → Expansion → Node → Type 0
@@ -120,8 +120,8 @@ module _ (P₀ : Pool) (v : ℕ) (x : Point) (ord : ℕ) where
       pub outside : (j : ℕ) → k ≤ j → getD (T .results) j nothing ≡ getD (S .results) j nothing
 
     abbrev Comes : ℕ → State → Went → Type 0
-    Comes k S (went e T) = Arrived k S T
-    Comes k S (refused-walk q) = Unit {0}
+    Comes k S (done e T) = Arrived k S T
+    Comes k S (refused q) = Unit {0}
 
     arrived-here : {k : ℕ} {S : State} → Right S → Arrived k S S
     arrived-here {S = S} r = record { right = r; grown = grown-by-nothing (S .pool); outside = λ j l. refl }
@@ -131,8 +131,8 @@ module _ (P₀ : Pool) (v : ℕ) (x : Point) (ord : ℕ) where
 
     -- what was done at the node `term`, by X of the table, the pool and the expansion; or a refusal
     data Steps (term : ℕ) (X : List Kept → Pool → Expansion → Type 0) (S : State) : Went → Type 0 where
-      stepped : {e : Expansion} {T : State} → Arrived term S T → Come ord small (T .pool .count) e → X (T .results) (T .pool) e → Steps term X S (went e T)
-      stopped : {q : ℕ} → Steps term X S (refused-walk q)
+      stepped : {e : Expansion} {T : State} → Arrived term S T → Come ord small (T .pool .count) e → X (T .results) (T .pool) e → Steps term X S (done e T)
+      stopped : {q : ℕ} → Steps term X S (refused q)
 
     -- in another pool that has grown
     right-later : {U : State} {Q : Pool} → Right U → Grown (U .pool) Q → Keeps Q → Right (state Q (U .results))
@@ -148,14 +148,14 @@ module _ (P₀ : Pool) (v : ℕ) (x : Point) (ord : ℕ) where
     -- an operation that is called in the state U
     lift-steps :
         {term : ℕ} {X : List Kept → Pool → Expansion → Type 0} {S : State} (op : Work Expansion) (U : State) → Arrived term S U → Keeping (U .pool .count) (Come ord small) op
-        → ((e : Expansion) (Q : Pool) → op (U .pool) ≡ gives e Q → X (U .results) Q e)
+        → ((e : Expansion) (Q : Pool) → op (U .pool) ≡ done e Q → X (U .results) Q e)
         → Steps term X S (lift op U)
     lift-steps {term} {X} {S} op U c keeping explain = go (op (U .pool)) refl (keeping .kept (U .pool) (c .right .keeps) (le-refl (U .pool .count)))
       where
         go : (r : Result Expansion) → op (U .pool) ≡ r → KeptAs (Come ord small) (U .pool) r → Steps term X S (lifted (U .results) r)
-        go (gives e Q) eq k =
+        go (done e Q) eq k =
             stepped (record { right = right-later (c .right) (k .grown) (k .keeps); grown = grown-by-both (c .grown) (k .grown); outside = c .outside }) (k .good) (explain e Q eq)
-        go (refused-work q) eq k = stopped
+        go (refused q) eq k = stopped
 
     -- ---- the walk at a node
 
@@ -181,10 +181,10 @@ module _ (P₀ : Pool) (v : ℕ) (x : Point) (ord : ℕ) where
         visit {a} {X} {S₀} {more} l S r next = go (down a S) refl (walks a (omega arith) S r)
           where
             go : (w : Went) → down a S ≡ w → Comes term S w → Steps term X S₀ (bind w more)
-            go (went s T) eq c =
+            go (done s T) eq c =
                 let h = came v x ord term a eq in
                 next s T (record { arrived = c; there = h .there (omega (arith, r .long, rules-of keeps₀ .within)); held = record { stays = h .held .stays } })
-            go (refused-walk q) eq c = stopped
+            go (refused q) eq c = stopped
 
         two-steps :
             {a b : ℕ} (op : Expansion → Expansion → Work Expansion)
@@ -224,7 +224,7 @@ module _ (P₀ : Pool) (v : ℕ) (x : Point) (ord : ℕ) where
               worked = record { start = T .pool; finish = Q; earlier = right .grown; keeps = right .keeps; there = (fits s (cs .within), tt); is = eq; later = grown-by-nothing Q };
             }))
 
-        constant-steps : {X : List Kept → Pool → Expansion → Type 0} (S : State) → Right S → X (S .results) (S .pool) (Constant term) → Steps term X S (went (Constant term) S)
+        constant-steps : {X : List Kept → Pool → Expansion → Type 0} (S : State) → Right S → X (S .results) (S .pool) (Constant term) → Steps term X S (done (Constant term) S)
         constant-steps S r h = let l : term < S .pool .count = omega (arith, r .grown .no-fewer) in stepped (arrived-here r) (constant-come ord small l) h
 
         variable-steps : (t : Bool) (S : State) → Right S → Steps term (λ results Q e. OfVariable Q term e t) S (ofVariable t term v x ord S)
@@ -296,13 +296,13 @@ module _ (P₀ : Pool) (v : ℕ) (x : Point) (ord : ℕ) where
             (S : State) → getD (S .results) term nothing ≡ nothing → (w : Went)
             → Steps term (λ results Q e. Explained results Q term e (nodeAt P₀ term)) S w
             → Comes (suc term) S (bind w (keep term))
-        keep-comes S empty (went e T) (stepped arrived come explained) =
+        keep-comes S empty (done e T) (stepped arrived come explained) =
             record {
               right = keep-right T e (arrived .outside term (le-refl term) ∙ empty) (arrived .right) come explained;
               grown = arrived .grown;
               outside = λ j l. getD-set-other (T .results) term j (kept e) nothing (λ same. omega arith) ∙ arrived .outside j (omega arith);
             }
-        keep-comes S empty (refused-walk q) stopped = tt
+        keep-comes S empty (refused q) stopped = tt
 
         once-comes : (S : State) → Right S → (q : Kept) → getD (S .results) term nothing ≡ q → Comes (suc term) S (once (expandAt v x ord down) term q S)
         once-comes S r nothing e = keep-comes S e (expandAt v x ord down term S) (at-steps S r)
@@ -314,8 +314,8 @@ module _ (P₀ : Pool) (v : ℕ) (x : Point) (ord : ℕ) where
       more-walks k less i l S r = go (ℕ-discrete i k)
         where
           further : (w : Went) → Comes k S w → Comes (suc k) S w
-          further (went e T) c = record { right = c .right; grown = c .grown; outside = λ j m. c .outside j (omega arith) }
-          further (refused-walk q) c = tt
+          further (done e T) c = record { right = c .right; grown = c .grown; outside = λ j m. c .outside j (omega arith) }
+          further (refused q) c = tt
 
           go : Dec (i ≡ k) → Comes (suc k) S (expandBelow v x ord (suc k) i S)
           go (yes e) = rw (e, eq-eqb k k refl) (once-comes less (omega arith) S r (getD (S .results) k nothing) refl)
@@ -339,7 +339,7 @@ module _ (P₀ : Pool) (v : ℕ) (x : Point) (ord : ℕ) where
           never : getD (replicate limit nothing) j nothing ≡ nothing → ⊥
           never n = let z : _≡_ {A = ℕ} 0 1 = cc in omega arith
 
-      pub walk-explained : (root : ℕ) → root < P₀ .count → {e : Expansion} {T : State} → expandBelow v x ord (suc root) root (state P₀ (replicate limit nothing)) ≡ went e T → Right T
+      pub walk-explained : (root : ℕ) → root < P₀ .count → {e : Expansion} {T : State} → expandBelow v x ord (suc root) root (state P₀ (replicate limit nothing)) ≡ done e T → Right T
       walk-explained root l {e} {T} eq = go (subst (Comes (suc root) (state P₀ (replicate limit nothing))) eq (below-walks (suc root) root l (state P₀ (replicate limit nothing)) start))
         where
           start : Right (state P₀ (replicate limit nothing))

@@ -4,8 +4,7 @@ use mathlib.Core.Path.{_≡_}
 use mathlib.Core.List.{List, []}
 use Prim.Native.Nat.{ℕ, min}
 use lib.ListN.{length}
-use Rattle.pool.specs.Pool.{Pool}
-use Rattle.taylor.specs.Work.{gives}
+use Rattle.pool.specs.Pool.{Pool, done}
 use Rattle.taylor.specs.Expansion.{Expansion, Constant, Polynomial}
 use Rattle.book.specs.Formula.{#, whole, _⊗_, _⊘_, Exp, Log, work}
 use Rattle.book.specs.Book.{list, constant, productBook, scaledBook, quotientBook, expBook, logBook}
@@ -21,7 +20,7 @@ module _ (P Q : Pool) where
     constant-left : {c : ℕ} {ws vs : List ℕ} → Recurrence [] [] (scaledBook (# c) (list ws)) (scaledOrdered (# c) (list ws)) (length ws) vs P Q → ProductFollows (Constant c) (Polynomial ws) (Polynomial vs)
     constant-right : {us vs : List ℕ} {c : ℕ} → Recurrence [] [] (scaledBook (# c) (list us)) (scaledOrdered (# c) (list us)) (length us) vs P Q → ProductFollows (Polynomial us) (Constant c) (Polynomial vs)
     -- v_0 = u_0 × w_0
-    constants : {b c v : ℕ} → work (# b ⊗ # c) P ≡ gives v Q → ProductFollows (Constant b) (Constant c) (Constant v)
+    constants : {b c v : ℕ} → work (# b ⊗ # c) P ≡ done v Q → ProductFollows (Constant b) (Constant c) (Constant v)
 
   -- v = u / w
   pub data QuotientFollows : (u w v : Expansion) → Type 0 where
@@ -31,16 +30,16 @@ module _ (P Q : Pool) where
     -- v_k = (1/c) × u_k
     constant-right : {us vs : List ℕ} {c : ℕ} → Recurrence [] [] (scaledBook (whole 1 ⊘ # c) (list us)) (dividedOrdered (# c) (list us)) (length us) vs P Q → QuotientFollows (Polynomial us) (Constant c) (Polynomial vs)
     -- v_0 = u_0 / w_0
-    constants : {b c v : ℕ} → work (# b ⊘ # c) P ≡ gives v Q → QuotientFollows (Constant b) (Constant c) (Constant v)
+    constants : {b c v : ℕ} → work (# b ⊘ # c) P ≡ done v Q → QuotientFollows (Constant b) (Constant c) (Constant v)
 
   -- v = exp u
   pub data ExpFollows : (u v : Expansion) → Type 0 where
     -- v_0 = exp u_0, k × v_k = Σ_(j=1..k) v_(k-j) × (j × u_j)
     of-list : {us vs : List ℕ} → WithZero (expBook (list us) (list vs)) (expOrdered (list us) (list vs)) (length us) vs P Q → ExpFollows (Polynomial us) (Polynomial vs)
-    of-constant : {c v : ℕ} → work (Exp (# c)) P ≡ gives v Q → ExpFollows (Constant c) (Constant v)
+    of-constant : {c v : ℕ} → work (Exp (# c)) P ≡ done v Q → ExpFollows (Constant c) (Constant v)
 
   -- v = ln u
   pub data LogFollows : (u v : Expansion) → Type 0 where
     -- v_0 = ln u_0, k × v_k = (1/u_0) × (k × u_k - Σ_(j=1..k-1) u_(k-j) × (j × v_j))
     of-list : {us vs : List ℕ} → WithZero (logBook (list us) (list vs)) (logOrdered (list us) (list vs)) (length us) vs P Q → LogFollows (Polynomial us) (Polynomial vs)
-    of-constant : {c v : ℕ} → work (Log (# c)) P ≡ gives v Q → LogFollows (Constant c) (Constant v)
+    of-constant : {c v : ℕ} → work (Log (# c)) P ≡ done v Q → LogFollows (Constant c) (Constant v)

@@ -7,11 +7,11 @@ use Prim.Native.Nat.{ℕ}
 use lib.Dec.{eqb}
 use Rattle.pool.specs.declared.node.Node.{Node}
 use Rattle.pool.specs.declared.node.Node.the-variants.{Empty, Variable, Lit, Add, Mul, Div, Exp, Log, Pow, Max}
-use Rattle.pool.specs.Pool.{Pool, nodeAt}
+use Rattle.pool.specs.Pool.{Pool, nodeAt, done}
 use Rattle.constructor_laws.specs.Grown.{Grown}
 use Rattle.constructor_laws.specs.Keeps.{Keeps}
 use Rattle.shape.specs.Shape.{Reach}
-use Rattle.taylor.specs.Work.{gives, bind}
+use Rattle.taylor.specs.Work.{bind}
 use Rattle.taylor.specs.Expansion.{Expansion, Constant, var, addTo, power}
 use Rattle.taylor.specs.Expand.{Point, pointNode}
 use Rattle.taylor_rules.specs.Kept.{Fits}
@@ -36,7 +36,7 @@ pub record Between (P Q : Pool) (us : List Expansion) (Done : Pool → Pool → 
 module _ (P Q : Pool) (v : ℕ) (x : Point) (order : ℕ) (of : ℕ → Expansion) (i : ℕ) where
   -- the variable sought is expanded at the point; another is a constant
   abbrev pub VariableFollows : Bool → Type 0
-  VariableFollows true = Between P Q [] (λ A B. bind (pointNode v x A) (λ p. var p order) ≡ gives (of i) B)
+  VariableFollows true = Between P Q [] (λ A B. bind (pointNode v x A) (λ p. var p order) ≡ done (of i) B)
   VariableFollows false = of i ≡ Constant i
 
   -- node i, of each kind
@@ -44,12 +44,12 @@ module _ (P Q : Pool) (v : ℕ) (x : Point) (order : ℕ) (of : ℕ → Expansio
   NodeFollows Empty = ⊥
   NodeFollows (Variable u) = VariableFollows (eqb u v)
   NodeFollows (Lit z) = of i ≡ Constant i
-  NodeFollows (Add a b) = Between P Q (of a ∷ of b ∷ []) (λ A B. addTo (of a) (of b) A ≡ gives (of i) B)
+  NodeFollows (Add a b) = Between P Q (of a ∷ of b ∷ []) (λ A B. addTo (of a) (of b) A ≡ done (of i) B)
   NodeFollows (Mul a b) = Between P Q (of a ∷ of b ∷ []) (λ A B. ProductFollows A B (of a) (of b) (of i))
   NodeFollows (Div a b) = Between P Q (of a ∷ of b ∷ []) (λ A B. QuotientFollows A B (of a) (of b) (of i))
   NodeFollows (Exp a) = Between P Q (of a ∷ []) (λ A B. ExpFollows A B (of a) (of i))
   NodeFollows (Log a) = Between P Q (of a ∷ []) (λ A B. LogFollows A B (of a) (of i))
-  NodeFollows (Pow a n) = Between P Q (of a ∷ []) (λ A B. power (of a) n A ≡ gives (of i) B)
+  NodeFollows (Pow a n) = Between P Q (of a ∷ []) (λ A B. power (of a) n A ≡ done (of i) B)
   NodeFollows (Max a b) = ⊥
 
 -- the expansion e of the root

@@ -10,11 +10,11 @@ use lib.Dec.{ltb}
 use lib.ListN.{length, getD, length-append, List·getD-append}
 use lib.Seq.{getD-append-add}
 use borrow.Author.Tests.{ltb-true, ltb-false}
-use Rattle.pool.specs.Pool.{Pool, nodeAt}
+use Rattle.pool.specs.Pool.{Pool, nodeAt, done, refused}
 use Rattle.constructor_laws.specs.Grown.{Grown}
 use Rattle.constructor_laws.specs.Keeps.{Keeps}
 use Rattle.constructor_laws.proofs.Growth.{grown-by-nothing, grown-by-both}
-use Rattle.taylor.specs.Work.{Result, gives, refused-work, bind, yield, at}
+use Rattle.taylor.specs.Work.{Result, bind, yield, at}
 use Rattle.book.specs.Formula.{Formula, whole, work, works, row}
 use Rattle.book.specs.Recurrence.{Recurrence}
 use Rattle.meaning.specs.Model.{Algebra, Model, Distributive}
@@ -38,10 +38,10 @@ pub data Earlier (P : Pool) (nodes cs : List ℕ) (k : ℕ) : ℕ → Type 0 whe
   coefficient : (m : ℕ) → m < k → Earlier P nodes cs k (at cs m)
 
 -- a refusal is no answer
-no-answer : {A B : Type 0} {k : ℕ} {v : A} {Q : Pool} → _≡_ {A = Result A} (refused-work k) (gives v Q) → B
+no-answer : {A B : Type 0} {k : ℕ} {v : A} {Q : Pool} → _≡_ {A = Result A} (refused k) (done v Q) → B
 no-answer {A} {k = k} {v} {Q} h = absurd (never h)
   where
-    never : _≡_ {A = Result A} (refused-work k) (gives v Q) → ⊥
+    never : _≡_ {A = Result A} (refused k) (done v Q) → ⊥
     never h = let z : _≡_ {A = ℕ} 0 1 = cc in omega arith
 
 row-at : (f : ℕ → Formula) (first n k : ℕ) → k < n → getD (row f first n) k (whole 0) ≡ f (first + k)
@@ -73,19 +73,19 @@ module _ {A : Algebra} (M : Model A) (env : Values A) where
     grown : Grown P B
     has : Has M env B c x
 
-  opened : {P : Pool} {x : A .carrier} {r : Result ℕ} {c : ℕ} {B : Pool} → Gives P (λ Q i. Has M env Q i x) r → r ≡ gives c B → Gave P x c B
+  opened : {P : Pool} {x : A .carrier} {r : Result ℕ} {c : ℕ} {B : Pool} → Gives P (λ Q i. Has M env Q i x) r → r ≡ done c B → Gave P x c B
   opened {P} {x} {c = c} {B} h e = go (subst (Gives P (λ Q i. Has M env Q i x)) e h)
     where
-      go : Gives P (λ Q i. Has M env Q i x) (gives c B) → Gave P x c B
+      go : Gives P (λ Q i. Has M env Q i x) (done c B) → Gave P x c B
       go (gave k g s) = record { keeps = k; grown = g; has = s }
 
   -- one formula that was worked, its nodes having the values that they have in the end
-  pub worked-has-its-value : (f : Formula) (P : Pool) {c : ℕ} {Q : Pool} → Keeps P → Stands P f → work f P ≡ gives c Q → val Q c ≡ formulaValue A (val Q) f
+  pub worked-has-its-value : (f : Formula) (P : Pool) {c : ℕ} {Q : Pool} → Keeps P → Stands P f → work f P ≡ done c Q → val Q c ≡ formulaValue A (val Q) f
   worked-has-its-value f P k h e = let g = opened (work-has-its-value M env f P k h) e in g .has .is ∙ sym (formula-kept M env k (g .grown) f h)
 
   -- one formula more, worked first
   module _
-      (f : Formula) (fs : List Formula) (K : ℕ → Type 0) (P : Pool) (k : Keeps P) (below : (j : ℕ) → K j → j < P .count) (c : ℕ) (B : Pool) (e : work f P ≡ gives c B) (cs : List ℕ)
+      (f : Formula) (fs : List Formula) (K : ℕ → Type 0) (P : Pool) (k : Keeps P) (below : (j : ℕ) → K j → j < P .count) (c : ℕ) (B : Pool) (e : work f P ≡ done c B) (cs : List ℕ)
       (named : (i : ℕ) → i < length (f ∷ fs) → Names (Known K (c ∷ cs) i) (getD (f ∷ fs) i (whole 0))) where
     first-known : (j : ℕ) → Known K (c ∷ cs) 0 j → j < P .count
     first-known j (there h) = below j h
@@ -124,7 +124,7 @@ module _ {A : Algebra} (M : Model A) (env : Values A) where
   abbrev pub HaveTheirValues : List Formula → Type 1
   HaveTheirValues fs =
       (K : ℕ → Type 0) (P : Pool) → Keeps P → ((j : ℕ) → K j → j < P .count)
-      → (xs : List ℕ) (Q : Pool) → works fs P ≡ gives xs Q
+      → (xs : List ℕ) (Q : Pool) → works fs P ≡ done xs Q
       → ((i : ℕ) → i < length fs → Names (Known K xs i) (getD fs i (whole 0)))
       → Valued fs xs P Q
 
@@ -132,19 +132,19 @@ module _ {A : Algebra} (M : Model A) (env : Values A) where
   unfolding works
   more-values f fs rest K P k below xs Q eq names = first (work f P) refl eq
     where
-      second : (c : ℕ) (B : Pool) → work f P ≡ gives c B → (r : Result (List ℕ)) → works fs B ≡ r → bind r (λ cs. yield (c ∷ cs)) ≡ gives xs Q → Valued (f ∷ fs) xs P Q
-      second c B e (gives cs R) e′ h =
+      second : (c : ℕ) (B : Pool) → work f P ≡ done c B → (r : Result (List ℕ)) → works fs B ≡ r → bind r (λ cs. yield (c ∷ cs)) ≡ done xs Q → Valued (f ∷ fs) xs P Q
+      second c B e (done cs R) e′ h =
           let all : c ∷ cs ≡ xs = cc in
           let last : R ≡ Q = cc in
           let named : (i : ℕ) → i < length (f ∷ fs) → Names (Known K (c ∷ cs) i) (getD (f ∷ fs) i (whole 0)) = λ i l. subst (λ ys. Names (Known K ys i) (getD (f ∷ fs) i (whole 0))) (sym all) (names i l) in
           subst (λ l. Valued (f ∷ fs) l P Q) all
           (cons-valued f fs K P k below c B e cs named
-          (rest (λ j. K j ⊎ (j ≡ c)) B (first-gave f fs K P k below c B e cs named .keeps) (below-then f fs K P k below c B e cs named) cs Q (e′ ∙ ap (gives cs) last) (named-then f fs K P k below c B e cs named)))
-      second c B e (refused-work q) e′ h = no-answer h
+          (rest (λ j. K j ⊎ (j ≡ c)) B (first-gave f fs K P k below c B e cs named .keeps) (below-then f fs K P k below c B e cs named) cs Q (e′ ∙ ap (done cs) last) (named-then f fs K P k below c B e cs named)))
+      second c B e (refused q) e′ h = no-answer h
 
-      first : (r : Result ℕ) → work f P ≡ r → bind r (λ c B. bind (works fs B) (λ cs. yield (c ∷ cs))) ≡ gives xs Q → Valued (f ∷ fs) xs P Q
-      first (gives c B) e h = second c B e (works fs B) refl h
-      first (refused-work q) e h = no-answer h
+      first : (r : Result ℕ) → work f P ≡ r → bind r (λ c B. bind (works fs B) (λ cs. yield (c ∷ cs))) ≡ done xs Q → Valued (f ∷ fs) xs P Q
+      first (done c B) e h = second c B e (works fs B) refl h
+      first (refused q) e h = no-answer h
 
   pub works-have-their-values : (fs : List Formula) → HaveTheirValues fs
   unfolding works

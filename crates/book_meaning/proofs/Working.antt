@@ -7,10 +7,10 @@ use Prim.Native.Nat.{ℕ, zero, suc, _<_}
 use native.Mathlib.Omega.{arith}
 use lib.IntN.{pos}
 use lib.ListN.{length, getD}
-use Rattle.pool.specs.Pool.{Pool, nodeAt}
+use Rattle.pool.specs.Pool.{Pool, nodeAt, done, refused}
 use Rattle.constructor_laws.specs.Grown.{Grown}
 use Rattle.constructor_laws.specs.Keeps.{Keeps}
-use Rattle.taylor.specs.Work.{Result, gives, refused-work, Work, bind, yield, at}
+use Rattle.taylor.specs.Work.{Result, Work, bind, yield, at}
 use Rattle.book.specs.Formula.{Formula, #, whole, _⊕_, _⊖_, _⊗_, _⊘_, _⊟_, Exp, Log, work, works}
 use Rattle.meaning.specs.Model.{Algebra, Model}
 use Rattle.meaning.specs.Value.{Values, value}
