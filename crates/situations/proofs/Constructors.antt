@@ -14,7 +14,7 @@ use Rattle.constructors.specs.Terms.{Term, #, lit, lit-exp, lit-log, add, mul, 
 use Rattle.constructors.specs.Tables.{addTable, mulTable, divTable, negTable, expTable, logTable, powTable, maxTable}
 use Rattle.constructors.specs.Build.{Calls, literal, build, noCalls, deeper, calls}
 use Rattle.situations.specs.Refusal.{OneOf}
-use Rattle.situations.specs.Situations.{ofConstructors, OfConstructors}
+use Rattle.situations.specs.Situations.{ofConstructors}
 use Rattle.situations.proofs.Steps.{Refusing, _>>=_, yield-refuses, refuse-refuses, append-refuses, exponent-refuses, folded-refuses, exp-of-refuses, log-of-refuses}
 
 -- ---- the constructors' numbers
@@ -131,17 +131,3 @@ pub calls-refuse : (left : ℕ) → AllRefuse (calls left)
 unfolding calls
 calls-refuse zero = none-refuse
 calls-refuse (suc left) = deeper-refuse (calls-refuse left)
-
-pub constructors-refuse : (left : ℕ) → OfConstructors (calls left)
-constructors-refuse left =
-    let c = calls-refuse left in
-    record {
-      add-meets = λ lhs rhs. c .add-at lhs rhs .refuses;
-      mul-meets = λ lhs rhs. c .mul-at lhs rhs .refuses;
-      div-meets = λ lhs rhs. c .div-at lhs rhs .refuses;
-      max-meets = λ lhs rhs. c .max-at lhs rhs .refuses;
-      neg-meets = λ arg. c .neg-at arg .refuses;
-      exp-meets = λ arg. c .exp-at arg .refuses;
-      log-meets = λ arg. c .log-at arg .refuses;
-      pow-meets = λ base e. c .pow-at base e .refuses;
-    }

@@ -1,8 +1,11 @@
 pub mod Steps
 pub mod Constructors
+pub mod Literals
+pub mod Each
 pub mod Throughout
 pub mod Values
 pub mod Walks
 pub mod General
-pub mod Literals
-pub mod Each
+pub mod Operations
+pub mod Expansions
+pub mod Situations

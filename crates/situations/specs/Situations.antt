@@ -4,11 +4,12 @@ use mathlib.Core.List.{List, [], _∷_}
 use Prim.Native.Nat.{ℕ}
 use lib.Ieee.{Float}
 use Rattle.pool.specs.Pool.{Pool, nodeAt}
-use Rattle.constructors.specs.Build.{Calls}
+use Rattle.constructors.specs.Build.{calls, depth}
 use Rattle.walks.specs.Substitute.{substituteVar}
 use Rattle.walks.specs.Derive.{derive}
 use Rattle.walks.specs.Evaluate.{evaluate}
 use Rattle.walks.specs.EvaluateResidue.{evaluateResidue}
+use Rattle.taylor.specs.Expansion.{Expansion, var, coeff, derivative, negate, exponential, logarithm, power, addTo, subFrom, times, quotient, maximum, subst}
 use Rattle.taylor.specs.Expand.{Point, expand}
 use Rattle.situations.specs.Refusal.{Among, ofOut, ofResult, ofValued, ofDivided}
 
@@ -32,16 +33,16 @@ ofAppending = 18 ∷ []
 abbrev pub andMax : List ℕ
 andMax = 10 ∷ ofConstructors
 
--- the constructors, on any pool, for any arguments and at any depth
-pub record OfConstructors (c : Calls) : Type 0 where
-  pub add-meets : (lhs rhs : ℕ) (P : Pool) → Among ofConstructors (ofOut (c .add-at lhs rhs P))
-  pub mul-meets : (lhs rhs : ℕ) (P : Pool) → Among ofConstructors (ofOut (c .mul-at lhs rhs P))
-  pub div-meets : (lhs rhs : ℕ) (P : Pool) → Among ofConstructors (ofOut (c .div-at lhs rhs P))
-  pub max-meets : (lhs rhs : ℕ) (P : Pool) → Among ofConstructors (ofOut (c .max-at lhs rhs P))
-  pub neg-meets : (arg : ℕ) (P : Pool) → Among ofConstructors (ofOut (c .neg-at arg P))
-  pub exp-meets : (arg : ℕ) (P : Pool) → Among ofConstructors (ofOut (c .exp-at arg P))
-  pub log-meets : (arg : ℕ) (P : Pool) → Among ofConstructors (ofOut (c .log-at arg P))
-  pub pow-meets : (base e : ℕ) (P : Pool) → Among ofConstructors (ofOut (c .pow-at base e P))
+-- the constructors, called from outside
+pub record OfConstructors (P : Pool) : Type 0 where
+  pub add-meets : (lhs rhs : ℕ) → Among ofSums (ofOut (calls depth .add-at lhs rhs P))
+  pub mul-meets : (lhs rhs : ℕ) → Among ofConstructors (ofOut (calls depth .mul-at lhs rhs P))
+  pub div-meets : (lhs rhs : ℕ) → Among ofAppending (ofOut (calls depth .div-at lhs rhs P))
+  pub max-meets : (lhs rhs : ℕ) → Among ofAppending (ofOut (calls depth .max-at lhs rhs P))
+  pub neg-meets : (arg : ℕ) → Among ofAppending (ofOut (calls depth .neg-at arg P))
+  pub exp-meets : (arg : ℕ) → Among ofExpLog (ofOut (calls depth .exp-at arg P))
+  pub log-meets : (arg : ℕ) → Among ofExpLog (ofOut (calls depth .log-at arg P))
+  pub pow-meets : (base e : ℕ) → Among ofAppending (ofOut (calls depth .pow-at base e P))
 
 -- the work on an expression that stands in the pool
 pub record OfWalks (P : Pool) (root : ℕ) : Type 0 where
@@ -50,3 +51,19 @@ pub record OfWalks (P : Pool) (root : ℕ) : Type 0 where
   pub substitution : (var value : ℕ) → Among ofConstructors (ofOut (substituteVar root var value P))
   pub derivation : (var : ℕ) → Among andMax (ofOut (derive root var P))
   pub expansion : (v : ℕ) (x : Point) (order : ℕ) → Among andMax (ofResult (expand root v x order P))
+
+-- the operations on expansions: "10 .. or `max` is asked of an expansion that is no constant"
+pub record OfExpansions (P : Pool) : Type 0 where
+  pub var-meets : (x order : ℕ) → Among ofAppending (ofResult (var x order P))
+  pub coeff-meets : (e : Expansion) (k : ℕ) → Among ofAppending (ofResult (coeff e k P))
+  pub derivative-meets : (e : Expansion) (k : ℕ) → Among ofConstructors (ofResult (derivative e k P))
+  pub neg-meets : (e : Expansion) → Among ofAppending (ofResult (negate e P))
+  pub exp-meets : (e : Expansion) → Among ofConstructors (ofResult (exponential e P))
+  pub log-meets : (e : Expansion) → Among ofConstructors (ofResult (logarithm e P))
+  pub pow-meets : (e : Expansion) (n : ℕ) → Among ofConstructors (ofResult (power e n P))
+  pub add-meets : (s t : Expansion) → Among ofSums (ofResult (addTo s t P))
+  pub sub-meets : (s t : Expansion) → Among ofSums (ofResult (subFrom s t P))
+  pub mul-meets : (s t : Expansion) → Among ofConstructors (ofResult (times s t P))
+  pub div-meets : (s t : Expansion) → Among ofConstructors (ofResult (quotient s t P))
+  pub max-meets : (s t : Expansion) → Among (10 ∷ ofAppending) (ofResult (maximum s t P))
+  pub subst-meets : (outer inner : Expansion) → Among ofConstructors (ofResult (subst outer inner P))
