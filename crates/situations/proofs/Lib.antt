@@ -7,5 +7,6 @@ pub mod Values
 pub mod Walks
 pub mod General
 pub mod Operations
+pub mod Derivative
 pub mod Expansions
 pub mod Situations

@@ -99,6 +99,19 @@ module _ {ks : List ℕ} {c : Calls} where
 
 -- ---- the rules
 
+-- the product of two literals, whatever is claimed of the term
+module _ (at : ℕ → Node) (i j : ℕ) (H : Term → Type 0) (a b : ℤ) (e : at i ≡ Lit a) (f : at j ≡ Lit b) (nought : H (lit (pos 0))) (lhs : H (# i)) (rhs : H (# j)) (product : H (lit (a *ℤ b))) where
+  by-size : (z y o u : Bool) (rest : Term) → H ((z >> gives (lit (pos 0))) or (y >> gives (lit (pos 0))) or (o >> gives (# j)) or (u >> gives (# i)) or gives (lit (a *ℤ b)) then rest)
+  by-size true y o u rest = nought
+  by-size false true o u rest = nought
+  by-size false false true u rest = rhs
+  by-size false false false true rest = lhs
+  by-size false false false false rest = product
+
+  pub two-literals : H (mulTable at i j)
+  unfolding mulLits mulExps mulLeft mulPows mulLast
+  two-literals = rw (e, f) (by-size (isZero a) (isZero b) (isOne a) (isOne b) _)
+
 module _ {ks : List ℕ} (full : OneOf ks poolFull) (c : Calls) (at : ℕ → Node) (i j : ℕ) where
   zero-right : (m : Arm ℤ) → Making ks c ((m finds (λ z. isZero z >> gives (# j))) or gives (# i) then Terms.Add (# i) (# j))
   zero-right skip = node-made i
@@ -128,16 +141,6 @@ module _ {ks : List ℕ} (full : OneOf ks poolFull) (c : Calls) (at : ℕ → No
     other false true = node-made j
     other false false = plain-made
 
-    -- y is the literal b
-    literal-right :
-        (b : ℤ) → isLiteral b ≡ true → (z y o u : Bool) (rest : Term)
-        → Making ks c ((z >> gives (lit (pos 0))) or (y >> gives (lit (pos 0))) or (o >> gives (# j)) or (u >> gives (# i)) or gives (lit (a *ℤ b)) then rest)
-    literal-right b h true y o u rest = zero-made
-    literal-right b h false true o u rest = zero-made
-    literal-right b h false false true u rest = node-made j
-    literal-right b h false false false true rest = node-made i
-    literal-right b h false false false false rest = product b h
-
     -- y is a product, whose left part may be a literal
     product-right :
         (b1 b2 : ℕ) (m : Arm ℤ) → InRange m → (z o : Bool)
@@ -154,7 +157,7 @@ module _ {ks : List ℕ} (full : OneOf ks poolFull) (c : Calls) (at : ℕ → No
     unfolding mulLits mulExps mulLeft mulPows mulLast
     by-right lits e Empty f = rw (e, f) (other (isZero a) (isOne a))
     by-right lits e (Variable v) f = rw (e, f) (other (isZero a) (isOne a))
-    by-right lits e (Lit b) f = rw (e, f) (literal-right b (found (subst (λ n. InRange (litIn n)) f (lits j))) (isZero a) (isZero b) (isOne a) (isOne b) _)
+    by-right lits e (Lit b) f = two-literals at i j (Making ks c) a b e f zero-made (node-made i) (node-made j) (product b (found (subst (λ n. InRange (litIn n)) f (lits j))))
       where
         found : {z : ℤ} → InRange (gives z) → isLiteral z ≡ true
         found (return h) = h

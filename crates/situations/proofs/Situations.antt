@@ -14,6 +14,7 @@ use Rattle.situations.proofs.Values.{evaluation-refuses, residues-refus
 use Rattle.situations.proofs.Walks.{substitution-refuses, derivation-refuses}
 use Rattle.situations.proofs.General as general
 use Rattle.situations.proofs.Operations.{meets, wider, zero-holds, one-holds, every-constructor, sum-holds, opposite-holds, greater-holds}
+use Rattle.situations.proofs.Derivative.{derivative-refuses}
 use Rattle.situations.proofs.Expansions.{rules-are-long, expansion-refuses}
 
 module _ (P : Pool) (k : KeepsRules P) where
@@ -47,7 +48,7 @@ module _ (P : Pool) (k : KeepsRules P) where
       record {
         var-meets = λ x order. meets ofAppending (general.var-holds (zero-holds ofAppending (inl refl)) (one-holds ofAppending (inl refl)) x order) P long;
         coeff-meets = λ e i. meets ofAppending (general.coeff-holds (zero-holds ofAppending (inl refl)) e i) P long;
-        derivative-meets = λ e i. meets ofConstructors (general.derivative-holds every-constructor e i) P long;
+        derivative-meets = λ e i. derivative-refuses e i P long;
         neg-meets = λ e. meets ofAppending (general.negate-holds opposite-holds e) P long;
         exp-meets = λ e. meets ofConstructors (general.exponential-holds every-constructor e) P long;
         log-meets = λ e. meets ofConstructors (general.logarithm-holds every-constructor e) P long;

@@ -25,6 +25,10 @@ ofSums = 12 ∷ 14 ∷ 18 ∷ []
 abbrev pub ofExpLog : List ℕ
 ofExpLog = 11 ∷ 14 ∷ 18 ∷ []
 
+-- literals are folded, and a node is appended
+abbrev pub ofFolding : List ℕ
+ofFolding = 12 ∷ 18 ∷ []
+
 -- a node is appended, and no more
 abbrev pub ofAppending : List ℕ
 ofAppending = 18 ∷ []
@@ -56,7 +60,7 @@ pub record OfWalks (P : Pool) (root : ℕ) : Type 0 where
 pub record OfExpansions (P : Pool) : Type 0 where
   pub var-meets : (x order : ℕ) → Among ofAppending (ofResult (var x order P))
   pub coeff-meets : (e : Expansion) (k : ℕ) → Among ofAppending (ofResult (coeff e k P))
-  pub derivative-meets : (e : Expansion) (k : ℕ) → Among ofConstructors (ofResult (derivative e k P))
+  pub derivative-meets : (e : Expansion) (k : ℕ) → Among ofFolding (ofResult (derivative e k P))
   pub neg-meets : (e : Expansion) → Among ofAppending (ofResult (negate e P))
   pub exp-meets : (e : Expansion) → Among ofConstructors (ofResult (exponential e P))
   pub log-meets : (e : Expansion) → Among ofConstructors (ofResult (logarithm e P))
