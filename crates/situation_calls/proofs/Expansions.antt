@@ -15,22 +15,22 @@ use Rattle.pool.specs.Pool.{Pool, isPool}
 use Rattle.shape.specs.Demand.{KeepsRules}
 use Rattle.taylor.specs.Work.{Result, gives, refused-work, Work}
 use Rattle.taylor.specs.Expansion.{Expansion, var, coeff, derivative, negate, exponential, logarithm, power, addTo, subFrom, times, quotient, maximum, subst}
-use Rattle.taylor.specs.Expand.{Point, none, point, isPoint, expand}
+use Rattle.taylor.specs.Expand.{Point, none, point, expand}
 use Rattle.taylor_base.specs.Answers.{terms}
 use Rattle.lent.specs.Call as nodes
 use Rattle.lent.specs.Call.{lentPool}
 use Rattle.lent_series.specs.declared.series.Series.{Series}
-use Rattle.lent_series.specs.declared.call.Outcome.{Outcome}
 use Rattle.lent_series.specs.Series.{nodesOf, lengthOk, given}
-use Rattle.lent_series.specs.Call.{accepted, leaves, demand, onPool, givenSeries, givenTwo, out, asRun}
+use Rattle.lent_series.specs.Call.{leaves, demand, onPool, givenSeries, givenTwo, out, asRun}
 use Rattle.engine_series.specs.Operations.{hasIndex, givenIndex, varWork, pick, counted, countOf, expansionOr, coefficientsOf}
 use Rattle.engine_pairs.specs.Pairs.{agree}
 use Rattle.engine_expand.specs.Expressions.{expandWork}
 use Rattle.situations.specs.Refusal.{Among, ofOut, ofResult}
+use Rattle.situations.specs.Situations.{OfExpansions}
 use Rattle.situations.proofs.Situations.{of-walks, of-expansions}
 use Rattle.situation_calls.specs.Table as table
 use Rattle.situation_calls.specs.Table.{Call, checked, met}
-use Rattle.situation_calls.specs.Answers.{Situated, Answers, Gives, ofAnswer, ofCounted, ofNumber, oneTested, twoTested, OfSeries}
+use Rattle.situation_calls.specs.Answers.{Situated, Answers, Gives, ofAnswer, ofCounted, oneTested, twoTested, OfSeries}
 use Rattle.situation_calls.proofs.Laws.{working, passing, failing, demanded, numbers, not-zero, no-zero}
 use Rattle.situation_calls.proofs.Nodes.{rules, root-below, node-call}
 
@@ -78,12 +78,12 @@ module _ (ks ws : List ℕ) (n : ℕ) (fit : (i : ℕ) → getD ws i 0 < 2 ^ 64)
   two-call s t fits work h = three-checks (allBelow n (nodesOf s) && allBelow n (nodesOf t)) fits work h
 
   -- what is only read
+  abbrev first : Bool → Bool → Bool → ℕ
+  first p b l = pick p (pick b (pick l 0 wrongOrder) unknownNode) brokenPool
+
   order-answers : (s : Series) → Answers table.of-order (oneTested ks ws n s (lengthOk s)) (ofCounted (countOf ks ws n s))
   order-answers s = go (isPool ks ws n) (allBelow n (nodesOf s)) (lengthOk s)
     where
-      abbrev first : Bool → Bool → Bool → ℕ
-      first p b l = pick p (pick b (pick l 0 wrongOrder) unknownNode) brokenPool
-
       go : (p b l : Bool) → Answers table.of-order (p ∷ b ∷ l ∷ []) (ofCounted (counted (eqb (first p b l) 0) (first p b l) s))
       go true true true = passing 1 (passing 2 (passing 5 (working tt)))
       go true true false = passing 1 (passing 2 (failing 5))
@@ -93,9 +93,6 @@ module _ (ks ws : List ℕ) (n : ℕ) (fit : (i : ℕ) → getD ws i 0 < 2 ^ 64)
   read-answers : (s : Series) → Gives table.of-from-coefficients (oneTested ks ws n s (lengthOk s)) (coefficientsOf ks ws n s)
   read-answers s = go (isPool ks ws n) (allBelow n (nodesOf s)) (lengthOk s)
     where
-      abbrev first : Bool → Bool → Bool → ℕ
-      first p b l = pick p (pick b (pick l 0 wrongOrder) unknownNode) brokenPool
-
       go : (p b l : Bool) → Gives table.of-from-coefficients (p ∷ b ∷ l ∷ []) (expansionOr (eqb (first p b l) 0) (first p b l) s)
       go true true true = record { answers = passing 1 (passing 2 (passing 5 (working tt))); zero-accepts = λ z. (given s, refl) }
       go true true false = record { answers = passing 1 (passing 2 (failing 5)); zero-accepts = λ z. absurd (omega arith) }
@@ -108,7 +105,7 @@ module _ (ks ws : List ℕ) (n : ℕ) (fit : (i : ℕ) → getD ws i 0 < 2 ^ 64)
     last x = demand (ltb order terms) wrongOrder (expand root v x order P)
 
     last-checked : isPool ks ws n ≡ true → allBelow n (root ∷ []) ≡ true → (x : Point) → Situated (wrongOrder ∷ []) (met table.coeffs) (ltb order terms ∷ []) (ofResult (last x))
-    last-checked r e x = asked (ltb order terms) wrongOrder (expand root v x order P) (λ f. working (of-walks P (rules ks ws n fit r) root (root-below ks ws n fit e) .expansion v x order))
+    last-checked r e x = asked (ltb order terms) wrongOrder (expand root v x order P) (λ f. working (of-walks P (rules ks ws n fit r) root (root-below ks ws n fit root [] e) .expansion v x order))
 
     coeffs-answers : Answers table.coeffs (isPool ks ws n ∷ allBelow n (root ∷ []) ∷ leb v greatestVariable ∷ ltb order terms ∷ []) (ofResult (demand (isPool ks ws n) brokenPool (expandWork root v none order P)))
     coeffs-answers =
@@ -125,7 +122,7 @@ module _ (ks ws : List ℕ) (n : ℕ) (fit : (i : ℕ) → getD ws i 0 < 2 ^ 64)
 
   pub of-series : OfSeries ks ws n
   of-series =
-      let E = λ (r : KeepsRules P). of-expansions P r in
+      let E : KeepsRules P → OfExpansions P = of-expansions P in
       record {
         var-call = λ x order. series-call table.of-var (varWork x order) (three-checks (allBelow n (x ∷ [])) (ltb order terms) (var x order) (λ r. E r .var-meets x order));
         coeff-call = λ s k. index-call s k (coeff (given s) k) (λ r. E r .coeff-meets (given s) k);

@@ -4,9 +4,8 @@ use mathlib.Core.Path.{_≡_, refl}
 use mathlib.Core.Logic.{inl, inr}
 use mathlib.Core.Bool.{Bool, true, false, not}
 use mathlib.Core.List.{List, [], _∷_}
-use Prim.Native.Nat.{ℕ, zero, suc, _^_, _<_}
+use Prim.Native.Nat.{ℕ, zero, suc, _+_, _^_, _<_}
 use lib.Dec.{leb}
-use lib.IntN.{ℤ}
 use lib.Ieee.{Float}
 use lib.ListN.{length, getD}
 use Rattle.refusals.specs.Refusals.{brokenPool, unknownNode, unknownVariable, notLiteral, wrongValues, wrongLength, wrongEntry, wrongSequence, maxReached, noRoom}
@@ -26,15 +25,15 @@ use Rattle.walks.specs.Substitute.{substituteVar}
 use Rattle.walks.specs.Derive.{derive}
 use Rattle.walks.specs.Print.{textOf, hasMax}
 use Rattle.shape.specs.Demand.{KeepsRules}
+use Rattle.shape.specs.Shape.{rename}
 use Rattle.shape.specs.File.{sizeOf, entryOf, isSized, areNodes, isInOrder, passes, appendFirst, appendShifted, writtenFile, readFile}
 use Rattle.lent.specs.Call.{demand, leaves, lentPool, onPool, givenNodes}
-use Rattle.engine.specs.Build.{litWork, varWork}
-use Rattle.engine_walk.specs.Walks.{givenVariable, substituteWork, deriveWork}
+use Rattle.engine_walk.specs.Walks.{givenVariable}
 use Rattle.engine_values.specs.Values.{mostValues, areResidues, demandValue, demandResidue, evaluateCall, evaluateResidueCall}
-use Rattle.engine_print.specs.Printing.{Put, put, demandPut, writes, textFits, printCall}
+use Rattle.engine_print.specs.Printing.{Put, demandPut, writes, textFits, printCall}
 use Rattle.engine_file.specs.declared.Written.the-variants as written-as
 use Rattle.engine_file.specs.Write.{Output, output, demandOf, writeCall}
-use Rattle.situations.specs.Refusal.{by, Among, ofOut, ofValued, ofDivided}
+use Rattle.situations.specs.Refusal.{Among, ofOut, ofValued, ofDivided}
 use Rattle.situations.proofs.Steps.{Refusing, _>>=_, append-refuses}
 use Rattle.situations.proofs.Situations.{of-constructors, of-walks}
 use Rattle.situation_calls.specs.Table as table
@@ -68,8 +67,8 @@ module _ (ks ws : List ℕ) (n : ℕ) (fit : (i : ℕ) → getD ws i 0 < 2 ^ 64)
   pub rules : isPool ks ws n ≡ true → KeepsRules P
   rules e = record { rules = e; words-fit = fit }
 
-  pub root-below : {root : ℕ} {more : List ℕ} → allBelow n (root ∷ more) ≡ true → root < n
-  root-below {root} {more} e = all-below n (root ∷ more) e .0
+  pub root-below : (root : ℕ) (more : List ℕ) → allBelow n (root ∷ more) ≡ true → root < n
+  root-below root more e = all-below n (root ∷ more) e .0
 
   -- 1, then the rest
   pub node-call : {checks meets : List ℕ} {tests : List Bool} (work : Run) → (KeepsRules P → Situated checks meets tests (ofOut (work P))) → Situated (brokenPool ∷ checks) meets (isPool ks ws n ∷ tests) (ofAnswer (onPool work ks ws n .answer))
@@ -95,7 +94,7 @@ module _ (ks ws : List ℕ) (n : ℕ) (fit : (i : ℕ) → getD ws i 0 < 2 ^ 64)
       let value = evaluate (nodeIn ks ws) values root in
       valued (isPool ks ws n) brokenPool _ (λ r.
       valued (allBelow n (root ∷ [])) unknownNode _ (λ e.
-      valued (leb (length values) mostValues) wrongValues value (λ f. working (of-walks P (rules r) root (root-below e) .evaluation values))))
+      valued (leb (length values) mostValues) wrongValues value (λ f. working (of-walks P (rules r) root (root-below root [] e) .evaluation values))))
     where
       valued : {checks meets : List ℕ} {tests : List Bool} (t : Bool) (k : ℕ) (v : Valued) → (t ≡ true → Situated checks meets tests (ofValued v)) → Situated (k ∷ checks) meets (t ∷ tests) (ofValued (demandValue t k v))
       valued = demanded ofValued demandValue (λ k v. refl) (λ k v. refl)
@@ -106,7 +105,7 @@ module _ (ks ws : List ℕ) (n : ℕ) (fit : (i : ℕ) → getD ws i 0 < 2 ^ 64)
       let value = evaluateResidue fixedModulus (nodeIn ks ws) values root in
       divided (isPool ks ws n) brokenPool _ (λ r.
       divided (allBelow n (root ∷ [])) unknownNode _ (λ e.
-      divided (areResidues values) wrongValues value (λ f. working (of-walks P (rules r) root (root-below e) .residues fixedModulus values))))
+      divided (areResidues values) wrongValues value (λ f. working (of-walks P (rules r) root (root-below root [] e) .residues fixedModulus values))))
     where
       divided : {checks meets : List ℕ} {tests : List Bool} (t : Bool) (k : ℕ) (v : Divided) → (t ≡ true → Situated checks meets tests (ofDivided v)) → Situated (k ∷ checks) meets (t ∷ tests) (ofDivided (demandResidue t k v))
       divided = demanded ofDivided demandResidue (λ k v. refl) (λ k v. refl)
@@ -117,7 +116,7 @@ module _ (ks ws : List ℕ) (n : ℕ) (fit : (i : ℕ) → getD ws i 0 < 2 ^ 64)
       let text = textOf (nodeIn ks ws) root in
       printed (isPool ks ws n) brokenPool _ (λ r.
       printed (allBelow n (root ∷ [])) unknownNode _ (λ e.
-      working (work (not (hasMax (nodeIn ks ws) root)) (textFits text out) (writes text out))))
+      working (work (not (hasMax (nodeIn ks ws) root)) (textFits text out) text)))
     where
       printed : {checks meets : List ℕ} {tests : List Bool} (t : Bool) (k : ℕ) (p : Put) → (t ≡ true → Situated checks meets tests (ofPrinted (p .answer))) → Situated (k ∷ checks) meets (t ∷ tests) (ofPrinted (demandPut t k out p .answer))
       printed = demanded (λ p. ofPrinted (p .answer)) (λ t k p. demandPut t k out p) (λ k p. refl) (λ k p. refl)
@@ -145,10 +144,13 @@ module _ (ks ws : List ℕ) (n : ℕ) (fit : (i : ℕ) → getD ws i 0 < 2 ^ 64)
   read-answers : (bs : List ℕ) → Answers table.read (isPool ks ws n ∷ isSized bs ∷ areNodes bs ∷ isInOrder bs ∷ []) (ofAnswer (onPool (readFile bs) ks ws n .answer))
   unfolding readFile
   read-answers bs =
-      node-call _ (λ r.
-      passed (isSized bs) wrongLength _ P (λ e.
-      passed (areNodes bs) wrongEntry _ P (λ f.
-      passed (isInOrder bs) wrongSequence _ P (λ g. working (appends (sizeOf bs) _ .refuses P)))))
+      let append-all : ℕ → Run = λ i. appendShifted (sizeOf bs) (entryOf bs) in
+      let third : ℕ → Run = λ i Q. bind (passes (isInOrder bs) wrongSequence Q) append-all in
+      let second : ℕ → Run = λ i Q. bind (passes (areNodes bs) wrongEntry Q) third in
+      node-call (readFile bs) (λ r.
+      passed (isSized bs) wrongLength second P (λ e.
+      passed (areNodes bs) wrongEntry third P (λ f.
+      passed (isInOrder bs) wrongSequence append-all P (λ g. working (appends (sizeOf bs) (λ i. rename (λ j. n + j) (entryOf bs i)) .refuses P)))))
 
   pub of-calls : OfCalls ks ws n
   of-calls =
@@ -163,8 +165,8 @@ module _ (ks ws : List ℕ) (n : ℕ) (fit : (i : ℕ) → getD ws i 0 < 2 ^ 64)
         exp-call = λ a. constructor-call (a ∷ []) (calls depth .exp-at a) (λ r. of-constructors P r .exp-meets a);
         log-call = λ a. constructor-call (a ∷ []) (calls depth .log-at a) (λ r. of-constructors P r .log-meets a);
         pow-call = λ a e. constructor-call (a ∷ []) (calls depth .pow-at a e) (λ r. of-constructors P r .pow-meets a e);
-        substitute-var-call = λ root v value. walk-call (root ∷ value ∷ []) v (substituteVar root v value) (λ r e. of-walks P r root (root-below e) .substitution v value);
-        derive-call = λ root v. walk-call (root ∷ []) v (derive root v) (λ r e. of-walks P r root (root-below e) .derivation v);
+        substitute-var-call = λ root v value. walk-call (root ∷ value ∷ []) v (substituteVar root v value) (λ r e. of-walks P r root (root-below root (value ∷ []) e) .substitution v value);
+        derive-call = λ root v. walk-call (root ∷ []) v (derive root v) (λ r e. of-walks P r root (root-below root [] e) .derivation v);
         evaluate-call = evaluate-answers;
         evaluate-residue-call = residue-answers;
         print-call = print-answers;

@@ -3,7 +3,6 @@
 use mathlib.Core.Path.{_≡_, refl, _∙_}
 use mathlib.Core.Logic.{inl, inr}
 use mathlib.Core.Bool.{Bool, true, false}
-use mathlib.Core.List.{List, [], _∷_}
 use Prim.Native.Nat.{ℕ, zero, suc, _-_, _<_}
 use native.Mathlib.Omega.{arith}
 use lib.IntN.{ℤ, pos, _*ℤ_}
@@ -12,12 +11,10 @@ use Rattle.literal.specs.Literal.{isLiteral, folded, pick}
 use Rattle.literal.specs.declared.Folded.the-variants.{Value, Refused}
 use Rattle.pool.specs.declared.node.Node.the-variants.{Lit}
 use Rattle.pool.specs.Pool.{Pool, Out, done, refused, nodeAt}
-use Rattle.constructors.specs.Terms.{Term, #}
-use Rattle.constructors.specs.Terms as terms
 use Rattle.constructors.specs.Build.{literal, build, calls, depth}
 use Rattle.constructor_laws.specs.Grown.{Grown, Grows}
 use Rattle.constructor_laws.proofs.Growth.{append-comes-to, appended-grown, earlier-same, literal-grows}
-use Rattle.taylor.specs.Work.{Result, gives, refused-work, Work, bind, answered, from, zeroLit, oneLit, mul, at, fold}
+use Rattle.taylor.specs.Work.{Result, gives, refused-work, Work, bind, answered, from, oneLit, mul, at, fold}
 use Rattle.taylor.specs.Expansion.{Expansion, Constant, Polynomial, derivative}
 use Rattle.situations.specs.Refusal.{OneOf, Among, ofOut, ofResult}
 use Rattle.situations.specs.Situations.{ofFolding}

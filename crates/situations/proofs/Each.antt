@@ -9,16 +9,16 @@ use native.Mathlib.Omega.{arith}
 use lib.Dec.{eqb}
 use lib.IntN.{ℤ, pos, negsuc, natAbs, _*ℤ_}
 use borrow.Author.Tests.{leb-true, le-leb}
-use Rattle.refusals.specs.Refusals.{noExpOrLog, outOfRange, tooDeep, poolFull}
+use Rattle.refusals.specs.Refusals.{noExpOrLog, tooDeep, poolFull}
 use Rattle.literal.specs.Literal.{greatest, isLiteral, isZero, isOne, folded, expOf, logOf, pick}
 use Rattle.literal.specs.declared.Folded.the-variants.{Value, Refused}
 use Rattle.literal.proofs.Sizes.{size-product}
 use Rattle.pool.specs.declared.node.Node.{Node}
 use Rattle.pool.specs.declared.node.Node.the-variants as node
-use Rattle.pool.specs.Pool.{Pool, Out, done, refused, Run, bind, nodeAt, limit}
+use Rattle.pool.specs.Pool.{Pool, Out, done, refused, Run, bind, nodeAt}
 use Rattle.constructors.specs.Terms
 use Rattle.constructors.specs.Terms.{Term, #, lit, lit-exp, lit-log, Arm, skip, leave}
-use Rattle.constructors.specs.Tables.{lit?, add?, mul?, addArms, addTable, divTable, expArms, expTable, logArms, logTable, powTable, maxTable}
+use Rattle.constructors.specs.Tables.{lit?, add?, mul?, addArms, addTable, mulTable, divTable, expArms, expTable, logArms, logTable, powTable, maxTable}
 use Rattle.constructors.specs.Build.{Calls, literal, build, calls}
 use Rattle.constructor_laws.specs.Grown.{Grows}
 use Rattle.constructor_laws.proofs.Growth.{appended, append-comes-to, appended-grown, earlier-same, calls-grow}
@@ -75,37 +75,37 @@ add-refuses zero lhs rhs = refuse-refuses tooDeep (inr (inl refl))
 add-refuses (suc left) lhs rhs = record { refuses = λ P. add-table (add-refuses left) (nodeAt P) lhs rhs .made .refuses P }
 
 -- ---- div, max, pow: a literal 0 or 1, a node that is there, or one that is appended
-full : OneOf ofAppending poolFull
-full = inl refl
+appending-full : OneOf ofAppending poolFull
+appending-full = inl refl
 
 module _ {c : Calls} (at : ℕ → Node) where
   div-table : (lhs rhs : ℕ) → Making ofAppending c (divTable at lhs rhs)
   unfolding divTable build
   div-table lhs rhs =
       _then_ {H = Making ofAppending c}
-      ((found (lit? at lhs) >>= (λ a _. isZero a >> return (small-made full (pos 0) refl)))
+      ((found (lit? at lhs) >>= (λ a _. isZero a >> return (small-made appending-full (pos 0) refl)))
       or (found (lit? at rhs) >>= (λ b _. isOne b >> return (node-made lhs))))
       quotient-made
     where
       quotient-made : Making ofAppending c (Terms.Div (# lhs) (# rhs))
-      quotient-made = record { made = record { refuses = append-refuses full (node.Div lhs rhs) .refuses } }
+      quotient-made = record { made = record { refuses = append-refuses appending-full (node.Div lhs rhs) .refuses } }
 
   max-table : (lhs rhs : ℕ) → Making ofAppending c (maxTable at lhs rhs)
   unfolding build
-  max-table lhs rhs = record { made = record { refuses = append-refuses full (node.Max lhs rhs) .refuses } }
+  max-table lhs rhs = record { made = record { refuses = append-refuses appending-full (node.Max lhs rhs) .refuses } }
 
   pow-table : (base e : ℕ) → Making ofAppending c (powTable at base e)
   unfolding powTable build
   pow-table base e =
       _then_ {H = Making ofAppending c}
-      ((eqb e 0 >> return (small-made full (pos 1) refl))
+      ((eqb e 0 >> return (small-made appending-full (pos 1) refl))
       or (eqb e 1 >> return (node-made base))
-      or (found (lit? at base) >>= (λ a _. isZero a >> return (small-made full (pos 0) refl)))
-      or (found (lit? at base) >>= (λ a _. isOne a >> return (small-made full (pos 1) refl))))
+      or (found (lit? at base) >>= (λ a _. isZero a >> return (small-made appending-full (pos 0) refl)))
+      or (found (lit? at base) >>= (λ a _. isOne a >> return (small-made appending-full (pos 1) refl))))
       power-made
     where
       power-made : Making ofAppending c (Terms.Pow (# base) e)
-      power-made = record { made = record { refuses = append-refuses full (node.Pow base e) .refuses } }
+      power-made = record { made = record { refuses = append-refuses appending-full (node.Pow base e) .refuses } }
 
 module _ (left : ℕ) where
   pub div-refuses : (lhs rhs : ℕ) → Refusing ofAppending (calls (suc left) .div-at lhs rhs)
@@ -128,26 +128,26 @@ same-size a b e h =
     le-leb (natAbs (a *ℤ b)) greatest (rw (size-product a b, e) (omega arith))
 
 -- a product with 1 or -1 on its left
-unit-product : {ks : List ℕ} → OneOf ks poolFull → (c : Calls) (R : Pool) (i j : ℕ) (a : ℤ) → natAbs a ≡ 1 → nodeAt R i ≡ node.Lit a → Making ks c (Rattle.constructors.specs.Tables.mulTable (nodeAt R) i j)
+unit-product : {ks : List ℕ} → OneOf ks poolFull → (c : Calls) (R : Pool) (i j : ℕ) (a : ℤ) → natAbs a ≡ 1 → nodeAt R i ≡ node.Lit a → Making ks c (mulTable (nodeAt R) i j)
 unit-product f c R i j a e there = times-literal f c (nodeAt R) i j a (λ b h. small-made f (a *ℤ b) (same-size a b e h)) (literals-in-range R) there
 
 pub neg-refuses : (left arg : ℕ) (P : Pool) → Long P → Among ofAppending (ofOut (calls (suc (suc left)) .neg-at arg P))
 unfolding calls build folded
 neg-refuses left arg P l =
     append-comes-to (λ o. Among ofAppending (ofOut (bind o (λ i Q. calls (suc left) .mul-at i arg Q)))) (node.Lit (negsuc 0)) P
-    (λ room below. unit-product full (calls left) (appended (node.Lit (negsuc 0)) P) (P .count) arg (negsuc 0) refl (appended-there P l below (negsuc 0) refl) .made .refuses (appended (node.Lit (negsuc 0)) P))
-    full
+    (λ room below. unit-product appending-full (calls left) (appended (node.Lit (negsuc 0)) P) (P .count) arg (negsuc 0) refl (appended-there P l below (negsuc 0) refl) .made .refuses (appended (node.Lit (negsuc 0)) P))
+    appending-full
 
 -- ---- exp and log
-fullness : OneOf ofExpLog poolFull
-fullness = inr (inr (inl refl))
+exp-log-full : OneOf ofExpLog poolFull
+exp-log-full = inr (inr (inl refl))
 
-deep : OneOf ofExpLog tooDeep
-deep = inr (inl refl)
+exp-log-deep : OneOf ofExpLog tooDeep
+exp-log-deep = inr (inl refl)
 
--- a constructor on pools with long tables
-abbrev Fine : (ℕ → Run) → Type 0
-Fine make = (arg : ℕ) (P : Pool) → Long P → Among ofExpLog (ofOut (make arg P))
+-- a constructor meets 11, 14 and 18 alone on pools with long tables
+abbrev ByExpLog : (ℕ → Run) → Type 0
+ByExpLog make = (arg : ℕ) (P : Pool) → Long P → Among ofExpLog (ofOut (make arg P))
 
 -- what a term makes on one pool
 record MakingOn (P : Pool) (c : Calls) (t : Term) : Type 0 where
@@ -156,17 +156,17 @@ record MakingOn (P : Pool) (c : Calls) (t : Term) : Type 0 where
 -- mul(1, ..)
 one-times : (left : ℕ) (R : Pool) (i j : ℕ) → nodeAt R i ≡ node.Lit (pos 1) → Among ofExpLog (ofOut (calls left .mul-at i j R))
 unfolding calls
-one-times zero R i j e = deep
-one-times (suc left) R i j e = unit-product fullness (calls left) R i j (pos 1) refl e .made .refuses R
+one-times zero R i j e = exp-log-deep
+one-times (suc left) R i j e = unit-product exp-log-full (calls left) R i j (pos 1) refl e .made .refuses R
 
 -- add(.., 0)
 plus-zero : (left : ℕ) (R : Pool) (i j : ℕ) → nodeAt R j ≡ node.Lit (pos 0) → Among ofExpLog (ofOut (calls left .add-at i j R))
 unfolding calls
-plus-zero zero R i j e = deep
-plus-zero (suc left) R i j e = add-zero fullness (calls left) (nodeAt R) i j e .made .refuses R
+plus-zero zero R i j e = exp-log-deep
+plus-zero (suc left) R i j e = add-zero exp-log-full (calls left) (nodeAt R) i j e .made .refuses R
 
 -- exp of a sum whose right part is the literal b
-exp-of-sum : (left : ℕ) → Fine (calls left .exp-at) → (P : Pool) → Long P → (b : ℤ) (a : ℕ) → MakingOn P (calls left) (Terms.mul (lit-exp b) (Terms.exp (# a)))
+exp-of-sum : (left : ℕ) → ByExpLog (calls left .exp-at) → (P : Pool) → Long P → (b : ℤ) (a : ℕ) → MakingOn P (calls left) (Terms.mul (lit-exp b) (Terms.exp (# a)))
 unfolding build expOf
 exp-of-sum left less P l b a = record { on = go (isZero b) }
   where
@@ -180,11 +180,11 @@ exp-of-sum left less P l b a = record { on = go (isZero b) }
         (λ room below.
         let Q = appended (node.Lit (pos 1)) P in
         after Q (P .count) (omega arith) (appended-there P l below (pos 1) refl) (calls left .exp-at a Q) (calls-grow left .exp-at a .grows Q) (less a Q (long-grown (appended-grown (node.Lit (pos 1)) P below) l)))
-        fullness
+        exp-log-full
     go false = inl refl
 
 -- log of a product whose left part is the literal a
-log-of-product : (left : ℕ) → Fine (calls left .log-at) → (P : Pool) → Long P → (b : ℕ) (a : ℤ) → MakingOn P (calls left) (Terms.add (Terms.log (# b)) (lit-log a))
+log-of-product : (left : ℕ) → ByExpLog (calls left .log-at) → (P : Pool) → Long P → (b : ℕ) (a : ℤ) → MakingOn P (calls left) (Terms.add (Terms.log (# b)) (lit-log a))
 unfolding build logOf
 log-of-product left less P l b a = record { on = after (calls left .log-at b P) (calls-grow left .log-at b .grows P) (less b P l) }
   where
@@ -192,7 +192,7 @@ log-of-product left less P l b a = record { on = after (calls left .log-at b P) 
     go i Q m true =
         append-comes-to (λ o. Among ofExpLog (ofOut (bind o (λ j. calls left .add-at i j)))) (node.Lit (pos 0)) Q
         (λ room below. plus-zero left (appended (node.Lit (pos 0)) Q) i (Q .count) (appended-there Q m below (pos 0) refl))
-        fullness
+        exp-log-full
     go i Q m false = inl refl
 
     after : (o : Out) → Grows P o → Among ofExpLog (ofOut o) → Among ofExpLog (ofOut (bind o (λ i Q. bind (literal (logOf a) Q) (λ j. calls left .add-at i j))))
@@ -202,32 +202,32 @@ log-of-product left less P l b a = record { on = after (calls left .log-at b P) 
 module _ (left : ℕ) (P : Pool) (l : Long P) (arg : ℕ) where
   small-on : (z : ℤ) → isLiteral z ≡ true → MakingOn P (calls left) (lit z)
   unfolding build
-  small-on z h = record { on = literal-refuses fullness z h .refuses P }
+  small-on z h = record { on = literal-refuses exp-log-full z h .refuses P }
 
-  exp-table : Fine (calls left .exp-at) → MakingOn P (calls left) (expTable (nodeAt P) arg)
+  exp-table : ByExpLog (calls left .exp-at) → MakingOn P (calls left) (expTable (nodeAt P) arg)
   unfolding expArms build
   exp-table less =
       _then_ {H = MakingOn P (calls left)}
       ((found (lit? (nodeAt P) arg) >>= (λ a _. isZero a >> return (small-on (pos 1) refl)))
-      or (found (lit? (nodeAt P) arg) >>= (λ a _. return (record { on = exp-of-refuses fullness (inl refl) a .refuses P })))
+      or (found (lit? (nodeAt P) arg) >>= (λ a _. return (record { on = exp-of-refuses exp-log-full (inl refl) a .refuses P })))
       or (found (add? (nodeAt P) arg) >>= (λ (a, b) _. inside (found (lit? (nodeAt P) b) >>= (λ b _. return (exp-of-sum left less P l b a))))))
-      (record { on = append-refuses fullness (node.Exp arg) .refuses P })
+      (record { on = append-refuses exp-log-full (node.Exp arg) .refuses P })
 
-  log-table : Fine (calls left .log-at) → MakingOn P (calls left) (logTable (nodeAt P) arg)
+  log-table : ByExpLog (calls left .log-at) → MakingOn P (calls left) (logTable (nodeAt P) arg)
   unfolding logArms build
   log-table less =
       _then_ {H = MakingOn P (calls left)}
       ((found (lit? (nodeAt P) arg) >>= (λ a _. isOne a >> return (small-on (pos 0) refl)))
-      or (found (lit? (nodeAt P) arg) >>= (λ a _. return (record { on = log-of-refuses fullness (inl refl) a .refuses P })))
+      or (found (lit? (nodeAt P) arg) >>= (λ a _. return (record { on = log-of-refuses exp-log-full (inl refl) a .refuses P })))
       or (found (mul? (nodeAt P) arg) >>= (λ (a, b) _. inside (found (lit? (nodeAt P) a) >>= (λ a _. return (log-of-product left less P l b a))))))
-      (record { on = append-refuses fullness (node.Log arg) .refuses P })
+      (record { on = append-refuses exp-log-full (node.Log arg) .refuses P })
 
-pub exp-refuses : (left : ℕ) → Fine (calls left .exp-at)
+pub exp-refuses : (left : ℕ) → ByExpLog (calls left .exp-at)
 unfolding calls
-exp-refuses zero arg P l = deep
+exp-refuses zero arg P l = exp-log-deep
 exp-refuses (suc left) arg P l = exp-table left P l arg (exp-refuses left) .on
 
-pub log-refuses : (left : ℕ) → Fine (calls left .log-at)
+pub log-refuses : (left : ℕ) → ByExpLog (calls left .log-at)
 unfolding calls
-log-refuses zero arg P l = deep
+log-refuses zero arg P l = exp-log-deep
 log-refuses (suc left) arg P l = log-table left P l arg (log-refuses left) .on

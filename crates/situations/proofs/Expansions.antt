@@ -1,10 +1,10 @@
 -- The expansion of an expression that stands in a pool by the rules refuses by 10 to 14 and 18 only, as the walks that build one node do.
 -- Assumes nothing.
-use mathlib.Core.Path.{_≡_, refl, subst⁻¹}
+use mathlib.Core.Path.{refl, subst⁻¹}
 use mathlib.Core.Logic.{inl, inr}
 use mathlib.Core.Bool.{Bool, true, false}
 use mathlib.Core.List.{List, [], _∷_}
-use Prim.Native.Nat.{ℕ, zero, suc, _<_}
+use Prim.Native.Nat.{ℕ, suc, _<_}
 use lib.Dec.{eqb}
 use lib.ListN.{getD, replicate}
 use borrow.Author.Tests.{eq-eqb, ne-eqb}
@@ -15,9 +15,8 @@ use Rattle.pool.specs.declared.node.Node.the-variants.{Empty, Variable, Lit, Ad
 use Rattle.constructor_laws.specs.Grown.{Grown}
 use Rattle.constructor_laws.proofs.Growth.{grown-by-nothing, grown-by-both, earlier-same, append-grows}
 use Rattle.taylor.specs.Work.{Result, gives, refused-work, Work}
-use Rattle.taylor.specs.Work as work
-use Rattle.taylor.specs.Expansion.{Expansion, Constant, var, addTo, times, quotient, exponential, logarithm, power}
-use Rattle.taylor.specs.Expand.{Kept, nothing, kept, State, state, Went, went, refused-walk, Walk, bind, yield, refuse, lifted, lift, keep, once, choose, Point, none, point, pointNode, ofVariable, expandNode, expandAt, expandBelow, expanded, expand}
+use Rattle.taylor.specs.Expansion.{Expansion, Constant}
+use Rattle.taylor.specs.Expand.{Kept, nothing, kept, State, state, Went, went, refused-walk, Walk, bind, yield, refuse, lifted, lift, keep, once, Point, none, point, pointNode, ofVariable, expandNode, expandAt, expandBelow, expanded, expand}
 use Rattle.shape.specs.Demand.{KeepsRules}
 use Rattle.shape.proofs.Lists.{All}
 use Rattle.shape.proofs.TableOfKinds.{Valid}

@@ -3,7 +3,7 @@
 use mathlib.Core.Path.{_≡_, refl, subst, _∙_}
 use mathlib.Core.Bool.{Bool, true, false}
 use mathlib.Core.List.{List}
-use Prim.Native.Nat.{ℕ, _<_, _≤_}
+use Prim.Native.Nat.{ℕ, _<_}
 use native.Mathlib.Omega.{arith}
 use lib.Dec.{eqb, leb, ltb}
 use lib.IntN.{ℤ, pos, _*ℤ_}
@@ -11,7 +11,7 @@ use lib.ListN.{length, getD}
 use lib.Seq.{getD-set-same}
 use borrow.Author.Tests.{lt-ltb}
 use Rattle.refusals.specs.Refusals.{poolFull}
-use Rattle.literal.specs.Literal.{isLiteral, isZero, isOne, folded, signed}
+use Rattle.literal.specs.Literal.{isLiteral, isZero, isOne, signed}
 use Rattle.pool.specs.declared.node.Node.{Node}
 use Rattle.pool.specs.declared.node.Node.the-variants.{Empty, Variable, Lit, Add, Mul, Div, Exp, Log, Pow, Max}
 use Rattle.pool.specs.Nodes.{decode, pick, half, highOf, greatestVariable, leastExponent, kindOf, wordOf}
@@ -22,7 +22,7 @@ use Rattle.constructors.specs.Patterns.{litIn}
 use Rattle.constructors.specs.Tables.{addArms, addTable, mulLits, mulExps, mulLeft, mulPows, mulLast, mulTable}
 use Rattle.constructors.specs.Build.{Calls, build}
 use Rattle.constructor_laws.specs.Grown.{Grown}
-use Rattle.constructor_laws.proofs.Arms.{Gives, skips, leaves, return}
+use Rattle.constructor_laws.proofs.Arms.{Gives, skips, return}
 use Rattle.constructor_laws.proofs.Growth.{appended}
 use Rattle.shape.proofs.TableOfKinds.{decode-own}
 use Rattle.situations.specs.Refusal.{OneOf}

@@ -1,26 +1,24 @@
 -- Every operation on expansions only appends, and refuses by its own numbers: instances of the general law.
 -- Assumes nothing.
 use mathlib.Core.Path.{refl}
-use mathlib.Core.Logic.{inl, inr}
+use mathlib.Core.Logic.{inr}
 use mathlib.Core.List.{List, _∷_}
 use Prim.Native.Nat.{ℕ, _-_}
-use lib.IntN.{ℤ, pos}
+use lib.IntN.{pos}
 use Rattle.refusals.specs.Refusals.{poolFull}
 use Rattle.literal.specs.Literal.{folded}
 use Rattle.pool.specs.Pool.{Pool, Out, done, refused, Run}
-use Rattle.constructors.specs.Build.{depth, calls}
+use Rattle.constructors.specs.Build.{depth}
 use Rattle.constructor_laws.specs.Grown.{Grown, Grows}
 use Rattle.constructor_laws.proofs.Growth.{Growing, grown-by-nothing, grown-by-both, calls-grow, literal-grows}
 use Rattle.taylor.specs.Work.{Result, gives, refused-work, Work, answered, node, zeroLit, oneLit, add, neg, max}
-use Rattle.taylor.specs.Expansion.{Expansion, var, coeff, negate, exponential, logarithm, power, addTo, subFrom, times, quotient, maximum, subst}
 use Rattle.situations.specs.Refusal.{OneOf, Among, ofOut, ofResult}
-use Rattle.situations.specs.Situations.{ofConstructors, ofSums, ofAppending, andMax}
-use Rattle.situations.proofs.Steps.{Refusing, literal-refuses}
+use Rattle.situations.specs.Situations.{ofConstructors, ofSums, ofAppending}
+use Rattle.situations.proofs.Steps.{literal-refuses}
 use Rattle.situations.proofs.Constructors.{calls-refuse, literals-refuse}
 use Rattle.situations.proofs.Literals.{Long, long-grown}
 use Rattle.situations.proofs.Each.{add-refuses, neg-refuses, max-refuses}
 use Rattle.situations.proofs.General.{Goes, Law, Holding, Keeping}
-use Rattle.situations.proofs.General as general
 
 -- on pools with long tables: the pool grows, and a refusal is one of these numbers
 abbrev pub refusing-by : List ℕ → Law

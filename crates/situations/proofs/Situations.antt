@@ -3,12 +3,12 @@
 use mathlib.Core.Path.{refl}
 use mathlib.Core.Logic.{inl, inr}
 use mathlib.Core.List.{_∷_}
-use Prim.Native.Nat.{ℕ, zero, suc, _-_, _<_}
+use Prim.Native.Nat.{ℕ, _-_, _<_}
 use Rattle.pool.specs.Pool.{Pool}
-use Rattle.constructors.specs.Build.{calls, depth}
+use Rattle.constructors.specs.Build.{depth}
 use Rattle.shape.specs.Demand.{KeepsRules}
 use Rattle.situations.specs.Situations.{ofConstructors, ofSums, ofAppending, OfConstructors, OfWalks, OfExpansions}
-use Rattle.situations.proofs.Constructors.{calls-refuse, pool-full}
+use Rattle.situations.proofs.Constructors.{calls-refuse}
 use Rattle.situations.proofs.Each.{add-refuses, div-refuses, max-refuses, pow-refuses, neg-refuses, exp-refuses, log-refuses}
 use Rattle.situations.proofs.Values.{evaluation-refuses, residues-refuse}
 use Rattle.situations.proofs.Walks.{substitution-refuses, derivation-refuses}

@@ -1,13 +1,12 @@
 -- Pieces of work and the numbers by which they refuse: appending by 18, folding by 12, `exp` and `log` of a literal by 11, and one piece after another by those of both.
 -- Assumes nothing.
-use mathlib.Core.Path.{_≡_, refl, subst}
+use mathlib.Core.Path.{_≡_}
 use mathlib.Core.Bool.{Bool, true, false}
 use mathlib.Core.List.{List}
 use Prim.Native.Nat.{ℕ}
 use lib.IntN.{ℤ}
 use Rattle.refusals.specs.Refusals.{noExpOrLog, outOfRange, exponentTooLarge, poolFull}
 use Rattle.literal.specs.Literal.{isLiteral, isZero, isOne, folded, expOf, logOf, pick}
-use Rattle.literal.specs.declared.Folded.{Folded}
 use Rattle.literal.specs.declared.Folded.the-variants.{Value, Refused}
 use Rattle.pool.specs.declared.node.Node.{Node}
 use Rattle.pool.specs.declared.node.Node.the-variants as node

@@ -1,6 +1,6 @@
 -- The law of all walks over an expression that stands in a pool by the rules: what holds of the walk from a node where it holds of the walks from its parts holds of every walk. No walk comes to a number that has no node.
 -- Assumes nothing.
-use mathlib.Core.Path.{_≡_, subst}
+use mathlib.Core.Path.{_≡_}
 use mathlib.Core.List.{List, [], _∷_}
 use Prim.Native.Nat.{ℕ, zero, suc, _<_}
 use native.Mathlib.Nat.{not-suc-le-zero}

@@ -1,6 +1,6 @@
 -- A walk that builds, from a node that stands in a pool by the rules: it reads only nodes that stood there before the call, so it never comes to no node, and it refuses by what is done at a node only.
 -- So for substitution and derivation. Assumes nothing.
-use mathlib.Core.Path.{_≡_, refl, subst⁻¹}
+use mathlib.Core.Path.{refl, subst⁻¹}
 use mathlib.Core.Logic.{inl, inr}
 use mathlib.Core.Bool.{Bool, true, false, _&&_}
 use mathlib.Core.List.{List, [], _∷_}
@@ -14,10 +14,10 @@ use Rattle.pool.specs.Nodes.{parts}
 use Rattle.pool.specs.Pool.{Pool, Out, done, refused, Run, limit, nodeAt}
 use Rattle.pool.specs.declared.node.Node.{Node}
 use Rattle.pool.specs.declared.node.Node.the-variants.{Empty, Variable, Lit, Add, Mul, Div, Exp, Log, Pow, Max}
-use Rattle.constructors.specs.Build.{depth, calls, literal}
+use Rattle.constructors.specs.Build.{depth}
 use Rattle.constructor_laws.specs.Grown.{Grown, Grows}
 use Rattle.constructor_laws.proofs.Growth.{Growing, grown-by-nothing, grown-by-both, earlier-same, calls-grow, literal-grows}
-use Rattle.walks.specs.Walk.{State, state, Went, went, refused-walk, Walk, bind, yield, refuse, lifted, lift, keep, once, choose, walkBelow, built, walkFrom}
+use Rattle.walks.specs.Walk.{State, state, Went, went, refused-walk, Walk, bind, yield, refuse, lifted, lift, keep, once, walkBelow, built, walkFrom}
 use Rattle.walks.specs.Substitute.{unless, pick, substituteNode, substituteVar}
 use Rattle.walks.specs.Derive.{lit, add, mul, div, neg, pow, quotientRule, deriveNode, derive}
 use Rattle.walks.specs.Derive as derivation
