@@ -1,0 +1,4 @@
+pub mod Laws
+pub mod Nodes
+pub mod Expansions
+pub mod Calls

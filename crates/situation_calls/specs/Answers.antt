@@ -1,0 +1,137 @@
+-- What is said of every call: it refuses by the table, and in the table's order.
+-- Assumes nothing.
+use mathlib.Core.Path.{_≡_}
+use mathlib.Core.Bool.{Bool, true, false, _&&_}
+use mathlib.Core.List.{List, [], _∷_}
+use Prim.Native.Nat.{ℕ, zero, suc}
+use lib.Dec.{leb, ltb}
+use lib.IntN.{ℤ}
+use lib.ListN.{length}
+use lib.Ieee.{Float}
+use Rattle.literal.specs.Literal.{isLiteral}
+use Rattle.pool.specs.Nodes.{allBelow, greatestVariable}
+use Rattle.pool.specs.Pool.{isPool}
+use Rattle.constructors.specs.Build.{calls, depth}
+use Rattle.shape.specs.File.{isSized, areNodes, isInOrder, readFile}
+use Rattle.taylor.specs.Expansion.{Expansion, coeff, derivative, negate, exponential, logarithm, power, addTo, subFrom, times, quotient, maximum, subst}
+use Rattle.taylor.specs.Expand.{none, point}
+use Rattle.taylor_base.specs.Answers.{terms}
+use Rattle.lent.specs.declared.Answer.{Answer}
+use Rattle.lent.specs.declared.Answer.the-variants as answer
+use Rattle.lent.specs.Call.{onPool, givenNodes}
+use Rattle.engine.specs.Build.{litWork, varWork}
+use Rattle.engine_walk.specs.Walks.{substituteWork, deriveWork}
+use Rattle.engine_values.specs.Values.{mostValues, areResidues, evaluateCall, evaluateResidueCall}
+use Rattle.engine_print.specs.declared.Written as printed
+use Rattle.engine_print.specs.declared.Written.the-variants as printed-as
+use Rattle.engine_print.specs.Printing.{printCall}
+use Rattle.engine_file.specs.declared.Written as written
+use Rattle.engine_file.specs.declared.Written.the-variants as written-as
+use Rattle.engine_file.specs.Write.{writeCall}
+use Rattle.lent_series.specs.declared.series.Series.{Series}
+use Rattle.lent_series.specs.declared.call.Outcome.{Outcome}
+use Rattle.lent_series.specs.Series.{nodesOf, lengthOk, given}
+use Rattle.lent_series.specs.Call as series
+use Rattle.lent_series.specs.Call.{accepted, givenSeries, givenTwo, asRun}
+use Rattle.engine_series.specs.declared.read.Counted.{Counted}
+use Rattle.engine_series.specs.declared.read.Counted.the-variants as counted
+use Rattle.engine_series.specs.Operations as on-series
+use Rattle.engine_series.specs.Operations.{hasIndex, givenIndex, countOf, coefficientsOf}
+use Rattle.engine_pairs.specs.Pairs.{agree}
+use Rattle.engine_expand.specs.Expressions.{expandWork}
+use Rattle.situations.specs.Refusal.{Refusal, by, Among, ofValued, ofDivided}
+use Rattle.situations.specs.Refusal as refusal
+use Rattle.situation_calls.specs.Table as table
+use Rattle.situation_calls.specs.Table.{Call, checked, met}
+
+-- ---- how an answer of each kind refuses
+abbrev pub ofAnswer : Answer → Refusal
+ofAnswer (answer.Node i) = refusal.none
+ofAnswer (answer.Refused k) = by k
+
+abbrev pub ofPrinted : printed.Written → Refusal
+ofPrinted (printed-as.Length m) = refusal.none
+ofPrinted (printed-as.Refused k) = by k
+
+abbrev pub ofWritten : written.Written → Refusal
+ofWritten (written-as.Length m) = refusal.none
+ofWritten (written-as.Refused k) = by k
+
+abbrev pub ofCounted : Counted → Refusal
+ofCounted (counted.Count m) = refusal.none
+ofCounted (counted.Refused k) = by k
+
+-- beside an expansion stands a number, 0 where there is no refusal
+abbrev pub ofNumber : ℕ → Refusal
+ofNumber zero = refusal.none
+ofNumber (suc k) = by (suc k)
+
+-- ---- what is said of a call
+
+-- the number of the first check that fails
+abbrev pub firstFailed : List Bool → List ℕ → Refusal
+firstFailed [] ks = refusal.none
+firstFailed (t ∷ tests) [] = refusal.none
+firstFailed (true ∷ tests) (k ∷ ks) = firstFailed tests ks
+firstFailed (false ∷ tests) (k ∷ ks) = by k
+
+-- "1 to 9 are checked first, smallest number first. Then the work runs": where a check fails, its number; where none does, one that the work can meet, or no refusal
+pub record Situated (checks meets : List ℕ) (tests : List Bool) (r : Refusal) : Type 0 where
+  pub first : (k : ℕ) → firstFailed tests checks ≡ by k → r ≡ by k
+  pub worked : firstFailed tests checks ≡ refusal.none → Among meets r
+
+-- a call refuses by the table
+abbrev pub Answers : Call → List Bool → Refusal → Type 0
+Answers c tests r = Situated (checked c) (met c) tests r
+
+-- so does one that gives an expansion, and the number 0 stands beside an expansion, never beside a refusal
+pub record Gives (c : Call) (tests : List Bool) (o : Outcome) : Type 0 where
+  pub answers : Answers c tests (ofNumber (o .number))
+  pub zero-accepts : o .number ≡ 0 → (e : Expansion) × (o ≡ accepted e)
+
+-- ---- every call, on any lent tables and any count: the tests are what is checked, in order
+pub record OfCalls (ks ws : List ℕ) (n : ℕ) : Type 0 where
+  pub lit-call : (z : ℤ) → Answers table.lit (isPool ks ws n ∷ isLiteral z ∷ []) (ofAnswer (onPool (litWork z) ks ws n .answer))
+  pub var-call : (v : ℕ) → Answers table.var (isPool ks ws n ∷ leb v greatestVariable ∷ []) (ofAnswer (onPool (varWork v) ks ws n .answer))
+  pub add-call : (a b : ℕ) → Answers table.add (isPool ks ws n ∷ allBelow n (a ∷ b ∷ []) ∷ []) (ofAnswer (onPool (givenNodes (a ∷ b ∷ []) (calls depth .add-at a b)) ks ws n .answer))
+  pub mul-call : (a b : ℕ) → Answers table.mul (isPool ks ws n ∷ allBelow n (a ∷ b ∷ []) ∷ []) (ofAnswer (onPool (givenNodes (a ∷ b ∷ []) (calls depth .mul-at a b)) ks ws n .answer))
+  pub div-call : (a b : ℕ) → Answers table.div (isPool ks ws n ∷ allBelow n (a ∷ b ∷ []) ∷ []) (ofAnswer (onPool (givenNodes (a ∷ b ∷ []) (calls depth .div-at a b)) ks ws n .answer))
+  pub max-call : (a b : ℕ) → Answers table.max (isPool ks ws n ∷ allBelow n (a ∷ b ∷ []) ∷ []) (ofAnswer (onPool (givenNodes (a ∷ b ∷ []) (calls depth .max-at a b)) ks ws n .answer))
+  pub neg-call : (a : ℕ) → Answers table.neg (isPool ks ws n ∷ allBelow n (a ∷ []) ∷ []) (ofAnswer (onPool (givenNodes (a ∷ []) (calls depth .neg-at a)) ks ws n .answer))
+  pub exp-call : (a : ℕ) → Answers table.exp (isPool ks ws n ∷ allBelow n (a ∷ []) ∷ []) (ofAnswer (onPool (givenNodes (a ∷ []) (calls depth .exp-at a)) ks ws n .answer))
+  pub log-call : (a : ℕ) → Answers table.log (isPool ks ws n ∷ allBelow n (a ∷ []) ∷ []) (ofAnswer (onPool (givenNodes (a ∷ []) (calls depth .log-at a)) ks ws n .answer))
+  pub pow-call : (a e : ℕ) → Answers table.pow (isPool ks ws n ∷ allBelow n (a ∷ []) ∷ []) (ofAnswer (onPool (givenNodes (a ∷ []) (calls depth .pow-at a e)) ks ws n .answer))
+  pub substitute-var-call : (root v value : ℕ) → Answers table.substitute-var (isPool ks ws n ∷ allBelow n (root ∷ value ∷ []) ∷ leb v greatestVariable ∷ []) (ofAnswer (onPool (substituteWork root v value) ks ws n .answer))
+  pub derive-call : (root v : ℕ) → Answers table.derive (isPool ks ws n ∷ allBelow n (root ∷ []) ∷ leb v greatestVariable ∷ []) (ofAnswer (onPool (deriveWork root v) ks ws n .answer))
+  pub evaluate-call : (root : ℕ) (values : List Float) → Answers table.evaluate (isPool ks ws n ∷ allBelow n (root ∷ []) ∷ leb (length values) mostValues ∷ []) (ofValued (evaluateCall ks ws n root values))
+  pub evaluate-residue-call : (root : ℕ) (values : List ℕ) → Answers table.evaluate-residue (isPool ks ws n ∷ allBelow n (root ∷ []) ∷ areResidues values ∷ []) (ofDivided (evaluateResidueCall ks ws n root values))
+  pub print-call : (root : ℕ) (out : List ℕ) → Answers table.print (isPool ks ws n ∷ allBelow n (root ∷ []) ∷ []) (ofPrinted (printCall ks ws n root out .answer))
+  pub write-call : (root : ℕ) (out : List ℕ) → Answers table.write (isPool ks ws n ∷ allBelow n (root ∷ []) ∷ []) (ofWritten (writeCall ks ws n root out .answer))
+  pub read-call : (bs : List ℕ) → Answers table.read (isPool ks ws n ∷ isSized bs ∷ areNodes bs ∷ isInOrder bs ∷ []) (ofAnswer (onPool (readFile bs) ks ws n .answer))
+
+-- the tests of one expansion, and of two with what is asked of their lengths
+abbrev pub oneTested : List ℕ → List ℕ → ℕ → Series → Bool → List Bool
+oneTested ks ws n s fits = isPool ks ws n ∷ allBelow n (nodesOf s) ∷ fits ∷ []
+
+abbrev pub twoTested : List ℕ → List ℕ → ℕ → Series → Series → Bool → List Bool
+twoTested ks ws n s t fits = isPool ks ws n ∷ (allBelow n (nodesOf s) && allBelow n (nodesOf t)) ∷ fits ∷ []
+
+-- ---- every call on expansions
+pub record OfSeries (ks ws : List ℕ) (n : ℕ) : Type 0 where
+  pub var-call : (x order : ℕ) → Gives table.of-var (isPool ks ws n ∷ allBelow n (x ∷ []) ∷ ltb order terms ∷ []) (series.onPool (on-series.varWork x order) ks ws n .outcome)
+  pub coeff-call : (s : Series) (k : ℕ) → Answers table.of-coeff (oneTested ks ws n s (hasIndex s k)) (ofAnswer (onPool (asRun (givenIndex s k (coeff (given s) k))) ks ws n .answer))
+  pub derivative-call : (s : Series) (k : ℕ) → Answers table.of-derivative (oneTested ks ws n s (hasIndex s k)) (ofAnswer (onPool (asRun (givenIndex s k (derivative (given s) k))) ks ws n .answer))
+  pub order-call : (s : Series) → Answers table.of-order (oneTested ks ws n s (lengthOk s)) (ofCounted (countOf ks ws n s))
+  pub from-coefficients-call : (s : Series) → Gives table.of-from-coefficients (oneTested ks ws n s (lengthOk s)) (coefficientsOf ks ws n s)
+  pub neg-call : (s : Series) → Gives table.of-neg (oneTested ks ws n s (lengthOk s)) (series.onPool (givenSeries s (negate (given s))) ks ws n .outcome)
+  pub exp-call : (s : Series) → Gives table.of-exp (oneTested ks ws n s (lengthOk s)) (series.onPool (givenSeries s (exponential (given s))) ks ws n .outcome)
+  pub log-call : (s : Series) → Gives table.of-log (oneTested ks ws n s (lengthOk s)) (series.onPool (givenSeries s (logarithm (given s))) ks ws n .outcome)
+  pub pow-call : (s : Series) (e : ℕ) → Gives table.of-pow (oneTested ks ws n s (lengthOk s)) (series.onPool (givenSeries s (power (given s) e)) ks ws n .outcome)
+  pub add-call : (s t : Series) → Gives table.of-add (twoTested ks ws n s t (lengthOk s && lengthOk t)) (series.onPool (givenTwo s t (lengthOk s && lengthOk t) (addTo (given s) (given t))) ks ws n .outcome)
+  pub sub-call : (s t : Series) → Gives table.of-sub (twoTested ks ws n s t (lengthOk s && lengthOk t)) (series.onPool (givenTwo s t (lengthOk s && lengthOk t) (subFrom (given s) (given t))) ks ws n .outcome)
+  pub mul-call : (s t : Series) → Gives table.of-mul (twoTested ks ws n s t (lengthOk s && lengthOk t)) (series.onPool (givenTwo s t (lengthOk s && lengthOk t) (times (given s) (given t))) ks ws n .outcome)
+  pub div-call : (s t : Series) → Gives table.of-div (twoTested ks ws n s t (lengthOk s && lengthOk t)) (series.onPool (givenTwo s t (lengthOk s && lengthOk t) (quotient (given s) (given t))) ks ws n .outcome)
+  pub max-call : (s t : Series) → Gives table.of-max (twoTested ks ws n s t (lengthOk s && lengthOk t)) (series.onPool (givenTwo s t (lengthOk s && lengthOk t) (maximum (given s) (given t))) ks ws n .outcome)
+  pub subst-call : (s t : Series) → Gives table.of-subst (twoTested ks ws n s t ((lengthOk s && lengthOk t) && agree s t)) (series.onPool (givenTwo s t ((lengthOk s && lengthOk t) && agree s t) (subst (given s) (given t))) ks ws n .outcome)
+  pub coeffs-call : (root v order : ℕ) → Gives table.coeffs (isPool ks ws n ∷ allBelow n (root ∷ []) ∷ leb v greatestVariable ∷ ltb order terms ∷ []) (series.onPool (expandWork root v none order) ks ws n .outcome)
+  pub coeffs-at-call : (root v : ℕ) (z : ℤ) (order : ℕ) → Gives table.coeffs-at (isPool ks ws n ∷ allBelow n (root ∷ []) ∷ leb v greatestVariable ∷ isLiteral z ∷ ltb order terms ∷ []) (series.onPool (expandWork root v (point z) order) ks ws n .outcome)

@@ -1,0 +1,12 @@
+pub mod Steps
+pub mod Constructors
+pub mod Literals
+pub mod Each
+pub mod Throughout
+pub mod Values
+pub mod Walks
+pub mod General
+pub mod Operations
+pub mod Derivative
+pub mod Expansions
+pub mod Situations
