@@ -1,1 +1,2 @@
 pub mod SameShape
+pub mod Unfolding
