@@ -2,48 +2,28 @@
 -- Assumes nothing.
 use mathlib.Core.Path.{_≡_, sym, ap, _∙_, subst, subst⁻¹}
 use mathlib.Core.Logic.{_↔_}
-use mathlib.Core.List.{List, _++_}
-use Prim.Native.Nat.{ℕ, _+_, _*_, _<_, _≤_}
+use mathlib.Core.List.{List}
+use Prim.Native.Nat.{ℕ, _+_, _≤_}
 use native.Mathlib.Omega.{arith}
-use lib.ListN.{length, drop}
-use lib.Seq.{take-append-seam}
-use borrow.Author.Tests.{le-leb, lt-ltb}
+use lib.ListN.{length}
 use Rattle.pool.specs.Pool.{limit, Pool, pool, Out, done, refused}
 use Rattle.shape.specs.File.{fileFrom, sizeOf, readFile}
 use Rattle.shape.specs.Demand.{KeepsRules, Room, SameShape, IsNodeFile, AreBytes, Leaves}
-use Rattle.shape.proofs.Pools.{rules-of}
-use Rattle.shape.proofs.Demand3.{same-file-for-one-shape, length-of-a-file, size-of-a-file, accepts-node-files, accepted-leaves-the-rules, reads-back}
+use Rattle.shape.proofs.Demand3.{same-file-for-one-shape, accepts-node-files, accepted-leaves-the-rules, reads-back}
 use Rattle.lent.specs.Call.{leaves}
 use Rattle.lent.specs.declared.Answer.{Answer}
 use Rattle.lent.specs.declared.Answer.the-variants.{Node, Refused}
-use Rattle.engine_file.specs.Write.{output, writeCall}
-use Rattle.engine_file.specs.Outcome.{writtenFrom, fileIn, TakesAll, readInto, poolLeft, Gives}
-use Rattle.engine_file.specs.declared.Written.the-variants.{Length}
+use Rattle.engine_file.specs.Outcome.{writtenFrom, fileIn, Accepted, readInto, poolLeft, Gives}
+use Rattle.engine_file.proofs.Accepting.{accepted-writes, file-is-there, accepted-where-the-file-fits}
 
--- an output of 36,868 bytes takes the file of every root
-module _ (P : Pool) (k : KeepsRules P) (r : ℕ) (l : r < P .count) (old : List ℕ) (long : TakesAll old) where
-  fits : length (fileFrom P r) ≤ length old
-  fits =
-      let n = sizeOf (fileFrom P r) in
-      let is : length (fileFrom P r) ≡ 4 + 9 * n = length-of-a-file P k r l in
-      let few : n ≤ P .count = size-of-a-file P k r l .1 in
-      let most : P .count ≤ limit = rules-of P k .count-fits in
-      omega arith
-
-  pub writes-the-file : writtenFrom P r old ≡ output (Length (length (fileFrom P r))) (fileFrom P r ++ drop (length (fileFrom P r)) old)
-  unfolding writeCall
-  writes-the-file = rw (k .rules, lt-ltb r (P .count) l, le-leb (length (fileFrom P r)) (length old) fits)
-
-  pub file-is-there : fileIn (writtenFrom P r old) ≡ fileFrom P r
-  file-is-there = ap fileIn writes-the-file ∙ take-append-seam (fileFrom P r) (drop (length (fileFrom P r)) old)
-
--- (a) "the written node files are equal byte for byte exactly when the expressions have one shape"
-pub same-bytes-written-for-one-shape : (P Q : Pool) → KeepsRules P → KeepsRules Q → (r s : ℕ) → r < P .count → s < Q .count → (old other : List ℕ) → TakesAll old → TakesAll other
+-- (a) "the written node files are equal byte for byte exactly when the expressions have one shape": of any two accepted calls, whatever their outputs' lengths and earlier contents
+pub same-bytes-written-for-one-shape :
+    (P Q : Pool) → KeepsRules P → KeepsRules Q → (r s : ℕ) (old other : List ℕ) → Accepted (writtenFrom P r old) → Accepted (writtenFrom Q s other)
     → (fileIn (writtenFrom P r old) ≡ fileIn (writtenFrom Q s other)) ↔ SameShape P r Q s
-same-bytes-written-for-one-shape P Q k m r s l n old other long longer =
-    let both = same-file-for-one-shape P Q k m r s l n in
-    let f = file-is-there P k r l old long in
-    let g = file-is-there Q m s n other longer in
+same-bytes-written-for-one-shape P Q k m r s old other a b =
+    let both = same-file-for-one-shape P Q k m r s (accepted-writes P r old a .given) (accepted-writes Q s other b .given) in
+    let f = file-is-there P r old a in
+    let g = file-is-there Q s other b in
     (λ e. both .0 (sym f ∙ e ∙ g), λ shape. f ∙ both .1 shape ∙ sym g)
 
 -- a call of reading is accepted exactly where the definition accepts
@@ -84,18 +64,24 @@ reading-leaves-the-rules bs are P k whole i given =
     let left = accepted-leaves-the-rules bs are P k i Q e in
     subst⁻¹ (Leaves bs P i) (left-pool-is P k whole bs e (left .end-kept)) left
 
-pub written-again-the-same : (bs : List ℕ) → AreBytes bs → (P : Pool) → KeepsRules P → P .end ≡ limit → (i : ℕ) → Gives (readInto P bs) i
-    → (old : List ℕ) → TakesAll old → fileIn (writtenFrom (poolLeft (readInto P bs)) i old) ≡ bs
-written-again-the-same bs are P k whole i given old long =
-    let left = reading-leaves-the-rules bs are P k whole i given in
-    let last : i + 1 ≡ poolLeft (readInto P bs) .count = left .root-last in
-    file-is-there (poolLeft (readInto P bs)) (left .keeps-rules) i (omega arith) old long ∙ left .same-bytes
+module _ (bs : List ℕ) (are : AreBytes bs) (P : Pool) (k : KeepsRules P) (whole : P .end ≡ limit) (i : ℕ) (given : Gives (readInto P bs) i) (old : List ℕ) where
+  pub written-again-the-same : Accepted (writtenFrom (poolLeft (readInto P bs)) i old) → fileIn (writtenFrom (poolLeft (readInto P bs)) i old) ≡ bs
+  written-again-the-same a = file-is-there (poolLeft (readInto P bs)) i old a ∙ reading-leaves-the-rules bs are P k whole i given .same-bytes
 
--- "A node file reads back to the expression it came from": what `write` has written, `read` accepts into any pool with room, and the shape is the same
-pub written-reads-back : (P Q : Pool) → KeepsRules P → KeepsRules Q → (r : ℕ) → r < P .count → Q .end ≡ limit → (old : List ℕ) → TakesAll old → Room (sizeOf (fileFrom P r)) Q
+  pub written-again-where-it-fits : Accepted (writtenFrom (poolLeft (readInto P bs)) i old) ↔ (length bs ≤ length old)
+  written-again-where-it-fits =
+      let left = reading-leaves-the-rules bs are P k whole i given in
+      let last : i + 1 ≡ poolLeft (readInto P bs) .count = left .root-last in
+      subst (λ file. Accepted (writtenFrom (poolLeft (readInto P bs)) i old) ↔ (length file ≤ length old)) (left .same-bytes)
+      (accepted-where-the-file-fits (poolLeft (readInto P bs)) i old (left .keeps-rules) (omega arith))
+
+-- "A node file reads back to the expression it came from": what an accepted `write` has written, `read` accepts into any pool with room, and the shape is the same
+pub written-reads-back :
+    (P Q : Pool) → KeepsRules P → KeepsRules Q → (r : ℕ) → Q .end ≡ limit → (old : List ℕ) → Accepted (writtenFrom P r old) → Room (sizeOf (fileIn (writtenFrom P r old))) Q
     → (s : ℕ) × Gives (readInto Q (fileIn (writtenFrom P r old))) s × SameShape P r (poolLeft (readInto Q (fileIn (writtenFrom P r old)))) s
-written-reads-back P Q k m r l whole old long room =
-    let (s, R, e, shape, left) = reads-back P Q k m r l room in
+written-reads-back P Q k m r whole old a room =
+    let there = file-is-there P r old a in
+    let (s, R, e, shape, left) = reads-back P Q k m r (accepted-writes P r old a .given) (subst (λ bs. Room (sizeOf bs) Q) there room) in
     let same = left-pool-is Q m whole (fileFrom P r) e (left .end-kept) in
-    subst⁻¹ (λ bs. (s : ℕ) × Gives (readInto Q bs) s × SameShape P r (poolLeft (readInto Q bs)) s) (file-is-there P k r l old long)
+    subst⁻¹ (λ bs. (s : ℕ) × Gives (readInto Q bs) s × SameShape P r (poolLeft (readInto Q bs)) s) there
     (s, accepted-gives Q m whole (fileFrom P r) e, subst⁻¹ (λ T. SameShape P r T s) same shape)

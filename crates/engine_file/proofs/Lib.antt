@@ -1,3 +1,4 @@
 pub mod Writing
 pub mod Growing
+pub mod Accepting
 pub mod Demand3

@@ -2,9 +2,9 @@
 -- Assumes nothing.
 use mathlib.Core.Path.{_≡_}
 use mathlib.Core.List.{List, []}
-use Prim.Native.Nat.{ℕ, _+_, _*_, _≤_}
-use lib.ListN.{length, take}
-use Rattle.pool.specs.Pool.{limit, Pool}
+use Prim.Native.Nat.{ℕ}
+use lib.ListN.{take}
+use Rattle.pool.specs.Pool.{Pool}
 use Rattle.shape.specs.File.{readFile}
 use Rattle.lent.specs.Call.{Left, lentPool, onPool}
 use Rattle.lent.specs.declared.Answer.the-variants.{Node}
@@ -24,9 +24,9 @@ bytesIn (Refused k) out = []
 abbrev pub fileIn : Output → List ℕ
 fileIn o = bytesIn (o .answer) (o .out)
 
--- "The longest file has 36,868 bytes.": an output that takes every file
-abbrev pub TakesAll : List ℕ → Type 0
-TakesAll old = 4 + 9 * limit ≤ length old
+-- the call is accepted, with a length
+abbrev pub Accepted : Output → Type 0
+Accepted o = (m : ℕ) × (o .answer ≡ Length m)
 
 -- reading into a lent pool, that is full at the limit
 abbrev pub readInto : Pool → List ℕ → Left

@@ -1,0 +1,75 @@
+-- An accepted call of writing: its root was given, its file fits, and the file is what it has written, whatever the output's length and earlier contents.
+-- Assumes nothing.
+use mathlib.Core.Path.{_≡_, refl, ap, _∙_, subst⁻¹}
+use mathlib.Core.Logic.{_↔_}
+use mathlib.Core.Bool.{Bool, true, false}
+use mathlib.Core.List.{List, [], _∷_, _++_}
+use Prim.Native.Nat.{ℕ, _+_, _*_, _<_, _≤_}
+use native.Mathlib.Omega.{arith}
+use lib.Dec.{leb}
+use lib.ListN.{length, drop}
+use lib.Seq.{take-append-seam}
+use borrow.Author.Tests.{leb-true, le-leb, lt-ltb}
+use Rattle.refusals.specs.Refusals.{brokenPool, unknownNode, noRoom}
+use Rattle.pool.specs.Nodes.{allBelow}
+use Rattle.pool.specs.Pool.{limit, Pool, isPool}
+use Rattle.shape.specs.File.{fileFrom, sizeOf}
+use Rattle.shape.specs.Demand.{KeepsRules}
+use Rattle.shape.proofs.Pools.{rules-of}
+use Rattle.shape.proofs.Demand3.{length-of-a-file, size-of-a-file}
+use Rattle.lent.proofs.Finishing.{one-is-below}
+use Rattle.engine_file.specs.Write.{Output, output, demandOf, fileOver, writeCall}
+use Rattle.engine_file.specs.Outcome.{writtenFrom, fileIn, Accepted}
+use Rattle.engine_file.specs.declared.Written.{Written}
+use Rattle.engine_file.specs.declared.Written.the-variants.{Length, Refused}
+
+IsLength : Written → Type 0
+IsLength (Length n) = Unit {0}
+IsLength (Refused k) = ⊥
+
+-- an accepted call has passed each test
+passed : (old : List ℕ) (t : Bool) (k : ℕ) (then : Output) → Accepted (demandOf old t k then) → (t ≡ true) × (demandOf old t k then ≡ then) × Accepted then
+unfolding IsLength
+passed old true k then a = (refl, refl, a)
+passed old false k then (m, e) = absurd (subst⁻¹ IsLength e tt)
+
+module _ (P : Pool) (r : ℕ) (old : List ℕ) where
+  abbrev file : List ℕ
+  file = fileFrom P r
+
+  -- the file, and the output's bytes past it as they were
+  abbrev written : Output
+  written = output (Length (length file)) (file ++ drop (length file) old)
+
+  pub record Writes : Type 0 where
+    pub given : r < P .count
+    pub fits : length file ≤ length old
+    pub is : writtenFrom P r old ≡ written
+
+  pub accepted-writes : Accepted (writtenFrom P r old) → Writes
+  unfolding writeCall
+  accepted-writes a =
+      let (rules, whole, a₁) = passed old (isPool (P .kinds) (P .words) (P .count)) brokenPool (demandOf old (allBelow (P .count) (r ∷ [])) unknownNode (fileOver old file)) a in
+      let (known, rest, a₂) = passed old (allBelow (P .count) (r ∷ [])) unknownNode (fileOver old file) a₁ in
+      let (room, last, a₃) = passed old (leb (length file) (length old)) noRoom written a₂ in
+      record { given = one-is-below (P .count) r known; fits = leb-true (length file) (length old) room; is = whole ∙ rest ∙ last }
+
+  pub file-is-there : Accepted (writtenFrom P r old) → fileIn (writtenFrom P r old) ≡ fileFrom P r
+  file-is-there a = ap fileIn (accepted-writes a .is) ∙ take-append-seam file (drop (length file) old)
+
+  module _ (k : KeepsRules P) (l : r < P .count) where
+    fits-accepted : length file ≤ length old → Accepted (writtenFrom P r old)
+    unfolding writeCall
+    fits-accepted fits = rw (k .rules, lt-ltb r (P .count) l, le-leb (length file) (length old) fits) (length file, refl)
+
+    pub accepted-where-the-file-fits : Accepted (writtenFrom P r old) ↔ (length (fileFrom P r) ≤ length old)
+    accepted-where-the-file-fits = (λ a. accepted-writes a .fits, fits-accepted)
+
+    -- "The longest file has 36,868 bytes."
+    pub longest-file-fits : 4 + 9 * limit ≤ length old → Accepted (writtenFrom P r old)
+    longest-file-fits long =
+        let n = sizeOf file in
+        let is : length file ≡ 4 + 9 * n = length-of-a-file P k r l in
+        let few : n ≤ P .count = size-of-a-file P k r l .1 in
+        let most : P .count ≤ limit = rules-of P k .count-fits in
+        fits-accepted (omega arith)
