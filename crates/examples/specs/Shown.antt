@@ -2,23 +2,14 @@
 -- Assumes nothing.
 use mathlib.Core.List.{List, [], _∷_}
 use Prim.Native.Nat.{ℕ}
-use Prim.Native.String as String
-use Prim.Native.Char.{code}
 use lib.IntN.{ℤ, pos}
-use lib.ListN.{replicate}
 use Rattle.pool.specs.declared.node.Node.the-variants as node
-use Rattle.pool.specs.Pool.{Pool, pool, Out, done, refused, Run, _>>=_, append, nodeAt, limit}
+pub use Rattle.text.specs.Text.{bytes}
+use Rattle.pool.specs.Pool.{Pool, Out, done, refused, Run, _>>=_, append, nodeAt}
+unfoldable pub use Rattle.pool.specs.Pool.{empty}
 use Rattle.walks.specs.Print.{textOf}
 use Rattle.taylor.specs.Work.{Result}
 use Rattle.taylor.specs.Expansion.{Expansion, Constant, Polynomial}
-
--- the bytes of a text
-abbrev pub bytes : String.String → List ℕ
-bytes String.[] = []
-bytes (String._∷_ c s) = code c ∷ bytes s
-
-unfoldable pub empty : Pool
-empty = pool (replicate limit 0) (replicate limit 0) 0 limit
 
 -- an empty pool with x0 as node 0 and x1 as node 1: "a variable is one node, however often it is written"
 unfoldable pub withVariables : Run → Out

@@ -36,7 +36,7 @@ expOf z = cond (isZero z) (Value (pos 1)) (Refused noExpOrLog)
 unfoldable pub logOf : ℤ → Folded
 logOf z = cond (isOne z) (Value (pos 0)) (Refused noExpOrLog)
 
--- "signed whole number, two's complement", in a word of 64 bits: the word read as a number, and the number's word
+-- "signed whole number, two's complement", in a word of 64 bits: the word read as a number, and the number's word, as the language's casts have them; `signed-is` and `word-of-negative` in proofs/ are the same as arithmetic
 abbrev pub signed : ℕ → ℤ
 signed w = toZ w64 w
 

@@ -4,7 +4,7 @@ use mathlib.Core.Bool.{Bool, true, false, _&&_, cond}
 use mathlib.Core.List.{List}
 use Prim.Native.Nat.{ℕ, zero, suc, _+_}
 use lib.Dec.{leb, ltb, eqb}
-use lib.ListN.{length, getD, set}
+use lib.ListN.{length, getD, set, replicate}
 use Rattle.refusals.specs.Refusals.{poolFull}
 use Rattle.pool.specs.Nodes.{decode, kindOf, wordOf, mayStandAt}
 pub use Rattle.pool.specs.Work.{Result, done, refused, WorkOn, bind, _>>=_, yield, refuse}
@@ -24,6 +24,10 @@ pub record Pool : Type 0 where
 
 abbrev pub pool : List ℕ → List ℕ → ℕ → ℕ → Pool
 pool ks ws n m = record { kinds = ks; words = ws; count = n; end = m }
+
+-- "An empty pool has count 0." Entries from the count on are 0
+unfoldable pub empty : Pool
+empty = pool (replicate limit 0) (replicate limit 0) 0 limit
 
 -- the node at number i
 unfoldable pub nodeIn : List ℕ → List ℕ → ℕ → Node

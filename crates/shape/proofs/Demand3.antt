@@ -8,11 +8,11 @@ use Prim.Native.Nat.{ℕ, _+_, _-_, _*_, _<_, _≤_}
 use native.Mathlib.Omega.{arith}
 use lib.ListN.{length}
 use Rattle.refusals.specs.Refusals.{poolFull}
-use Rattle.pool.specs.Pool.{limit, Pool, nodeAt, done, refused}
+use Rattle.pool.specs.Pool.{limit, Pool, empty, nodeAt, done, refused}
 use Rattle.shape.specs.Shape.{has, Reach, OneShape}
 use Rattle.shape.specs.Order.{numbered, written, writtenRoots}
 use Rattle.shape.specs.File.{fileOf, fileFrom, writtenFile, readFile, sizeOf}
-use Rattle.shape.specs.Demand.{KeepsRules, emptyPool, Room, SameShape, IsNodeFile, AreBytes, Accepts, Leaves, Below, Distinct}
+use Rattle.shape.specs.Demand.{KeepsRules, Room, SameShape, IsNodeFile, AreBytes, Accepts, Leaves, Below, Distinct}
 use Rattle.shape.proofs.Entries.{only, one-shape-is-same-entries, one-shape-is-same-entries-of-one, length-written, numbered-distinct, numbered-reached, reached-numbered}
 use Rattle.shape.proofs.Files.{same-file-same-entries, file-is-bytes, length-file}
 use Rattle.shape.proofs.Pools.{rules-of, falls-in, empty-keeps-rules}
@@ -88,8 +88,9 @@ accepts-node-files bs are P k none whole =
         (omega (arith, none, whole), omega (arith, none, whole))
 
 -- "An empty pool has count 0": the one whose tables are all 0 keeps the rules
-pub accepts-node-files-into-zeros : (bs : List ℕ) → AreBytes bs → Accepts bs emptyPool ↔ IsNodeFile bs
-accepts-node-files-into-zeros bs are = accepts-node-files bs are emptyPool empty-keeps-rules refl refl
+pub accepts-node-files-into-zeros : (bs : List ℕ) → AreBytes bs → Accepts bs empty ↔ IsNodeFile bs
+unfolding empty
+accepts-node-files-into-zeros bs are = accepts-node-files bs are empty empty-keeps-rules refl refl
 
 -- (c) what an accepted file leaves, whatever the bytes and whatever the pool that keeps the rules: it keeps them again, old expressions keep their shape, and writing the root again gives the same bytes
 pub accepted-leaves-the-rules : (bs : List ℕ) → AreBytes bs → (P : Pool) → KeepsRules P → (r : ℕ) (Q : Pool) → readFile bs P ≡ done r Q → Leaves bs P r Q

@@ -11,9 +11,9 @@ use lib.Dec.{leb, eqb}
 use lib.ListN.{length, getD, replicate, length-replicate, getD-replicate, List·getD-eq-default}
 use borrow.Author.Tests.{lt-ltb, le-ltb, le-leb, leb-true, eq-eqb, eqb-true}
 use Rattle.pool.specs.Nodes.{decode, parts, isNode, allBelow, mayStandAt}
-use Rattle.pool.specs.Pool.{limit, Pool, nodeIn, nodeAt, entryKeeps, isPool}
+use Rattle.pool.specs.Pool.{limit, Pool, empty, nodeIn, nodeAt, entryKeeps, isPool}
 use Rattle.pool.specs.declared.node.Node.the-variants.{Empty}
-use Rattle.shape.specs.Demand.{KeepsRules, emptyPool}
+use Rattle.shape.specs.Demand.{KeepsRules}
 use Rattle.shape.specs.Walked.{Falls}
 use Rattle.shape.proofs.Lists.{All, all-none, below-or-not}
 use Rattle.shape.proofs.Tests.{and-left, and-right, and-both, each-holds, each-of, all-below}
@@ -119,8 +119,8 @@ zero-tables m e =
       free = λ i l n. (zero-at m i, zero-at m i);
     }
 
-pub empty-keeps-rules : KeepsRules emptyPool
-unfolding zeros
+pub empty-keeps-rules : KeepsRules empty
+unfolding zeros empty
 empty-keeps-rules =
     record {
       rules = test-of-rules (zeros limit) (zeros limit) 0 (zero-tables limit refl);

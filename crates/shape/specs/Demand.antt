@@ -4,8 +4,8 @@ use mathlib.Core.Path.{_≡_}
 use mathlib.Core.Bool.{true, false}
 use mathlib.Core.List.{List, [], _∷_}
 use Prim.Native.Nat.{ℕ, _+_, _^_, _<_, _≤_}
-use lib.ListN.{getD, replicate}
-use Rattle.pool.specs.Pool.{limit, Pool, pool, isPool, nodeAt, done}
+use lib.ListN.{getD}
+use Rattle.pool.specs.Pool.{limit, Pool, isPool, nodeAt, done}
 use Rattle.shape.specs.Shape.{has, OneShape}
 use Rattle.shape.specs.File.{fileFrom, sizeOf, readFile}
 
@@ -13,10 +13,6 @@ use Rattle.shape.specs.File.{fileFrom, sizeOf, readFile}
 pub record KeepsRules (P : Pool) : Type 0 where
   pub rules : isPool (P .kinds) (P .words) (P .count) ≡ true
   pub words-fit : (i : ℕ) → getD (P .words) i 0 < 2 ^ 64
-
--- "An empty pool has count 0."
-abbrev pub emptyPool : Pool
-emptyPool = pool (replicate limit 0) (replicate limit 0) 0 limit
 
 -- there is room for n more nodes
 abbrev pub Room : ℕ → Pool → Type 0

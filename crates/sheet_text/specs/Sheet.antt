@@ -5,11 +5,12 @@ use mathlib.Core.List.{List, [], _∷_, _++_}
 use Prim.Native.Nat.{ℕ, suc}
 use lib.Dec.{leb}
 use lib.IntN.{ℤ}
-use lib.ListN.{length, replicate}
+use lib.ListN.{length}
 use Rattle.refusals.specs.Refusals.{unknownVariable, notLiteral, wrongOrder, noRoom}
 use Rattle.text.specs.Text.{decimal, signedDecimal}
 use Rattle.pool.specs.Nodes.{greatestVariable}
-use Rattle.pool.specs.Pool.{Pool, pool, Out, done, refused, limit, nodeAt}
+use Rattle.pool.specs.Pool.{Pool, Out, done, refused, nodeAt}
+unfoldable pub use Rattle.pool.specs.Pool.{empty}
 use Rattle.shape.specs.File.{readFile}
 use Rattle.walks.specs.Print.{textOf, longestText}
 use Rattle.taylor.specs.Work.{Result}
@@ -40,10 +41,6 @@ abbrev pub coefficientsOf : Result Expansion → Coefficients
 coefficientsOf (done (Constant c) P) = printAll P (c ∷ [])
 coefficientsOf (done (Polynomial cs) P) = printAll P cs
 coefficientsOf (refused k) = refusal k
-
--- an empty pool
-unfoldable pub empty : Pool
-empty = pool (replicate limit 0) (replicate limit 0) 0 limit
 
 abbrev pub expandRoot : ℕ → ℕ → Point → Out → Coefficients
 expandRoot v order x (done root P) = coefficientsOf (expand root v x order P)

@@ -4,10 +4,17 @@ use mathlib.Core.Path.{_≡_}
 use mathlib.Core.Bool.{Bool, true, false, cond}
 use mathlib.Core.List.{List, [], _∷_, _++_}
 use Prim.Native.Nat.{ℕ, zero, suc, _+_, _/_, _%_, _≤_}
+use Prim.Native.String as String
+use Prim.Native.Char.{code}
 use lib.Dec.{ltb}
 use lib.ListN.{length, drop}
 use lib.IntN.{ℤ, pos, negsuc}
 use Rattle.text.specs.declared.Text.{Text}
+
+-- the bytes of a text
+abbrev pub bytes : String.String → List ℕ
+bytes String.[] = []
+bytes (String._∷_ c s) = code c ∷ bytes s
 
 -- the bytes of '-', 'a', 'x' and '_'
 abbrev pub minus : ℕ

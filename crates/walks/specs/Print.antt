@@ -3,10 +3,8 @@
 use mathlib.Core.Bool.{Bool, true, false, _||_}
 use mathlib.Core.List.{List, [], _∷_, _++_}
 use Prim.Native.Nat.{ℕ, _+_}
-use Prim.Native.String as String
-use Prim.Native.Char.{code}
 use lib.Dec.{ltb}
-use Rattle.text.specs.Text.{decimal, signedDecimal, display}
+use Rattle.text.specs.Text.{bytes, decimal, signedDecimal, display}
 use Rattle.pool.specs.declared.node.Node.{Node}
 use Rattle.pool.specs.declared.node.Node.the-variants.{Empty, Variable, Lit, Add, Mul, Div, Exp, Log, Pow, Max}
 use Rattle.pool.specs.Fold.{under, foldNodes}
@@ -23,11 +21,6 @@ precedence (Exp a) = 10
 precedence (Log a) = 10
 precedence (Pow a e) = 2
 precedence (Max a b) = 10
-
--- the bytes of a text
-abbrev pub bytes : String.String → List ℕ
-bytes String.[] = []
-bytes (String._∷_ c s) = code c ∷ bytes s
 
 abbrev pub plus : List ℕ
 plus = bytes " + "
