@@ -10,7 +10,9 @@ mod both;
 mod call;
 mod counted;
 mod damage;
+mod directed;
 mod engine;
+mod examples;
 mod file;
 mod list;
 mod random;
@@ -27,10 +29,28 @@ mod worst;
 use around::{generating_function, ppl, semantics};
 
 mod number {
-    include!(concat!(env!("OUT_DIR"), "/number.rs"));
+    //! As in src/number/mod.rs.
+    mod number {
+        include!(concat!(env!("OUT_DIR"), "/number.rs"));
+    }
+    mod f64 {
+        include!(concat!(env!("OUT_DIR"), "/f64.rs"));
+    }
+    pub use f64::*;
+    pub use number::*;
 }
 mod univariate_taylor {
     include!(concat!(env!("OUT_DIR"), "/univariate_taylor.rs"));
+
+    /// The tests of this file by name.
+    pub const TESTS: [(&str, fn()); 6] = [
+        ("test_taylor_expansion_of_coeff", test_taylor_expansion_of_coeff),
+        ("test_subst", test_subst),
+        ("test_taylor_e_x_squared_1", test_taylor_e_x_squared_1),
+        ("test_division", test_division),
+        ("test_division_constant", test_division_constant),
+        ("test_log", test_log),
+    ];
 }
 mod symbolic {
     include!(concat!(env!("OUT_DIR"), "/symbolic.rs"));
@@ -43,6 +63,7 @@ mod symbolic {
 
 use counted::Refusal;
 use run::Run;
+use symbolic::oracle;
 use std::time::Duration;
 
 fn main() {
@@ -65,19 +86,25 @@ fn main() {
     std::process::exit(if matches!(done, Ok(true)) { 0 } else { 1 });
 }
 
-/// The fixed list of answers, with a seed of its own.
+/// The fixed list of answers, with a seed of its own, and the list of wrong ones.
 fn write_list(folder: &str) {
-    let (list, last) = std::thread::Builder::new().stack_size(256 << 20).spawn(|| list::made(20_261_116)).unwrap().join().unwrap();
-    std::fs::write(format!("{folder}/stdin"), list).expect("the list");
-    std::fs::write(format!("{folder}/stdout"), last).expect("its last line");
+    let lists = || (list::made(20_261_116), list::wrong());
+    let ((list, last), wrong) = std::thread::Builder::new().stack_size(256 << 20).spawn(lists).unwrap().join().unwrap();
+    for (name, text) in [("stdin", list), ("stdout", last), ("wrong", wrong.list), ("report", wrong.report)] {
+        std::fs::write(format!("{folder}/{name}"), text).expect(name);
+    }
 }
 
 fn all(seed: u64, seconds: u64) -> bool {
+    examples::all();
+    let directed = directed::run();
     worst::all();
     small::all();
     let sheet = sheet_model::all(seed);
     let mut run = Run::new(seed);
     run.go(Duration::from_secs(seconds));
     println!("seed {seed}: {} random calls, the Rust and the engine agree on every answer and every lent byte", run.both.met.calls_made());
-    report::complete(&run.both.met) && sheet
+    println!("{} evaluations ran over the Rust's F64 as well", oracle::evaluations_over_f64());
+    run.both.met.take(directed);
+    report::complete(&run.both.met) && sheet && oracle::evaluations_over_f64() > 0
 }
