@@ -1,4 +1,4 @@
-//! Takes the Rust as it is, with the few textual changes that README.md lists, each of which must match exactly once.
+//! Takes the Rust as it is, with the few textual changes that README.md lists, each of which must match as often as it says there.
 mod take;
 
 use std::path::PathBuf;
@@ -30,7 +30,10 @@ fn main() {
     fs::write(out.join("symbolic.rs"), symbolic).unwrap();
 
     // 3. the square after the exponent's highest one bit is not taken
-    fs::write(out.join("univariate_taylor.rs"), take::taylor(&sources)).unwrap();
+    // 4. the tests are functions like others
+    let taylor = take::times(take::taylor(&sources), 6, "#[test]\n", "");
+    fs::write(out.join("univariate_taylor.rs"), taylor).unwrap();
     fs::write(out.join("number.rs"), take::read(&sources, "number/number.rs")).unwrap();
+    fs::write(out.join("f64.rs"), take::read(&sources, "number/f64.rs")).unwrap();
     take::link(&repository);
 }

@@ -3,9 +3,13 @@ use std::path::{Path, PathBuf};
 use std::{env, fs};
 
 pub fn once(text: String, old: &str, new: &str) -> String {
+    times(text, 1, old, new)
+}
+
+pub fn times(text: String, n: usize, old: &str, new: &str) -> String {
     let found = text.matches(old).count();
-    assert_eq!(found, 1, "expected once, found {found} times: {old}");
-    text.replacen(old, new, 1)
+    assert_eq!(found, n, "expected {n} times, found {found} times: {old}");
+    text.replace(old, new)
 }
 
 /// Where the Rust's sources are: the folder that BUNLAYOG_RUST names, or the one beside the repository.

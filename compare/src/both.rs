@@ -21,6 +21,19 @@ impl Met {
         self.calls.values().flat_map(|outcomes| outcomes.values()).sum()
     }
 
+    /// Each call with each outcome that it had.
+    pub fn outcomes(&self) -> impl Iterator<Item = (&'static str, u32)> + '_ {
+        self.calls.iter().flat_map(|(name, outcomes)| outcomes.keys().map(move |number| (*name, *number)))
+    }
+
+    /// What another part of a run has met, counted here too.
+    pub fn take(&mut self, other: Met) {
+        other.rules.into_iter().for_each(|(rule, n)| *self.rules.entry(rule).or_default() += n);
+        for (name, outcomes) in other.calls {
+            outcomes.into_iter().for_each(|(number, n)| *self.calls.entry(name).or_default().entry(number).or_default() += n);
+        }
+    }
+
     pub fn refused_by(&self, number: u32) -> u64 {
         self.calls.values().filter_map(|outcomes| outcomes.get(&number)).sum()
     }

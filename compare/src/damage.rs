@@ -83,16 +83,35 @@ pub fn pool(random: &mut Random, both: &mut Both) {
     let mut engine = both.engine.clone();
     let node = random.node(engine.count());
     damage(random, &mut engine);
+    if checked(&engine, both) {
+        let s = Series { order: random.order(), coeffs: [node; 25] };
+        refused(engine, both, each_call(node, random.variable(), s));
+    }
+}
+
+/// A pool whose count is one above the limit: every call is refused by 1, and without that `check` finds no rule broken.
+pub fn one_too_many(both: &mut Both) {
+    assert!(!checked(&both.engine.clone(), both));
+    let mut engine = both.engine.clone();
+    let (kind, word) = engine.entry(0);
+    engine.damage(0, kind, word, LIMIT as u64 + 1);
+    assert!(checked(&engine, both));
+    refused(engine, both, each_call(0, 0, Series::constant(0)));
+}
+
+/// Whether a rule is broken, by document 01's words and by `check`.
+fn checked(engine: &Engine, both: &mut Both) -> bool {
     let (kinds, words) = engine.tables();
     let broken = !file::is_pool(kinds, words, engine.count());
     assert_eq!(engine.check(), broken as u32, "check of a damaged pool");
     both.met.count("check", broken as u32);
-    if broken {
-        let s = Series { order: random.order(), coeffs: [node; 25] };
-        for call in each_call(node, random.variable(), s) {
-            assert_eq!(call.mine(&mut engine), Err(1), "{call:?} on a damaged pool");
-            both.met.count(call.name(), 1);
-        }
+    broken
+}
+
+fn refused(mut engine: Engine, both: &mut Both, calls: Vec<Call>) {
+    for call in calls {
+        assert_eq!(call.mine(&mut engine), Err(1), "{call:?} on a damaged pool");
+        both.met.count(call.name(), 1);
     }
     engine.check_guards("calls on a damaged pool");
 }

@@ -4,16 +4,20 @@ use crate::both::Met;
 use crate::call::{Answer, Call, Given, Series, ENDLESS, TERMS};
 use crate::counted::{self, LIMIT};
 use crate::random::Random;
+use crate::file::Entry;
 use crate::symbolic::oracle;
-use crate::{damage, file};
+use crate::{damage, directed, file, report};
+use std::collections::BTreeSet;
 use std::fmt::Write;
 
 /// No line is longer: a call that would need more is not taken.
 const LINE_MAX: usize = 8_000;
 /// The list comes in blocks of so many bytes, each of whole lines and filled up with spaces: the program reads block by block.
 const BLOCK: usize = 16_384;
-/// The longest text, file or output of the list.
+/// The longest text or file of the list, and the longest output but for texts of 65,536 bytes.
 const BYTES_MAX: usize = 400;
+/// The longest table of values that is written out: a longer one has entries that are all alike.
+const VALUES_MAX: usize = 64;
 /// How many calls the list has at least.
 const CALLS: u64 = 5_000;
 
@@ -33,6 +37,7 @@ pub fn made(seed: u64) -> (String, String) {
     list.each_rule();
     list.each_shape();
     list.each_refusal();
+    list.each_outcome();
     list.full_pool();
     (0..5).for_each(|kind| list.nested(kind));
     while list.met.calls_made() < CALLS {
@@ -75,8 +80,8 @@ fn operation(call: &Call) -> u32 {
         Pow(..) => 19,
         SubstituteVar { .. } => 20,
         Derive { .. } => 21,
-        Evaluate(..) => 22,
-        EvaluateResidue(..) => 23,
+        Evaluate(_, values) => if values.len() > VALUES_MAX { 28 } else { 22 },
+        EvaluateResidue(_, values) => if values.len() > VALUES_MAX { 29 } else { 23 },
         Print { .. } => 24,
         Write { .. } => 25,
         Read(_) => 26,
@@ -110,6 +115,15 @@ fn series(s: &Series) -> String {
     format!("order {} entries {written}{}", s.order, numbers(&s.coeffs[..written]))
 }
 
+/// The values, or the first of a long table, whose entries are all alike.
+fn written<T: PartialEq>(values: &[T]) -> &[T] {
+    if values.len() <= VALUES_MAX {
+        return values;
+    }
+    assert!(values.iter().all(|x| *x == values[0]), "a long table of different values");
+    &values[..1]
+}
+
 fn arguments(call: &Call) -> String {
     use Call::*;
     match call {
@@ -120,8 +134,8 @@ fn arguments(call: &Call) -> String {
         Pow(a, e) => format!("{a} {e}"),
         SubstituteVar { root, var, value } => format!("root {root} var {var} value {value}"),
         Derive { root, var } => format!("root {root} var {var}"),
-        Evaluate(root, values) => format!("root {root} values {}{}", values.len(), numbers(values.iter().map(|x| x.to_bits()))),
-        EvaluateResidue(root, values) => format!("root {root} values {}{}", values.len(), numbers(values)),
+        Evaluate(root, values) => format!("root {root} values {}{}", values.len(), numbers(written(values).iter().map(|x| x.to_bits()))),
+        EvaluateResidue(root, values) => format!("root {root} values {}{}", values.len(), numbers(written(values))),
         Print { root, room } | Write { root, room } => format!("room {room} root {root}"),
         Read(bytes) => format!("length {} bytes{}", bytes.len(), numbers(bytes)),
         TaylorVar { x, order } => format!("at {x} order {order}"),
@@ -142,7 +156,21 @@ fn works_on_the_pool(call: &Call) -> bool {
     !matches!(call, Evaluate(..) | EvaluateResidue(..) | Print { .. } | Write { .. } | TaylorFromCoefficients(_) | TaylorOrder(_))
 }
 
-fn answered(call: &Call, answer: &Answer, before: usize) -> String {
+/// An answer, and the entries that the call appended.
+#[derive(Clone, PartialEq)]
+struct Outcome {
+    answer: Answer,
+    new: Vec<Entry>,
+}
+
+/// What the Rust answers. The entries stay.
+fn outcome(call: &Call) -> Outcome {
+    let before = counted::count();
+    let answer = call.theirs();
+    Outcome { answer, new: (before..counted::count()).map(oracle::entry).collect() }
+}
+
+fn answered(call: &Call, Outcome { answer, new }: &Outcome) -> String {
     let mut text = match answer {
         Err(number) => return number.to_string(),
         Ok(Given::Number(n)) if works_on_the_pool(call) => format!("0 node {n}"),
@@ -151,13 +179,14 @@ fn answered(call: &Call, answer: &Answer, before: usize) -> String {
         Ok(Given::Expansion(s)) => format!("0 {}", series(s)),
     };
     if works_on_the_pool(call) {
-        write!(text, " new {}", counted::count() - before).unwrap();
-        for i in before..counted::count() {
-            let (kind, word) = oracle::entry(i);
-            write!(text, " kind {kind} word {word}").unwrap();
-        }
+        write!(text, " new {}", new.len()).unwrap();
+        new.iter().for_each(|(kind, word)| write!(text, " kind {kind} word {word}").unwrap());
     }
     text
+}
+
+fn line(call: &Call, outcome: &Outcome) -> String {
+    format!("{} {} {} gives {}\n", operation(call), call.name(), arguments(call), answered(call, outcome))
 }
 
 impl List {
@@ -174,8 +203,9 @@ impl List {
     fn call(&mut self, call: Call) -> Option<Given> {
         let before = counted::count();
         let rule = rule_of(&call, before as u64);
-        let answer = call.theirs();
-        let line = format!("{} {} {} gives {}\n", operation(&call), call.name(), arguments(&call), answered(&call, &answer, before));
+        let outcome = outcome(&call);
+        let line = line(&call, &outcome);
+        let answer = outcome.answer;
         if line.len() > LINE_MAX {
             counted::forget_from(before);
             return None;
@@ -249,29 +279,26 @@ fn pair(a: u64, b: u64) -> u64 {
     a + (b << 32)
 }
 
+/// Entries that meet the rules: literals, variables, and each kind of node over them.
+pub fn shapes() -> Vec<Entry> {
+    let lit = |z: i64| (2, z as u64);
+    let mut entries: Vec<Entry> = vec![(1, 0), (1, 1), lit(0), lit(1), lit(2), lit(-3), lit(crate::whole::MAX)];
+    let (x, y, one, two) = (0, 1, 3, 4);
+    let (exp_x, exp_y, square, most) = (7, 8, 9, 10);
+    entries.extend([(6, x), (6, y), (8, pair(x, 2)), (8, pair(x, u32::MAX as u64))]);
+    entries.extend([(x, one), (y, two), (two, x), (x, y)].map(|(a, b)| (3, pair(a, b))));
+    let products = [(two, x), (two, y), (y, x), (exp_x, y), (y, exp_x), (exp_y, exp_x), (y, square), (y, most)];
+    entries.extend(products.map(|(a, b)| (4, pair(a, b))));
+    entries.extend([(5, pair(x, y)), (7, x), (9, pair(x, y))]);
+    entries
+}
+
 /// The fixed part: every shape that a rule looks at, with every other.
 impl List {
-    /// Entries that meet the rules: literals, variables, and each kind of node over them.
     fn shapes(&mut self) -> Vec<u64> {
-        let lit = |z: i64| (2, z as u64);
-        let leaves = [(1, 0), (1, 1), lit(0), lit(1), lit(2), lit(-3), lit(crate::whole::MAX)];
-        leaves.iter().for_each(|(kind, word)| {
+        shapes().iter().for_each(|(kind, word)| {
             self.put(*kind, *word);
         });
-        let (x, y, one, two) = (0, 1, 3, 4);
-        let exp_x = self.put(6, x);
-        let exp_y = self.put(6, y);
-        let square = self.put(8, pair(x, 2));
-        let most = self.put(8, pair(x, u32::MAX as u64));
-        for (a, b) in [(x, one), (y, two), (two, x), (x, y)] {
-            self.put(3, pair(a, b));
-        }
-        for (a, b) in [(two, x), (two, y), (y, x), (exp_x, y), (y, exp_x), (exp_y, exp_x), (y, square), (y, most)] {
-            self.put(4, pair(a, b));
-        }
-        self.put(5, pair(x, y));
-        self.put(7, x);
-        self.put(9, pair(x, y));
         let count = self.count();
         self.set_count(count);
         (0..count).collect()
@@ -339,6 +366,23 @@ impl List {
             self.all(vec![Call::TaylorCoeff(long, index), Call::TaylorDerivative(long, index), Call::TaylorVar { x: 0, order: index }]);
         }
         self.all(vec![Call::TaylorSubst(good, long), Call::TaylorAdd(good, long), Call::TaylorMax(good, good)]);
+    }
+
+    /// The calls made for each outcome that an operation can have; last a count that is one too large.
+    fn each_outcome(&mut self) {
+        self.clear();
+        let directed::All { pool, calls, full } = directed::all();
+        pool.entries.iter().for_each(|(kind, word)| {
+            self.put(*kind, *word);
+        });
+        self.set_count(pool.entries.len() as u64);
+        self.all(calls.into_iter().map(|(_, call)| call).collect());
+        self.fill(LIMIT as u64);
+        self.all(full.into_iter().map(|(_, call)| call).collect());
+        self.check(0);
+        self.set_count(LIMIT as u64 + 1);
+        self.check(1);
+        damage::each_call(0, 0, Series::constant(0)).iter().for_each(|call| self.refused_by_one(call));
     }
 
     /// A pool with no room: what appends nothing is accepted, and 11, 12 and 13 come before 18.
@@ -606,14 +650,15 @@ impl List {
         }
     }
 
-    /// Every call is accepted and refused, and every rule and every refusal is met.
+    /// Every rule is met, and every outcome that an operation can have, and no other.
     fn complete(&self) {
         for (name, outcomes) in &self.met.calls {
             let some: Vec<String> = outcomes.iter().map(|(number, n)| format!("{number}: {n}")).collect();
             eprintln!("{name}: {}", some.join(", "));
-            assert!(outcomes.contains_key(&0) && outcomes.len() > 1, "{name} is not both accepted and refused");
         }
+        assert_eq!(self.met.outcomes().collect::<BTreeSet<_>>(), report::outcomes().collect(), "the outcomes met, and those on the list");
         oracle::RULES.iter().for_each(|rule| assert!(self.met.rules.contains_key(rule), "rule {rule} is not met"));
-        (1..=19).for_each(|number| assert!(self.met.refused_by(number) > 0, "refusal {number} is not met"));
     }
 }
+
+include!("wrong.rs");

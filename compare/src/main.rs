@@ -1,7 +1,8 @@
 //! Drives the Rust and the engine through the same calls and compares every answer and every lent byte.
 //! Usage: bunlayog-compare [SEED [SECONDS]]
 //! The seconds are those of the random calls.
-//! Or: bunlayog-compare list FOLDER, which writes the files stdin and stdout of the program `replay`, by the Rust alone.
+//! Or: bunlayog-compare list FOLDER FOLDER, which writes the files stdin and stdout of the program `replay` to the first, and a list of wrong answers and
+//! the report on it to the second, by the Rust alone.
 #![feature(arbitrary_self_types)]
 #![allow(dead_code, unused_imports, clippy::all)]
 
@@ -10,7 +11,9 @@ mod both;
 mod call;
 mod counted;
 mod damage;
+mod directed;
 mod engine;
+mod examples;
 mod file;
 mod list;
 mod random;
@@ -27,10 +30,28 @@ mod worst;
 use around::{generating_function, ppl, semantics};
 
 mod number {
-    include!(concat!(env!("OUT_DIR"), "/number.rs"));
+    //! As in src/number/mod.rs.
+    mod number {
+        include!(concat!(env!("OUT_DIR"), "/number.rs"));
+    }
+    mod f64 {
+        include!(concat!(env!("OUT_DIR"), "/f64.rs"));
+    }
+    pub use f64::*;
+    pub use number::*;
 }
 mod univariate_taylor {
     include!(concat!(env!("OUT_DIR"), "/univariate_taylor.rs"));
+
+    /// The tests of this file by name.
+    pub const TESTS: [(&str, fn()); 6] = [
+        ("test_taylor_expansion_of_coeff", test_taylor_expansion_of_coeff),
+        ("test_subst", test_subst),
+        ("test_taylor_e_x_squared_1", test_taylor_e_x_squared_1),
+        ("test_division", test_division),
+        ("test_division_constant", test_division_constant),
+        ("test_log", test_log),
+    ];
 }
 mod symbolic {
     include!(concat!(env!("OUT_DIR"), "/symbolic.rs"));
@@ -43,6 +64,7 @@ mod symbolic {
 
 use counted::Refusal;
 use run::Run;
+use symbolic::oracle;
 use std::time::Duration;
 
 fn main() {
@@ -56,7 +78,7 @@ fn main() {
     }));
     let mut args = std::env::args().skip(1).peekable();
     if args.next_if_eq("list").is_some() {
-        return write_list(&args.next().expect("a folder"));
+        return write_lists(&args.next().expect("a folder"), &args.next().expect("a folder for wrong answers"));
     }
     let seed: u64 = args.next().map_or(20_261_115, |s| s.parse().expect("a seed"));
     let seconds: u64 = args.next().map_or(60, |s| s.parse().expect("seconds"));
@@ -65,19 +87,26 @@ fn main() {
     std::process::exit(if matches!(done, Ok(true)) { 0 } else { 1 });
 }
 
-/// The fixed list of answers, with a seed of its own.
-fn write_list(folder: &str) {
-    let (list, last) = std::thread::Builder::new().stack_size(256 << 20).spawn(|| list::made(20_261_116)).unwrap().join().unwrap();
-    std::fs::write(format!("{folder}/stdin"), list).expect("the list");
-    std::fs::write(format!("{folder}/stdout"), last).expect("its last line");
+/// The fixed list of answers, with a seed of its own, and the list of wrong ones.
+fn write_lists(right: &str, wrong: &str) {
+    let made = || (list::made(20_261_116), list::wrong());
+    let ((list, last), wrong_list) = std::thread::Builder::new().stack_size(256 << 20).spawn(made).unwrap().join().unwrap();
+    let files = [(right, "stdin", list), (right, "stdout", last), (wrong, "wrong", wrong_list.list), (wrong, "report", wrong_list.report)];
+    for (folder, name, text) in files {
+        std::fs::write(format!("{folder}/{name}"), text).expect(name);
+    }
 }
 
 fn all(seed: u64, seconds: u64) -> bool {
+    examples::all();
+    let directed = directed::run();
     worst::all();
     small::all();
     let sheet = sheet_model::all(seed);
     let mut run = Run::new(seed);
     run.go(Duration::from_secs(seconds));
     println!("seed {seed}: {} random calls, the Rust and the engine agree on every answer and every lent byte", run.both.met.calls_made());
-    report::complete(&run.both.met) && sheet
+    println!("{} evaluations ran over the Rust's F64 as well", oracle::evaluations_over_f64());
+    run.both.met.take(directed);
+    report::complete(&run.both.met) && sheet && oracle::evaluations_over_f64() > 0
 }

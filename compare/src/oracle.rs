@@ -1,7 +1,9 @@
 // Included in the module of src/symbolic.rs, where its private names are in reach: the Rust's operations by node number.
 use crate::counted;
-use crate::values::{Double, Residue, MODULUS};
+use crate::number::F64;
+use crate::values::{self, Double, Residue, MODULUS};
 use crate::whole::Whole;
+use std::cell::Cell;
 
 type Kind = SymGenFunKind<Whole>;
 
@@ -70,11 +72,31 @@ pub fn derive(root: u64, v: u64) -> u64 {
     wrapped(root).derive(Var(v as usize)).root.number() as u64
 }
 
-pub fn evaluate(root: u64, values: &[f64]) -> f64 {
-    wrapped(root).evaluate(|z| Double(z.0 as f64), |v| match values.get(v.id()) {
-        Some(x) => Double(*x),
+thread_local! {
+    static OVER_F64: Cell<u64> = const { Cell::new(0) };
+}
+
+/// How many evaluations ran over the Rust's own `F64` as well.
+pub fn evaluations_over_f64() -> u64 {
+    OVER_F64.get()
+}
+
+fn evaluate_over<S: Number>(root: u64, values: &[f64], number: impl Fn(f64) -> S) -> S {
+    wrapped(root).evaluate(|z| number(z.0 as f64), |v| match values.get(v.id()) {
+        Some(x) => number(*x),
         None => counted::refuse(15),
-    }).0
+    })
+}
+
+/// By document 01's arithmetic, and by the Rust's own `F64` where that must give the same.
+pub fn evaluate(root: u64, values: &[f64]) -> f64 {
+    let (Double(given), agrees) = values::with_agreement(|| evaluate_over(root, values, Double));
+    if agrees {
+        let own = evaluate_over(root, values, F64::from).to_f64();
+        assert!(own.to_bits() == given.to_bits() || own.is_nan() && given.is_nan(), "F64 gives {own:e} and document 01's rules {given:e}");
+        OVER_F64.set(OVER_F64.get() + 1);
+    }
+    given
 }
 
 pub fn evaluate_residue(root: u64, values: &[u32]) -> u64 {

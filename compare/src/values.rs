@@ -2,8 +2,21 @@
 use crate::counted::refuse;
 use crate::number::Number;
 use num_traits::{One, Zero};
+use std::cell::Cell;
 use std::fmt;
 use std::ops::*;
+
+thread_local! {
+    /// Whether a step was taken for which document 01's rule is not sure to be that of `F64`.
+    static OWN_RULE: Cell<bool> = const { Cell::new(false) };
+}
+
+/// What a walk over `Double` gives, and whether `F64` must give the same: "where `F64`'s own pow and max .. differ from it" a step is marked.
+pub fn with_agreement<T>(walk: impl FnOnce() -> T) -> (T, bool) {
+    OWN_RULE.set(false);
+    let given = walk();
+    (given, !OWN_RULE.get())
+}
 
 pub const MODULUS: u64 = 2_147_483_647;
 
@@ -123,7 +136,11 @@ impl Number for Double {
         refuse(16)
     }
     /// "Pow starts at 1, takes the exponent's bits from the lowest, multiplies where a bit is one, then squares while higher bits remain."
+    /// Of a square and a cube every order of products gives the same; from 4 on `F64` has the platform's order.
     fn pow(&self, mut exp: u32) -> Self {
+        if exp > 3 {
+            OWN_RULE.set(true);
+        }
         let (mut res, mut base) = (1.0, self.0);
         loop {
             if exp & 1 == 1 {
@@ -136,7 +153,11 @@ impl Number for Double {
             base *= base;
         }
     }
+    /// `F64` gives the right value unless the left is greater.
     fn max(&self, o: &Self) -> Self {
+        if o.0.is_nan() {
+            OWN_RULE.set(true);
+        }
         if self.0 > o.0 || o.0.is_nan() { *self } else { *o }
     }
 }

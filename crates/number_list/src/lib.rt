@@ -9,6 +9,7 @@ pub use numbers::at_end;
 pub use numbers::next;
 pub use same::same_bytes;
 pub use same::same_words;
+pub use tables::half_of;
 pub use tables::length_of;
 pub use tables::next_bytes;
 pub use tables::next_doubles;

@@ -3,7 +3,7 @@ use crate::doubles::double_of;
 use crate::numbers::next;
 
 // No table of a list is longer.
-const LENGTH_MAX: u64 = 65_536;
+const LENGTH_MAX: u64 = 65_537;
 
 // A length, cut off above all tables, so that a wrong list takes no more turns than a right one.
 pub fn length_of(n: u64) -> usize {
@@ -20,7 +20,8 @@ fn byte_of(n: u64) -> u8 {
     0
 }
 
-fn half_of(n: u64) -> u32 {
+// A number as one of 32 bits, cut off at the greatest.
+pub fn half_of(n: u64) -> u32 {
     if n <= 0xffff_ffff {
         return n as u32;
     }

@@ -13,6 +13,10 @@ pub const WRITE: u64 = 25;
 
 pub const CHECK: u64 = 27;
 
+pub const EVALUATE_ALIKE: u64 = 28;
+
+pub const EVALUATE_RESIDUE_ALIKE: u64 = 29;
+
 pub const FROM_COEFFICIENTS: u64 = 31;
 
 pub const COEFF: u64 = 32;
@@ -40,6 +44,8 @@ fn plain_group(op: u64) -> Group {
         PRINT => Group::Text,
         WRITE => Group::Text,
         CHECK => Group::Check,
+        EVALUATE_ALIKE => Group::Value,
+        EVALUATE_RESIDUE_ALIKE => Group::Value,
         _ => Group::Node,
     }
 }

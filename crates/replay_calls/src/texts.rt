@@ -11,8 +11,8 @@ use number_list::same_bytes;
 
 pub const PRINT: u64 = 24;
 
-// The longest output of the list, and what stands in it before a call.
-const ROOM_MAX: usize = 400;
+// The longest output of the list, one byte more than the longest text, and what stands in it before a call.
+const ROOM_MAX: usize = 65_536;
 
 const BEFORE: u8 = 165;
 

@@ -3,6 +3,8 @@ use crate::got::Got;
 use crate::got::UNLISTED;
 use crate::got::of_refusal;
 use double::Valued;
+use number_list::double_of;
+use number_list::half_of;
 use number_list::length_of;
 use number_list::next;
 use number_list::next_doubles;
@@ -11,8 +13,14 @@ use residue::Divided;
 
 pub const EVALUATE: u64 = 22;
 
-// The longest table of the list.
+pub const EVALUATE_RESIDUE: u64 = 23;
+
+pub const EVALUATE_ALIKE: u64 = 28;
+
+// The longest table of the list whose values are written out, and the longest, whose values are all alike.
 const VALUES_MAX: usize = 64;
+
+const ALIKE_MAX: usize = 65_537;
 
 fn of_valued(answer: Valued) -> Got {
     match answer {
@@ -79,9 +87,27 @@ fn evaluate_residue(text: &[u8], at: &mut usize, k: &[u8], w: &[u64], count: u64
     of_divided(with_residues(k, w, count, root, &table, length))
 }
 
+fn evaluate_alike(text: &[u8], at: &mut usize, k: &[u8], w: &[u64], count: u64) -> Got {
+    let root = next(text, at);
+    let length = length_of(next(text, at));
+    let value = double_of(next(text, at));
+    let table = [value; ALIKE_MAX];
+    of_valued(with_doubles(k, w, count, root, &table, length))
+}
+
+fn evaluate_residue_alike(text: &[u8], at: &mut usize, k: &[u8], w: &[u64], count: u64) -> Got {
+    let root = next(text, at);
+    let length = length_of(next(text, at));
+    let value = half_of(next(text, at));
+    let table = [value; ALIKE_MAX];
+    of_divided(with_residues(k, w, count, root, &table, length))
+}
+
 pub fn value(op: u64, text: &[u8], at: &mut usize, k: &[u8], w: &[u64], count: u64) -> Got {
-    if op == EVALUATE {
-        return evaluate(text, at, k, w, count);
+    match op {
+        EVALUATE => evaluate(text, at, k, w, count),
+        EVALUATE_RESIDUE => evaluate_residue(text, at, k, w, count),
+        EVALUATE_ALIKE => evaluate_alike(text, at, k, w, count),
+        _ => evaluate_residue_alike(text, at, k, w, count),
     }
-    evaluate_residue(text, at, k, w, count)
 }
