@@ -15,6 +15,7 @@ add-arms =
       literal-and-other-sum = refl;
       sum-and-literal = refl;
       other-sum-and-literal = refl;
+      not-folded = refl;
       sums = refl;
       sum-left = refl;
       sum-right = refl;
@@ -49,4 +50,5 @@ mul-arms =
       powers = refl;
       literal-last = refl;
       plain = refl;
+      no-power = refl;
     }

@@ -37,9 +37,10 @@ pub record AddArms : Type 0 where
   -- 2 + (y + 3), 2 + (x + y)
   pub literal-and-sum : addTable at 4 8 ≡ add (# 1) (lit (pos 5))
   pub literal-and-other-sum : addTable at 4 6 ≡ Add (# 6) (# 4)
-  -- (2 + x) + 3, (x + y) + 3
+  -- (2 + x) + 3, (x + y) + 3, and (x + 2) + 3, which is not folded
   pub sum-and-literal : addTable at 9 5 ≡ add (# 0) (lit (pos 5))
   pub other-sum-and-literal : addTable at 6 5 ≡ Add (# 6) (# 5)
+  pub not-folded : addTable at 7 5 ≡ Add (# 7) (# 5)
   -- (x + 2) + (y + 3), (x + 2) + (x + y), (x + y) + (y + 3)
   pub sums : addTable at 7 8 ≡ add (add (# 0) (# 1)) (lit (pos 5))
   pub sum-left : addTable at 7 6 ≡ add (add (# 0) (# 6)) (# 4)
@@ -78,6 +79,7 @@ pub record MulArms : Type 0 where
   pub same-factor : mulTable at 12 0 ≡ mul (# 1) (pow (# 0) 2)
   pub factor-and-power : mulTable at 12 20 ≡ mul (# 1) (pow (# 0) 4)
   pub powers : mulTable at 21 20 ≡ mul (# 1) (pow (# 0) 5)
-  -- x × 2, x × y
+  -- x × 2, x × y, and x × x, which is no power
   pub literal-last : mulTable at 0 4 ≡ Mul (# 4) (# 0)
   pub plain : mulTable at 0 1 ≡ Mul (# 0) (# 1)
+  pub no-power : mulTable at 0 0 ≡ Mul (# 0) (# 0)
