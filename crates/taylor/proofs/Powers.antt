@@ -1,19 +1,11 @@
--- "the square after the exponent's highest one bit is not taken": an expansion to the power 1 is one product and no square.
+-- "the square after the exponent's highest one bit is not taken": where 1 is left of the exponent, one product is taken and nothing more.
 -- Assumes nothing.
 use mathlib.Core.Path.{_≡_, refl}
-use Prim.Native.Nat.{ℕ}
+use Prim.Native.Nat.{ℕ, suc}
 use Rattle.pool.specs.Pool.{Pool}
-use Rattle.taylor.specs.Work.{Result, gives, refused-work, bind, yield, oneLit, _>>=_}
-use Rattle.taylor.specs.Expansion.{Expansion, Constant, times, powFrom, digits, power}
+use Rattle.taylor.specs.Work.{bind, yield}
+use Rattle.taylor.specs.Expansion.{Expansion, times, powFrom}
 
-yielded : (r : Result Expansion) → bind r yield ≡ r
-yielded (gives x P) = refl
-yielded (refused-work k) = refl
-
-once : (base : Expansion) (r : Result ℕ) → bind r (λ o. powFrom digits 1 (Constant o) base) ≡ bind r (λ o. times (Constant o) base)
+pub no-square-after-the-highest-bit : (k : ℕ) (res base : Expansion) (P : Pool) → powFrom (suc k) 1 res base P ≡ bind (times res base P) yield
 unfolding powFrom
-once base (gives o P) = yielded (times (Constant o) base P)
-once base (refused-work k) = refl
-
-pub no-square-in-the-first-power : (base : Expansion) (P : Pool) → power base 1 P ≡ (oneLit >>= (λ o. times (Constant o) base)) P
-no-square-in-the-first-power base P = once base (oneLit P)
+no-square-after-the-highest-bit k res base P = refl
