@@ -1,4 +1,5 @@
 pub mod Terms
 pub mod Patterns
 pub mod Tables
+pub mod Arms
 pub mod Build
