@@ -17,17 +17,17 @@ use Rattle.taylor.specs.Work.{Result, Work, at}
 use Rattle.taylor.specs.Expansion.{Expansion, Constant, Polynomial, endless}
 use Rattle.taylor_base.specs.Answers.{terms}
 use Rattle.taylor_rules.specs.Kept.{Fits}
-use Rattle.lent.specs.Call.{lentPool}
+use Rattle.lent.specs.Call.{lentPool, demand}
 use Rattle.lent.proofs.Finishing.{and-left, and-right}
 use Rattle.lent_series.specs.declared.series.Series.{Series}
 use Rattle.lent_series.specs.declared.call.Outcome.{Outcome}
 use Rattle.lent_series.specs.Series.{isConstant, nodesOf, lengthOk, given, seriesOf}
-use Rattle.lent_series.specs.Call.{Left, accepted, left, leaves, demand, givenSeries, givenTwo}
+use Rattle.lent_series.specs.Call.{Left, accepted, left, leaves, givenSeries, givenTwo}
 use Rattle.lent_series.proofs.Numbers.{few-entries, length-between}
 use Rattle.book_calls.specs.Calls.{Array, Answered}
 
 -- what is demanded holds where the work was accepted
-pub demanded : {A : Type 0} (t : Bool) (k : ℕ) {x : Result A} {e : A} {Q : Pool} → demand t k x ≡ done e Q → (t ≡ true) × (x ≡ done e Q)
+pub demanded : {A : Type 0} (t : Bool) (k : ℕ) {x : Result A} {e : A} {Q : Pool} → demand refused t k x ≡ done e Q → (t ≡ true) × (x ≡ done e Q)
 demanded true k h = (refl, h)
 demanded {A} false k {x} {e} {Q} h = absurd (never h)
   where
@@ -46,10 +46,10 @@ pub record Done (work : Work Expansion) (ks ws : List ℕ) (n : ℕ) (r : Outcom
   pub count : n′ ≡ finish .count
 
 pub done-by : {work : Work Expansion} {ks ws : List ℕ} {n : ℕ} {r : Outcome} {ks′ ws′ : List ℕ} {n′ : ℕ} → Answered work ks ws n r ks′ ws′ n′ → Done work ks ws n r ks′ ws′ n′
-done-by {work} {ks} {ws} {n} {r} {ks′} {ws′} {n′} h = go (demand (isPool ks ws n) brokenPool (work (lentPool ks ws n))) refl (h .contract) (h .accepted)
+done-by {work} {ks} {ws} {n} {r} {ks′} {ws′} {n′} h = go (demand refused (isPool ks ws n) brokenPool (work (lentPool ks ws n))) refl (h .contract) (h .accepted)
   where
     go :
-        (x : Result Expansion) → demand (isPool ks ws n) brokenPool (work (lentPool ks ws n)) ≡ x → left r ks′ ws′ n′ ≡ leaves ks ws n x → 1 ≤ r .series .order
+        (x : Result Expansion) → demand refused (isPool ks ws n) brokenPool (work (lentPool ks ws n)) ≡ x → left r ks′ ws′ n′ ≡ leaves ks ws n x → 1 ≤ r .series .order
         → Done work ks ws n r ks′ ws′ n′
     go (done e Q) d c some =
         let both = demanded (isPool ks ws n) brokenPool d in

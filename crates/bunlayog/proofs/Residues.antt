@@ -15,7 +15,8 @@ use Rattle.pool.proofs.Folds.{below}
 use Rattle.walks.specs.EvaluateResidue.{evaluateResidue}
 use Rattle.evaluate_residue.specs.Residues.{Below}
 use Rattle.evaluate_residue.proofs.Modulo.{answer-below}
-use Rattle.engine_values.specs.Values.{demandResidue, areResidues, evaluateResidueCall}
+use Rattle.engine_values.specs.Values.{areResidues, evaluateResidueCall}
+use Rattle.lent.specs.Call.{demand}
 use Rattle.engine_values.proofs.Evaluates.{residues-below}
 
 pub is-below : {r : Divided} {x : ℕ} → r ≡ Residue x → Below fixedModulus r → x < fixedModulus
@@ -26,7 +27,7 @@ fixed = record { least = omega arith; most = omega arith }
 
 module _ (ks ws : List ℕ) (n root : ℕ) (values : List ℕ) where
   tested-below :
-      (p g a : Bool) → areResidues values ≡ a → Below fixedModulus (demandResidue p brokenPool (demandResidue g unknownNode (demandResidue a wrongValues (evaluateResidue fixedModulus (nodeIn ks ws) values root))))
+      (p g a : Bool) → areResidues values ≡ a → Below fixedModulus (demand Refused p brokenPool (demand Refused g unknownNode (demand Refused a wrongValues (evaluateResidue fixedModulus (nodeIn ks ws) values root))))
   tested-below false g a e = tt
   tested-below true false a e = tt
   tested-below true true false e = tt

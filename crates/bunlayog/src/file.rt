@@ -3,10 +3,9 @@ ghost use mathlib.Core.Path.{_≡_};
 ghost use Rattle.shape.specs.File.{readFile};
 ghost use Rattle.lent.specs.Call.{onPool};
 ghost use Rattle.engine_file.specs.Write.{writeCall};
-ghost use Rattle.c_answers.specs.Interface.{leftInC, inC, outputInC};
-ghost use Rattle.c_answers.specs.Files.{fileInC};
+ghost use Rattle.c_answers.specs.Interface.{leftInC, inC, outputInC, writtenInC};
 use c_answers::answered;
-use c_answers::file_answered;
+use c_answers::written_answered;
 
 #[no_mangle]
 pub extern "C" fn bunlayog_write(
@@ -17,9 +16,9 @@ pub extern "C" fn bunlayog_write(
     out: &mut [u8],
     written: &mut u64,
 ) -> u32
-    ensures { λ r. ⌜ outputInC r (now (out .exit)) (now (written .exit)) ≡ fileInC (now (written .entry)) (writeCall (now (kinds .entry)) (now (words .entry)) count root (now (out .entry))) ⌝ }
+    ensures { λ r. ⌜ outputInC r (now (out .exit)) (now (written .exit)) ≡ writtenInC (now (written .entry)) (writeCall (now (kinds .entry)) (now (words .entry)) count root (now (out .entry))) ⌝ }
 {
-    file_answered(engine_file::write(kinds, words, count, root, out), written)
+    written_answered(engine_file::write(kinds, words, count, root, out), written)
 }
 
 #[no_mangle]

@@ -12,14 +12,10 @@ use Rattle.residue.specs.declared.Divided.{Divided}
 use Rattle.residue.specs.declared.Divided.the-variants as divided
 use Rattle.lent.specs.Call.{Left, left}
 use Rattle.lent.specs.declared.Answer.{Answer}
-use Rattle.engine_print.specs.Printing.{Put, put}
-use Rattle.engine_print.specs.declared.Written as text
-use Rattle.engine_file.specs.Write.{Output, output}
-use Rattle.engine_file.specs.declared.Written as file
-use Rattle.c_answers.specs.Interface.{checkNumber, leftInC, inC, numberOf, nodeOr, valueInC, outputInC}
+use Rattle.lent.specs.Writing.{Put, put}
+use Rattle.lent.specs.declared.Written.{Written}
+use Rattle.c_answers.specs.Interface.{checkNumber, leftInC, inC, numberOf, nodeOr, valueInC, outputInC, writtenInC, writtenNumber, lengthOr}
 use Rattle.c_answers.specs.Values.{bitsInC, residueInC}
-use Rattle.c_answers.specs.Printing.{printedInC, textNumber, textLengthOr}
-use Rattle.c_answers.specs.Files.{fileInC, fileNumber, fileLengthOr}
 
 -- the test of the pool came out true, or false
 pub keeps : {r t : Bool} → r ≡ t → r ≡ true → 0 ≡ checkNumber t
@@ -43,8 +39,5 @@ pub no-residue : {a : Divided} {k : ℕ} (before : ℕ) → a ≡ divided.Refuse
 no-residue before e = rw e
 
 -- a call that writes to an output
-pub text-in-c : {a : text.Written} {out : List ℕ} (before : ℕ) {L : Put} {r n : ℕ} → put a out ≡ L → r ≡ textNumber a → n ≡ textLengthOr a before → outputInC r out n ≡ printedInC before L
-text-in-c before e p q = rw (p, q) (ap (printedInC before) e)
-
-pub file-in-c : {a : file.Written} {out : List ℕ} (before : ℕ) {L : Output} {r n : ℕ} → output a out ≡ L → r ≡ fileNumber a → n ≡ fileLengthOr a before → outputInC r out n ≡ fileInC before L
-file-in-c before e p q = rw (p, q) (ap (fileInC before) e)
+pub written-in-c : {a : Written} {out : List ℕ} (before : ℕ) {L : Put} {r n : ℕ} → put a out ≡ L → r ≡ writtenNumber a → n ≡ lengthOr a before → outputInC r out n ≡ writtenInC before L
+written-in-c before e p q = rw (p, q) (ap (writtenInC before) e)

@@ -6,8 +6,11 @@ use mathlib.Core.List.{List}
 use Prim.Native.Nat.{ℕ}
 use Rattle.refusals.specs.Refusals.{brokenPool}
 use Rattle.lent.specs.Call.{Left}
+use Rattle.lent.specs.Writing.{Put}
 use Rattle.lent.specs.declared.Answer.{Answer}
 use Rattle.lent.specs.declared.Answer.the-variants.{Node, Refused}
+use Rattle.lent.specs.declared.Written.{Written}
+use Rattle.lent.specs.declared.Written.the-variants as written
 
 -- the test of a pool: 0, or 1
 abbrev pub checkNumber : Bool → ℕ
@@ -54,3 +57,15 @@ pub record OutputInC : Type 0 where
 
 abbrev pub outputInC : ℕ → List ℕ → ℕ → OutputInC
 outputInC r out n = record { answer = r; out = out; written = n }
+
+abbrev pub writtenNumber : Written → ℕ
+writtenNumber (written.Length n) = 0
+writtenNumber (written.Refused k) = k
+
+-- how many bytes, or what stood there before
+abbrev pub lengthOr : Written → ℕ → ℕ
+lengthOr (written.Length n) before = n
+lengthOr (written.Refused k) before = before
+
+abbrev pub writtenInC : ℕ → Put → OutputInC
+writtenInC before o = outputInC (writtenNumber (o .answer)) (o .out) (lengthOr (o .answer) before)

@@ -1,13 +1,12 @@
 // An entry point's answer in C's terms: what it gives goes to its place, and a refusal leaves the place as it was. The number is 0 or the refusal.
 ghost use mathlib.Core.Path.{_≡_};
-ghost use Rattle.c_answers.specs.Interface.{numberOf, nodeOr, valueInC};
+ghost use Rattle.c_answers.specs.Interface.{numberOf, nodeOr, valueInC, writtenNumber, lengthOr};
 ghost use Rattle.c_answers.specs.Values.{bitsInC};
-ghost use Rattle.c_answers.specs.Printing.{textNumber, textLengthOr};
-ghost use Rattle.c_answers.specs.Files.{fileNumber, fileLengthOr};
 ghost use Rattle.c_answers.specs.Expansions.{countInC, outcomeLeftInC, outcomeInC};
 use double::Valued;
 use engine_series::Counted;
 use lent::Answer;
+use lent::Written;
 use lent_series::Outcome;
 use taylor_base::TERMS;
 
@@ -36,29 +35,16 @@ pub fn bits_answered(answer: Valued, bits: &mut u64) -> u32
     }
 }
 
-pub fn text_answered(answer: engine_print::Written, written: &mut u64) -> u32
-    ensures { λ r. ⌜ r ≡ textNumber answer ⌝ }
-    ensures { λ r. ⌜ now (written .exit) ≡ textLengthOr answer (now (written .entry)) ⌝ }
+pub fn written_answered(answer: Written, written: &mut u64) -> u32
+    ensures { λ r. ⌜ r ≡ writtenNumber answer ⌝ }
+    ensures { λ r. ⌜ now (written .exit) ≡ lengthOr answer (now (written .entry)) ⌝ }
 {
     match answer {
-        engine_print::Written::Length(n) => {
+        Written::Length(n) => {
             *written = n;
             0
         }
-        engine_print::Written::Refused(number) => number,
-    }
-}
-
-pub fn file_answered(answer: engine_file::Written, written: &mut u64) -> u32
-    ensures { λ r. ⌜ r ≡ fileNumber answer ⌝ }
-    ensures { λ r. ⌜ now (written .exit) ≡ fileLengthOr answer (now (written .entry)) ⌝ }
-{
-    match answer {
-        engine_file::Written::Length(n) => {
-            *written = n;
-            0
-        }
-        engine_file::Written::Refused(number) => number,
+        Written::Refused(number) => number,
     }
 }
 

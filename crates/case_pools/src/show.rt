@@ -1,7 +1,7 @@
 // A node's text.
 use case_lines::put_first;
 use case_lines::put_refused;
-use engine_print::Written;
+use lent::Written;
 
 // The text of a root, where it has at most 64 bytes, or the refusal.
 pub fn put_text(kinds: &[u8], words: &[u64], count: u64, root: u64) {

@@ -10,7 +10,7 @@ use Rattle.literal.specs.Literal.{isLiteral}
 use Rattle.pool.specs.declared.node.Node.{Node}
 use Rattle.pool.specs.declared.node.Node.the-variants.{Lit, Variable}
 use Rattle.pool.specs.Nodes.{greatestVariable}
-use Rattle.pool.specs.Pool.{Run, append}
+use Rattle.pool.specs.Pool.{Run, append, refused}
 use Rattle.lent.specs.Call.{demand, givenNodes}
 use Rattle.constructor_calls.specs.declared.two.Two.{Two}
 use Rattle.constructor_calls.specs.declared.one.One.{One}
@@ -18,7 +18,7 @@ use Rattle.constructor_calls.specs.Calls.{twoWork, oneWork}
 
 -- a leaf: its own refusal, then the node
 abbrev pub leafWork : Bool → ℕ → Node → Run
-leafWork allowed k n P = demand allowed k (append n P)
+leafWork allowed k n P = demand refused allowed k (append n P)
 
 -- a literal: 4
 abbrev pub litWork : ℤ → Run

@@ -18,17 +18,19 @@ use Rattle.shape.specs.Demand.{KeepsRules}
 use Rattle.shape.proofs.Pools.{rules-of}
 use Rattle.shape.proofs.Demand3.{length-of-a-file, size-of-a-file}
 use Rattle.lent.proofs.Finishing.{one-is-below}
-use Rattle.engine_file.specs.Write.{Output, output, demandOf, fileOver, writeCall}
+use Rattle.lent.specs.Call.{demand}
+use Rattle.lent.specs.Writing.{Put, unwritten, writes}
+use Rattle.engine_file.specs.Write.{fileOver, writeCall}
 use Rattle.engine_file.specs.Outcome.{writtenFrom, fileIn, Accepted}
-use Rattle.engine_file.specs.declared.Written.{Written}
-use Rattle.engine_file.specs.declared.Written.the-variants.{Length, Refused}
+use Rattle.lent.specs.declared.Written.{Written}
+use Rattle.lent.specs.declared.Written.the-variants.{Length, Refused}
 
 IsLength : Written → Type 0
 IsLength (Length n) = Unit {0}
 IsLength (Refused k) = ⊥
 
 -- an accepted call has passed each test
-passed : (old : List ℕ) (t : Bool) (k : ℕ) (then : Output) → Accepted (demandOf old t k then) → (t ≡ true) × (demandOf old t k then ≡ then) × Accepted then
+passed : (old : List ℕ) (t : Bool) (k : ℕ) (then : Put) → Accepted (demand (unwritten old) t k then) → (t ≡ true) × (demand (unwritten old) t k then ≡ then) × Accepted then
 unfolding IsLength
 passed old true k then a = (refl, refl, a)
 passed old false k then (m, e) = absurd (subst⁻¹ IsLength e tt)
@@ -38,8 +40,8 @@ module _ (P : Pool) (r : ℕ) (old : List ℕ) where
   file = fileFrom P r
 
   -- the file, and the output's bytes past it as they were
-  abbrev written : Output
-  written = output (Length (length file)) (file ++ drop (length file) old)
+  abbrev written : Put
+  written = writes file old
 
   pub record Writes : Type 0 where
     pub given : r < P .count
@@ -49,7 +51,7 @@ module _ (P : Pool) (r : ℕ) (old : List ℕ) where
   pub accepted-writes : Accepted (writtenFrom P r old) → Writes
   unfolding writeCall
   accepted-writes a =
-      let (rules, whole, a₁) = passed old (isPool (P .kinds) (P .words) (P .count)) brokenPool (demandOf old (allBelow (P .count) (r ∷ [])) unknownNode (fileOver old file)) a in
+      let (rules, whole, a₁) = passed old (isPool (P .kinds) (P .words) (P .count)) brokenPool (demand (unwritten old) (allBelow (P .count) (r ∷ [])) unknownNode (fileOver old file)) a in
       let (known, rest, a₂) = passed old (allBelow (P .count) (r ∷ [])) unknownNode (fileOver old file) a₁ in
       let (room, last, a₃) = passed old (leb (length file) (length old)) noRoom written a₂ in
       record { given = one-is-below (P .count) r known; fits = leb-true (length file) (length old) room; is = whole ∙ rest ∙ last }

@@ -15,34 +15,36 @@ use Rattle.lent.proofs.Calling.{is-pool}
 use Rattle.node_write.specs.Output.{HasRoot, Wrote, wrote, puts}
 use Rattle.node_write.specs.declared.FileLength.{FileLength}
 use Rattle.node_write.specs.declared.FileLength.the-variants.{Bytes, NoRoom}
-use Rattle.engine_file.specs.Write.{Output, output, demandOf, fileOver, writeCall}
-use Rattle.engine_file.specs.declared.Written.{Written}
-use Rattle.engine_file.specs.declared.Written.the-variants.{Length, Refused}
+use Rattle.engine_file.specs.Write.{fileOver, writeCall}
+use Rattle.lent.specs.Call.{demand}
+use Rattle.lent.specs.Writing.{Put, put, unwritten, writes}
+use Rattle.lent.specs.declared.Written.{Written}
+use Rattle.lent.specs.declared.Written.the-variants.{Length, Refused}
 
 -- the answer to the caller
 answerOf : FileLength → Written
 answerOf (Bytes m) = Length m
 answerOf NoRoom = Refused noRoom
 
-told : Wrote → Output
-told x = output (answerOf (x .answer)) (x .out)
+told : Wrote → Put
+told x = put (answerOf (x .answer)) (x .out)
 
 told-is : (old file : List ℕ) → told (puts file old) ≡ fileOver old file
 unfolding puts told answerOf
 told-is old file = go (leb (length file) (length old))
   where
     go : (t : Bool)
-        → told (cond t (wrote (Bytes (length file)) (file ++ drop (length file) old)) (wrote NoRoom old)) ≡ demandOf old t noRoom (output (Length (length file)) (file ++ drop (length file) old))
+        → told (cond t (wrote (Bytes (length file)) (file ++ drop (length file) old)) (wrote NoRoom old)) ≡ demand (unwritten old) t noRoom (writes file old)
     go true = refl
     go false = refl
 
 module _ {r : Bool} {ks ws : List ℕ} {n : ℕ} {k w : List ℕ} (t : TakenIn r ks ws n k w) (root : ℕ) (old : List ℕ) where
-  pub pool-refused : r ≡ false → output (Refused brokenPool) old ≡ writeCall ks ws n root old
+  pub pool-refused : r ≡ false → put (Refused brokenPool) old ≡ writeCall ks ws n root old
   unfolding writeCall
   pool-refused e = rw (sym (t .tested) ∙ e)
 
   module _ (e : r ≡ true) where
-    pub root-refused : allBelow n (root ∷ []) ≡ false → output (Refused unknownNode) old ≡ writeCall ks ws n root old
+    pub root-refused : allBelow n (root ∷ []) ≡ false → put (Refused unknownNode) old ≡ writeCall ks ws n root old
     unfolding writeCall
     root-refused f = rw (is-pool t e, f)
 
@@ -50,18 +52,18 @@ module _ {r : Bool} {ks ws : List ℕ} {n : ℕ} {k w : List ℕ} (t : TakenIn r
       pub has-root : HasRoot k w root
       has-root = rw (t .kinds-copied e, t .words-copied e) (record { count = n; rules = is-pool t e; given = one-is-below n root given })
 
-      written-over : (f : FileLength) (out : List ℕ) → wrote f out ≡ puts (writtenFile k w root) old → {a : Written} → a ≡ answerOf f → output a out ≡ writeCall ks ws n root old
+      written-over : (f : FileLength) (out : List ℕ) → wrote f out ≡ puts (writtenFile k w root) old → {a : Written} → a ≡ answerOf f → put a out ≡ writeCall ks ws n root old
       unfolding writeCall told
       written-over f out h g =
-          ap (λ x. output x out) g
+          ap (λ x. put x out) g
           ∙ ap told h
           ∙ told-is old (writtenFile k w root)
           ∙ rw (is-pool t e, given) (ap₂ (λ a b. fileOver old (writtenFile a b root)) (t .kinds-copied e) (t .words-copied e))
 
-      pub file-there : {f : FileLength} {m : ℕ} (out : List ℕ) → f ≡ Bytes m → wrote f out ≡ puts (writtenFile k w root) old → output (Length m) out ≡ writeCall ks ws n root old
+      pub file-there : {f : FileLength} {m : ℕ} (out : List ℕ) → f ≡ Bytes m → wrote f out ≡ puts (writtenFile k w root) old → put (Length m) out ≡ writeCall ks ws n root old
       unfolding answerOf
       file-there {f} out g h = written-over f out h (sym (ap answerOf g))
 
-      pub no-room-there : {f : FileLength} (out : List ℕ) → f ≡ NoRoom → wrote f out ≡ puts (writtenFile k w root) old → output (Refused noRoom) out ≡ writeCall ks ws n root old
+      pub no-room-there : {f : FileLength} (out : List ℕ) → f ≡ NoRoom → wrote f out ≡ puts (writtenFile k w root) old → put (Refused noRoom) out ≡ writeCall ks ws n root old
       unfolding answerOf
       no-room-there {f} out g h = written-over f out h (sym (ap answerOf g))

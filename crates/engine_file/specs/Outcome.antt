@@ -8,12 +8,13 @@ use Rattle.pool.specs.Pool.{Pool}
 use Rattle.shape.specs.File.{readFile}
 use Rattle.lent.specs.Call.{Left, lentPool, onPool}
 use Rattle.lent.specs.declared.Answer.the-variants.{Node}
-use Rattle.engine_file.specs.Write.{Output, writeCall}
-use Rattle.engine_file.specs.declared.Written.{Written}
-use Rattle.engine_file.specs.declared.Written.the-variants.{Length, Refused}
+use Rattle.engine_file.specs.Write.{writeCall}
+use Rattle.lent.specs.Writing.{Put}
+use Rattle.lent.specs.declared.Written.{Written}
+use Rattle.lent.specs.declared.Written.the-variants.{Length, Refused}
 
 -- writing from a root of a lent pool
-abbrev pub writtenFrom : Pool → ℕ → List ℕ → Output
+abbrev pub writtenFrom : Pool → ℕ → List ℕ → Put
 writtenFrom P root old = writeCall (P .kinds) (P .words) (P .count) root old
 
 -- the bytes of the file in the output, none after a refusal
@@ -21,11 +22,11 @@ abbrev pub bytesIn : Written → List ℕ → List ℕ
 bytesIn (Length m) out = take m out
 bytesIn (Refused k) out = []
 
-abbrev pub fileIn : Output → List ℕ
+abbrev pub fileIn : Put → List ℕ
 fileIn o = bytesIn (o .answer) (o .out)
 
 -- the call is accepted, with a length
-abbrev pub Accepted : Output → Type 0
+abbrev pub Accepted : Put → Type 0
 Accepted o = (m : ℕ) × (o .answer ≡ Length m)
 
 -- reading into a lent pool, that is full at the limit

@@ -2,21 +2,17 @@
 ghost use mathlib.Core.Path.{_≡_};
 ghost use Rattle.shape.specs.File.{readFile};
 ghost use Rattle.lent.specs.Call.{left, onPool};
-ghost use Rattle.engine_file.specs.Write.{output, writeCall};
+ghost use Rattle.engine_file.specs.Write.{writeCall};
+ghost use Rattle.lent.specs.Writing.{put};
 use lent::Answer;
+use lent::Written;
 use node_write::FileLength;
 use pool::LIMIT;
 use pool::Room;
 
-// What writing gives: how many bytes the file has, or the refusal number.
-pub enum Written {
-    Length(u64),
-    Refused(u32),
-}
-
 // The node file of a root, written into the lent output.
 pub fn write(kinds: &[u8], words: &[u64], count: u64, root: u64, out: &mut [u8]) -> Written
-    ensures { λ r. ⌜ output r (now (out .exit)) ≡ writeCall (now (kinds .entry)) (now (words .entry)) count root (now (out .entry)) ⌝ }
+    ensures { λ r. ⌜ put r (now (out .exit)) ≡ writeCall (now (kinds .entry)) (now (words .entry)) count root (now (out .entry)) ⌝ }
 {
     let mut k = [0u8; LIMIT];
     let mut w = [0u64; LIMIT];

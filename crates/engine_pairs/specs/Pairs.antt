@@ -32,3 +32,9 @@ lengthsOk binary.Subst s t = (lengthOk s && lengthOk t) && agree s t
 
 abbrev pub onTwo : Binary → Series → Series → Work Expansion
 onTwo op s t = givenTwo s t (lengthsOk op s t) (binaryWork op (given s) (given t))
+
+abbrev pub addCall : Series → Series → Work Expansion
+addCall s t = onTwo binary.Add s t
+
+abbrev pub substCall : Series → Series → Work Expansion
+substCall s t = onTwo binary.Subst s t

@@ -12,8 +12,9 @@ use Rattle.pool.specs.Nodes.{allBelow}
 use Rattle.pool.specs.Pool.{nodeIn, isPool}
 use Rattle.walks.specs.Print.{textOf, hasMax, longestText}
 use Rattle.print.specs.Output.{Printed}
-use Rattle.engine_print.specs.Printing.{put, printCall}
-use Rattle.engine_print.specs.declared.Written.the-variants.{Length, Refused}
+use Rattle.engine_print.specs.Printing.{printCall}
+use Rattle.lent.specs.Writing.{put}
+use Rattle.lent.specs.declared.Written.the-variants.{Length, Refused}
 
 module _ (ks ws : List ℕ) (n root : ℕ) (out : List ℕ) where
   pub not-a-pool : isPool ks ws n ≡ false → put (Refused brokenPool) out ≡ printCall ks ws n root out

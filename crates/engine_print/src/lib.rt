@@ -1,13 +1,9 @@
 // Printing as a call from outside.
 ghost use mathlib.Core.Path.{_≡_};
-ghost use Rattle.engine_print.specs.Printing.{put, printCall};
+ghost use Rattle.engine_print.specs.Printing.{printCall};
+ghost use Rattle.lent.specs.Writing.{put};
+use lent::Written;
 use pool::LIMIT;
-
-// How many bytes were written, or the refusal number.
-pub enum Written {
-    Length(u64),
-    Refused(u32),
-}
 
 // The text of an expression, into a lent output; `print_into` leaves the output as it is where the text is too long or has no room there.
 pub fn print(kinds: &[u8], words: &[u64], count: u64, root: u64, out: &mut [u8]) -> Written

@@ -6,14 +6,15 @@ use Prim.Native.Nat.{ℕ}
 use lib.Dec.{eqb, ltb}
 use Rattle.refusals.specs.Refusals.{brokenPool, unknownNode, wrongOrder}
 use Rattle.pool.specs.Nodes.{allBelow}
-use Rattle.pool.specs.Pool.{Run, isPool}
+use Rattle.pool.specs.Pool.{Run, isPool, refused}
 use Rattle.taylor.specs.Work.{Work}
 use Rattle.taylor.specs.Expansion.{Expansion, var, coeff, order, derivative, negate, exponential, logarithm, power}
 use Rattle.taylor_base.specs.Answers.{terms}
 use Rattle.lent_series.specs.declared.series.Series.{Series}
 use Rattle.lent_series.specs.declared.call.Outcome.{Outcome}
 use Rattle.lent_series.specs.Series.{isConstant, nodesOf, lengthOk, given}
-use Rattle.lent_series.specs.Call.{demand, givenSeries, asRun, accepted, refusal}
+use Rattle.lent.specs.Call.{demand}
+use Rattle.lent_series.specs.Call.{givenSeries, asRun, accepted, refusal}
 use Rattle.engine_series.specs.declared.unary.Unary.{Unary}
 use Rattle.engine_series.specs.declared.unary.Unary.the-variants as unary
 use Rattle.engine_series.specs.declared.indexed.Indexed.{Indexed}
@@ -41,14 +42,14 @@ abbrev pub hasIndex : Series → ℕ → Bool
 hasIndex s k = lengthOk s && (isConstant s || ltb k (s .order))
 
 abbrev pub givenIndex : Series → ℕ → Work ℕ → Work ℕ
-givenIndex s k work P = demand (allBelow (P .count) (nodesOf s)) unknownNode (demand (hasIndex s k) wrongOrder (work P))
+givenIndex s k work P = demand refused (allBelow (P .count) (nodesOf s)) unknownNode (demand refused (hasIndex s k) wrongOrder (work P))
 
 abbrev pub onIndex : Indexed → Series → ℕ → Run
 onIndex op s k = asRun (givenIndex s k (indexedWork op (given s) k))
 
 -- ---- of a variable; 5. "An order is above 24"
 abbrev pub varWork : ℕ → ℕ → Work Expansion
-varWork x n P = demand (allBelow (P .count) (x ∷ [])) unknownNode (demand (ltb n terms) wrongOrder (var x n P))
+varWork x n P = demand refused (allBelow (P .count) (x ∷ [])) unknownNode (demand refused (ltb n terms) wrongOrder (var x n P))
 
 -- ---- what is only read
 -- the first of 1, 2 and 5 that holds, or 0

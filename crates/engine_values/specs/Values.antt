@@ -1,6 +1,6 @@
 -- Evaluation as calls from outside: 1, 2 and 6 first, then the work. Nothing that is lent changes.
 -- Assumes nothing.
-use mathlib.Core.Bool.{Bool, true, false, _&&_}
+use mathlib.Core.Bool.{Bool, _&&_}
 use mathlib.Core.List.{List, [], _∷_}
 use Prim.Native.Nat.{ℕ}
 use lib.Dec.{leb, ltb}
@@ -14,6 +14,7 @@ use Rattle.residue.specs.declared.Divided.{Divided}
 use Rattle.residue.specs.declared.Divided.the-variants as divided
 use Rattle.pool.specs.Nodes.{allBelow}
 use Rattle.pool.specs.Pool.{nodeIn, each, isPool}
+use Rattle.lent.specs.Call.{demand}
 use Rattle.walks.specs.Evaluate.{evaluate}
 use Rattle.walks.specs.EvaluateResidue.{evaluateResidue}
 
@@ -21,20 +22,12 @@ use Rattle.walks.specs.EvaluateResidue.{evaluateResidue}
 abbrev pub mostValues : ℕ
 mostValues = 65536
 
-abbrev pub demandValue : Bool → ℕ → Valued → Valued
-demandValue true k v = v
-demandValue false k v = valued.Refused k
-
 unfoldable pub evaluateCall : List ℕ → List ℕ → ℕ → ℕ → List Float → Valued
 evaluateCall ks ws n root values =
-    demandValue (isPool ks ws n) brokenPool
-    (demandValue (allBelow n (root ∷ [])) unknownNode
-    (demandValue (leb (length values) mostValues) wrongValues
+    demand valued.Refused (isPool ks ws n) brokenPool
+    (demand valued.Refused (allBelow n (root ∷ [])) unknownNode
+    (demand valued.Refused (leb (length values) mostValues) wrongValues
     (evaluate (nodeIn ks ws) values root)))
-
-abbrev pub demandResidue : Bool → ℕ → Divided → Divided
-demandResidue true k r = r
-demandResidue false k r = divided.Refused k
 
 -- "or a residue in it is 2,147,483,647 or more"
 abbrev pub areResidues : List ℕ → Bool
@@ -42,7 +35,7 @@ areResidues values = leb (length values) mostValues && each (length values) (λ 
 
 unfoldable pub evaluateResidueCall : List ℕ → List ℕ → ℕ → ℕ → List ℕ → Divided
 evaluateResidueCall ks ws n root values =
-    demandResidue (isPool ks ws n) brokenPool
-    (demandResidue (allBelow n (root ∷ [])) unknownNode
-    (demandResidue (areResidues values) wrongValues
+    demand divided.Refused (isPool ks ws n) brokenPool
+    (demand divided.Refused (allBelow n (root ∷ [])) unknownNode
+    (demand divided.Refused (areResidues values) wrongValues
     (evaluateResidue fixedModulus (nodeIn ks ws) values root)))

@@ -1,7 +1,7 @@
 // Node files written and read: the example of document 01, equal and different shapes, and bad files that must get their number, a line each.
 // The file stdout was made from document 01 alone, its bytes laid out by a few lines of Python; it is no copy of what this program wrote.
-use engine_file::Written;
 use lent::Answer;
+use lent::Written;
 use libc::STDOUT_FILENO;
 use pool::LIMIT;
 

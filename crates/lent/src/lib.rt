@@ -27,6 +27,12 @@ pub enum Answer {
     Refused(u32),
 }
 
+// What a call that fills an output gives: how many bytes were written, or the refusal number.
+pub enum Written {
+    Length(u64),
+    Refused(u32),
+}
+
 // Whether the tables and the count are a pool. Where they are, both tables are copied over tables of zeros, which a pool has from the count on. A test
 // that copies on its way is slower: it stops at the first entry that breaks a rule, and so goes entry by entry through all the zeros.
 pub fn take_in(

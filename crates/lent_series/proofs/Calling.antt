@@ -12,7 +12,7 @@ use Rattle.pool.specs.Made.{emptyRoom, nextOf, made}
 use Rattle.pool.proofs.Rooms.{next-of-count, end-of-count}
 use Rattle.constructor_laws.specs.Grown as plain
 use Rattle.lent.specs.Lent.{TakenIn}
-use Rattle.lent.specs.Call.{lentPool}
+use Rattle.lent.specs.Call.{lentPool, demand}
 use Rattle.lent.specs.Call as lent
 use Rattle.lent.specs.declared.Answer.{Answer}
 use Rattle.lent.specs.declared.Answer.the-variants.{Node, Refused}
@@ -24,10 +24,10 @@ use Rattle.taylor_base.specs.declared.answer.Status.{Status}
 use Rattle.taylor_base.specs.declared.answer.Status.the-variants as status
 use Rattle.taylor_laws.specs.Grown.{Grows}
 use Rattle.taylor_laws.proofs.Growing.{Growing}
-use Rattle.lent_series.specs.Call.{accepted, refusal, Left, left, leaves, demand, onPool, out, statusMade}
+use Rattle.lent_series.specs.Call.{accepted, refusal, Left, left, leaves, onPool, out, statusMade}
 
 -- a demand that is met
-pub met : {A : Type 0} {t : Bool} (k : ℕ) {x : Result A} → t ≡ true → x ≡ demand t k x
+pub met : {A : Type 0} {t : Bool} (k : ℕ) {x : Result A} → t ≡ true → x ≡ demand refused-work t k x
 met k e = rw e
 
 -- ---- what puts the entries back

@@ -8,7 +8,7 @@ use Rattle.pool.specs.Nodes.{allBelow}
 use Rattle.pool.specs.Pool.{Pool, Out, done, refused, Run, isPool}
 use Rattle.pool.specs.declared.table.Made as made-node
 use Rattle.pool.specs.declared.table.Made.the-variants as made-as
-use Rattle.lent.specs.Call.{lentPool}
+use Rattle.lent.specs.Call.{lentPool, demand}
 use Rattle.taylor.specs.Work.{Result, Work}
 use Rattle.taylor.specs.Expansion.{Expansion}
 use Rattle.taylor_base.specs.declared.answer.Status.{Status}
@@ -39,22 +39,17 @@ abbrev pub leaves : List ℕ → List ℕ → ℕ → Result Expansion → Left
 leaves ks ws n (done e P) = left (accepted e) (P .kinds) (P .words) (P .count)
 leaves ks ws n (refused k) = left (refusal k) ks ws n
 
--- "1 to 9 are checked first, smallest number first": what must hold, or the refusal number
-abbrev pub demand : {A : Type 0} → Bool → ℕ → Result A → Result A
-demand true k out = out
-demand false k out = refused k
-
 -- a call that works on the pool: 1 first, and then what the call demands of its other arguments
 abbrev pub onPool : Work Expansion → List ℕ → List ℕ → ℕ → Left
-onPool work ks ws n = leaves ks ws n (demand (isPool ks ws n) brokenPool (work (lentPool ks ws n)))
+onPool work ks ws n = leaves ks ws n (demand refused (isPool ks ws n) brokenPool (work (lentPool ks ws n)))
 
 -- 2, then 5, of the expansion given
 abbrev pub givenSeries : {A : Type 0} → Series → Work A → Work A
-givenSeries s work P = demand (allBelow (P .count) (nodesOf s)) unknownNode (demand (lengthOk s) wrongOrder (work P))
+givenSeries s work P = demand refused (allBelow (P .count) (nodesOf s)) unknownNode (demand refused (lengthOk s) wrongOrder (work P))
 
 -- 2 of both, then 5, of which is said what it is
 abbrev pub givenTwo : {A : Type 0} → Series → Series → Bool → Work A → Work A
-givenTwo s t lengths work P = demand (allBelow (P .count) (nodesOf s) && allBelow (P .count) (nodesOf t)) unknownNode (demand lengths wrongOrder (work P))
+givenTwo s t lengths work P = demand refused (allBelow (P .count) (nodesOf s) && allBelow (P .count) (nodesOf t)) unknownNode (demand refused lengths wrongOrder (work P))
 
 -- work that gives a node, as the calls that give one have it
 abbrev pub out : Result ℕ → Out

@@ -16,23 +16,23 @@ const ROOM_MAX: usize = 65_536;
 
 const BEFORE: u8 = 165;
 
-fn of_print(answer: engine_print::Written) -> Got {
+fn of_print(answer: lent::Written) -> Got {
     match answer {
-        engine_print::Written::Length(n) => Got {
+        lent::Written::Length(n) => Got {
             number: 0,
             value: n,
         },
-        engine_print::Written::Refused(number) => of_refusal(number),
+        lent::Written::Refused(number) => of_refusal(number),
     }
 }
 
-fn of_file(answer: engine_file::Written) -> Got {
+fn of_file(answer: lent::Written) -> Got {
     match answer {
-        engine_file::Written::Length(n) => Got {
+        lent::Written::Length(n) => Got {
             number: 0,
             value: n,
         },
-        engine_file::Written::Refused(number) => of_refusal(number),
+        lent::Written::Refused(number) => of_refusal(number),
     }
 }
 

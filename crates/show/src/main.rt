@@ -1,6 +1,6 @@
 // The program `show`: the expression in nodes.bin as text, for an author who wants to look at a file.
-use engine_print::Written;
 use lent::Answer;
+use lent::Written;
 use libc::STDOUT_FILENO;
 use pool::LIMIT;
 

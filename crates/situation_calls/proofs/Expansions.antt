@@ -18,10 +18,10 @@ use Rattle.taylor.specs.Expansion.{Expansion, var, coeff, derivative, negate, e
 use Rattle.taylor.specs.Expand.{Point, none, point, expand}
 use Rattle.taylor_base.specs.Answers.{terms}
 use Rattle.lent.specs.Call as nodes
-use Rattle.lent.specs.Call.{lentPool}
+use Rattle.lent.specs.Call.{lentPool, demand}
 use Rattle.lent_series.specs.declared.series.Series.{Series}
 use Rattle.lent_series.specs.Series.{nodesOf, lengthOk, given}
-use Rattle.lent_series.specs.Call.{leaves, demand, onPool, givenSeries, givenTwo, out, asRun}
+use Rattle.lent_series.specs.Call.{leaves, onPool, givenSeries, givenTwo, out, asRun}
 use Rattle.engine_series.specs.Operations.{hasIndex, givenIndex, varWork, counted, countOf, expansionOr, coefficientsOf}
 use Rattle.engine_pairs.specs.Pairs.{agree}
 use Rattle.engine_expand.specs.Expressions.{expandWork}
@@ -35,8 +35,8 @@ use Rattle.situation_calls.proofs.Laws.{working, passing, failing, dema
 use Rattle.situation_calls.proofs.Nodes.{rules, root-below, node-call}
 
 module _ {checks meets : List ℕ} {tests : List Bool} where
-  asked : {A : Type 0} (t : Bool) (k : ℕ) (x : Result A) → (t ≡ true → Situated checks meets tests (ofResult x)) → Situated (k ∷ checks) meets (t ∷ tests) (ofResult (demand t k x))
-  asked = demanded ofResult demand (λ k x. refl) (λ k x. refl)
+  asked : {A : Type 0} (t : Bool) (k : ℕ) (x : Result A) → (t ≡ true → Situated checks meets tests (ofResult x)) → Situated (k ∷ checks) meets (t ∷ tests) (ofResult (demand refused t k x))
+  asked = demanded ofResult refused (λ k. refl)
 
   -- an answer that is a node
   as-out : (x : Result ℕ) → Situated checks meets tests (ofResult x) → Situated checks meets tests (ofOut (out x))
@@ -54,16 +54,16 @@ module _ (ks ws : List ℕ) (n : ℕ) (fit : (i : ℕ) → getD ws i 0 < 2 ^ 64)
   P = lentPool ks ws n
 
   -- 1, then the rest
-  series-call : (c : Call) {tests : List Bool} (work : Work Expansion) → Answers c tests (ofResult (demand (isPool ks ws n) brokenPool (work P))) → Gives c tests (onPool work ks ws n .outcome)
-  series-call c work s = given-out c ks ws n (demand (isPool ks ws n) brokenPool (work P)) s
+  series-call : (c : Call) {tests : List Bool} (work : Work Expansion) → Answers c tests (ofResult (demand refused (isPool ks ws n) brokenPool (work P))) → Gives c tests (onPool work ks ws n .outcome)
+  series-call c work s = given-out c ks ws n (demand refused (isPool ks ws n) brokenPool (work P)) s
 
   -- nodes, then 5: of a variable, of one expansion, of two
   module _ {meets : List ℕ} (below fits : Bool) {A : Type 0} (work : Work A) (h : KeepsRules P → Among meets (ofResult (work P))) where
-    two-checks : KeepsRules P → Situated (unknownNode ∷ wrongOrder ∷ []) meets (below ∷ fits ∷ []) (ofResult (demand below unknownNode (demand fits wrongOrder (work P))))
-    two-checks r = asked below unknownNode (demand fits wrongOrder (work P)) (λ e. asked fits wrongOrder (work P) (λ f. working (h r)))
+    two-checks : KeepsRules P → Situated (unknownNode ∷ wrongOrder ∷ []) meets (below ∷ fits ∷ []) (ofResult (demand refused below unknownNode (demand refused fits wrongOrder (work P))))
+    two-checks r = asked below unknownNode (demand refused fits wrongOrder (work P)) (λ e. asked fits wrongOrder (work P) (λ f. working (h r)))
 
-    three-checks : Situated (brokenPool ∷ unknownNode ∷ wrongOrder ∷ []) meets (isPool ks ws n ∷ below ∷ fits ∷ []) (ofResult (demand (isPool ks ws n) brokenPool (demand below unknownNode (demand fits wrongOrder (work P)))))
-    three-checks = asked (isPool ks ws n) brokenPool (demand below unknownNode (demand fits wrongOrder (work P))) (λ e. two-checks (rules ks ws n fit e))
+    three-checks : Situated (brokenPool ∷ unknownNode ∷ wrongOrder ∷ []) meets (isPool ks ws n ∷ below ∷ fits ∷ []) (ofResult (demand refused (isPool ks ws n) brokenPool (demand refused below unknownNode (demand refused fits wrongOrder (work P)))))
+    three-checks = asked (isPool ks ws n) brokenPool (demand refused below unknownNode (demand refused fits wrongOrder (work P))) (λ e. two-checks (rules ks ws n fit e))
 
   -- a coefficient or a derivative: the answer is a node
   index-call : {meets : List ℕ} (s : Series) (k : ℕ) (work : Work ℕ) → (KeepsRules P → Among meets (ofResult (work P))) → Situated (brokenPool ∷ unknownNode ∷ wrongOrder ∷ []) meets (oneTested ks ws n s (hasIndex s k)) (ofAnswer (nodes.onPool (asRun (givenIndex s k work)) ks ws n .answer))
@@ -71,10 +71,10 @@ module _ (ks ws : List ℕ) (n : ℕ) (fit : (i : ℕ) → getD ws i 0 < 2 ^ 64)
       node-call ks ws n fit (asRun (givenIndex s k work)) (λ r. as-out (givenIndex s k work P) (two-checks (allBelow n (nodesOf s)) (hasIndex s k) work h r))
 
   -- one expansion, and two
-  one-call : {meets : List ℕ} (s : Series) (work : Work Expansion) → (KeepsRules P → Among meets (ofResult (work P))) → Situated (brokenPool ∷ unknownNode ∷ wrongOrder ∷ []) meets (oneTested ks ws n s (lengthOk s)) (ofResult (demand (isPool ks ws n) brokenPool (givenSeries s work P)))
+  one-call : {meets : List ℕ} (s : Series) (work : Work Expansion) → (KeepsRules P → Among meets (ofResult (work P))) → Situated (brokenPool ∷ unknownNode ∷ wrongOrder ∷ []) meets (oneTested ks ws n s (lengthOk s)) (ofResult (demand refused (isPool ks ws n) brokenPool (givenSeries s work P)))
   one-call s work h = three-checks (allBelow n (nodesOf s)) (lengthOk s) work h
 
-  two-call : {meets : List ℕ} (s t : Series) (fits : Bool) (work : Work Expansion) → (KeepsRules P → Among meets (ofResult (work P))) → Situated (brokenPool ∷ unknownNode ∷ wrongOrder ∷ []) meets (twoTested ks ws n s t fits) (ofResult (demand (isPool ks ws n) brokenPool (givenTwo s t fits work P)))
+  two-call : {meets : List ℕ} (s t : Series) (fits : Bool) (work : Work Expansion) → (KeepsRules P → Among meets (ofResult (work P))) → Situated (brokenPool ∷ unknownNode ∷ wrongOrder ∷ []) meets (twoTested ks ws n s t fits) (ofResult (demand refused (isPool ks ws n) brokenPool (givenTwo s t fits work P)))
   two-call s t fits work h = three-checks (allBelow n (nodesOf s) && allBelow n (nodesOf t)) fits work h
 
   -- what is only read
@@ -102,18 +102,18 @@ module _ (ks ws : List ℕ) (n : ℕ) (fit : (i : ℕ) → getD ws i 0 < 2 ^ 64)
   -- an expression: 1, 2, 3, then 4 of a point, then 5
   module _ (root v order : ℕ) where
     abbrev last : Point → Result Expansion
-    last x = demand (ltb order terms) wrongOrder (expand root v x order P)
+    last x = demand refused (ltb order terms) wrongOrder (expand root v x order P)
 
     last-checked : isPool ks ws n ≡ true → allBelow n (root ∷ []) ≡ true → (x : Point) → Situated (wrongOrder ∷ []) (met table.coeffs) (ltb order terms ∷ []) (ofResult (last x))
     last-checked r e x = asked (ltb order terms) wrongOrder (expand root v x order P) (λ f. working (of-walks P (rules ks ws n fit r) root (root-below ks ws n fit root [] e) .expansion v x order))
 
-    coeffs-answers : Answers table.coeffs (isPool ks ws n ∷ allBelow n (root ∷ []) ∷ leb v greatestVariable ∷ ltb order terms ∷ []) (ofResult (demand (isPool ks ws n) brokenPool (expandWork root v none order P)))
+    coeffs-answers : Answers table.coeffs (isPool ks ws n ∷ allBelow n (root ∷ []) ∷ leb v greatestVariable ∷ ltb order terms ∷ []) (ofResult (demand refused (isPool ks ws n) brokenPool (expandWork root v none order P)))
     coeffs-answers =
         asked (isPool ks ws n) brokenPool _ (λ r.
         asked (allBelow n (root ∷ [])) unknownNode _ (λ e.
         asked (leb v greatestVariable) unknownVariable (last none) (λ f. last-checked r e none)))
 
-    coeffs-at-answers : (z : ℤ) → Answers table.coeffs-at (isPool ks ws n ∷ allBelow n (root ∷ []) ∷ leb v greatestVariable ∷ isLiteral z ∷ ltb order terms ∷ []) (ofResult (demand (isPool ks ws n) brokenPool (expandWork root v (point z) order P)))
+    coeffs-at-answers : (z : ℤ) → Answers table.coeffs-at (isPool ks ws n ∷ allBelow n (root ∷ []) ∷ leb v greatestVariable ∷ isLiteral z ∷ ltb order terms ∷ []) (ofResult (demand refused (isPool ks ws n) brokenPool (expandWork root v (point z) order P)))
     coeffs-at-answers z =
         asked (isPool ks ws n) brokenPool _ (λ r.
         asked (allBelow n (root ∷ [])) unknownNode _ (λ e.

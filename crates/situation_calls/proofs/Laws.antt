@@ -6,6 +6,7 @@ use mathlib.Core.Bool.{Bool, true, false}
 use mathlib.Core.List.{List, [], _∷_, _++_}
 use Prim.Native.Nat.{ℕ, zero, suc}
 use native.Mathlib.Omega.{arith}
+use Rattle.lent.specs.Call.{demand}
 use Rattle.situations.specs.Refusal.{Refusal, none, by, OneOf, Among}
 use Rattle.situation_calls.specs.Table as table
 use Rattle.situation_calls.specs.Table.{Call, checked, met}
@@ -30,11 +31,11 @@ module _ {checks meets : List ℕ} {tests : List Bool} where
   pub failing : (k : ℕ) → Situated (k ∷ checks) meets (false ∷ tests) (by k)
   failing k = record { first = λ j e. e; worked = λ e. absurd (told e) }
 
-  -- answers of any kind, and a demand of them: it hands the answer on, or refuses
-  module _ {T : Type 0} (of : T → Refusal) (demand : Bool → ℕ → T → T) (hands-on : (k : ℕ) (x : T) → of (demand true k x) ≡ of x) (refuses : (k : ℕ) (x : T) → of (demand false k x) ≡ by k) where
-    pub demanded : (t : Bool) (k : ℕ) (x : T) → (t ≡ true → Situated checks meets tests (of x)) → Situated (k ∷ checks) meets (t ∷ tests) (of (demand t k x))
-    demanded true k x h = passing k (subst⁻¹ (λ r. Situated checks meets tests r) (hands-on k x) (h refl))
-    demanded false k x h = subst⁻¹ (λ r. Situated (k ∷ checks) meets (false ∷ tests) r) (refuses k x) (failing k)
+  -- what is demanded before an answer of any kind
+  module _ {T : Type 0} (of : T → Refusal) (refusal : ℕ → T) (refuses : (k : ℕ) → of (refusal k) ≡ by k) where
+    pub demanded : (t : Bool) (k : ℕ) (x : T) → (t ≡ true → Situated checks meets tests (of x)) → Situated (k ∷ checks) meets (t ∷ tests) (of (demand refusal t k x))
+    demanded true k x h = passing k (h refl)
+    demanded false k x h = subst⁻¹ (λ r. Situated (k ∷ checks) meets (false ∷ tests) r) (refuses k) (failing k)
 
 -- ---- what follows from the table
 

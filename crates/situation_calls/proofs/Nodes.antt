@@ -11,8 +11,10 @@ use lib.ListN.{length, getD}
 use Rattle.refusals.specs.Refusals.{brokenPool, unknownNode, unknownVariable, notLiteral, wrongValues, wrongLength, wrongEntry, wrongSequence, maxReached, noRoom}
 use Rattle.literal.specs.Literal.{isLiteral}
 use Rattle.double.specs.declared.Valued.{Valued}
+use Rattle.double.specs.declared.Valued.the-variants as valued-as
 use Rattle.residue.specs.Residue.{fixedModulus}
 use Rattle.residue.specs.declared.Divided.{Divided}
+use Rattle.residue.specs.declared.Divided.the-variants as divided-as
 use Rattle.pool.specs.declared.node.Node.{Node}
 use Rattle.pool.specs.declared.node.Node.the-variants as node
 use Rattle.pool.specs.Nodes.{allBelow, greatestVariable}
@@ -29,21 +31,21 @@ use Rattle.shape.specs.Shape.{rename}
 use Rattle.shape.specs.File.{sizeOf, entryOf, isSized, areNodes, isInOrder, passes, appendFirst, appendShifted, writtenFile, readFile}
 use Rattle.lent.specs.Call.{demand, leaves, lentPool, onPool, givenNodes}
 use Rattle.engine_walk.specs.Walks.{givenVariable}
-use Rattle.engine_values.specs.Values.{mostValues, areResidues, demandValue, demandResidue, evaluateCall, evaluateResidueCall}
-use Rattle.engine_print.specs.Printing.{Put, demandPut, writes, textFits, printCall}
-use Rattle.engine_file.specs.declared.Written.the-variants as written-as
-use Rattle.engine_file.specs.Write.{Output, output, demandOf, writeCall}
+use Rattle.engine_values.specs.Values.{mostValues, areResidues, evaluateCall, evaluateResidueCall}
+use Rattle.lent.specs.Writing.{Put, unwritten, writes}
+use Rattle.engine_print.specs.Printing.{textFits, printCall}
+use Rattle.engine_file.specs.Write.{writeCall}
 use Rattle.situations.specs.Refusal.{Among, ofOut, ofValued, ofDivided}
 use Rattle.situations.proofs.Steps.{Refusing, _>>=_, append-refuses}
 use Rattle.situations.proofs.Situations.{of-constructors, of-walks}
 use Rattle.situation_calls.specs.Table as table
-use Rattle.situation_calls.specs.Answers.{Situated, Answers, ofAnswer, ofPrinted, ofWritten, OfCalls}
+use Rattle.situation_calls.specs.Answers.{Situated, Answers, ofAnswer, ofWritten, OfCalls}
 use Rattle.situation_calls.proofs.Laws.{working, passing, failing, demanded}
 
 -- ---- checks of calls that give a node
 module _ {checks meets : List ℕ} {tests : List Bool} where
-  pub asked : (t : Bool) (k : ℕ) (o : Out) → (t ≡ true → Situated checks meets tests (ofOut o)) → Situated (k ∷ checks) meets (t ∷ tests) (ofOut (demand t k o))
-  asked = demanded ofOut demand (λ k o. refl) (λ k o. refl)
+  pub asked : (t : Bool) (k : ℕ) (o : Out) → (t ≡ true → Situated checks meets tests (ofOut o)) → Situated (k ∷ checks) meets (t ∷ tests) (ofOut (demand refused t k o))
+  asked = demanded ofOut refused (λ k. refl)
 
   -- a test of the file
   passed : (t : Bool) (k : ℕ) (next : ℕ → Run) (P : Pool) → (t ≡ true → Situated checks meets tests (ofOut (next 0 P))) → Situated (k ∷ checks) meets (t ∷ tests) (ofOut (bind (passes t k P) next))
@@ -72,10 +74,10 @@ module _ (ks ws : List ℕ) (n : ℕ) (fit : (i : ℕ) → getD ws i 0 < 2 ^ 64)
 
   -- 1, then the rest
   pub node-call : {checks meets : List ℕ} {tests : List Bool} (work : Run) → (KeepsRules P → Situated checks meets tests (ofOut (work P))) → Situated (brokenPool ∷ checks) meets (isPool ks ws n ∷ tests) (ofAnswer (onPool work ks ws n .answer))
-  node-call work h = left ks ws n (demand (isPool ks ws n) brokenPool (work P)) (asked (isPool ks ws n) brokenPool (work P) (λ e. h (rules e)))
+  node-call work h = left ks ws n (demand refused (isPool ks ws n) brokenPool (work P)) (asked (isPool ks ws n) brokenPool (work P) (λ e. h (rules e)))
 
-  leaf-call : {meets : List ℕ} (allowed : Bool) (k : ℕ) (x : Node) → Among meets (ofOut (append x P)) → Situated (brokenPool ∷ k ∷ []) meets (isPool ks ws n ∷ allowed ∷ []) (ofAnswer (onPool (λ Q. demand allowed k (append x Q)) ks ws n .answer))
-  leaf-call allowed k x h = node-call (λ Q. demand allowed k (append x Q)) (λ r. asked allowed k (append x P) (λ e. working h))
+  leaf-call : {meets : List ℕ} (allowed : Bool) (k : ℕ) (x : Node) → Among meets (ofOut (append x P)) → Situated (brokenPool ∷ k ∷ []) meets (isPool ks ws n ∷ allowed ∷ []) (ofAnswer (onPool (λ Q. demand refused allowed k (append x Q)) ks ws n .answer))
+  leaf-call allowed k x h = node-call (λ Q. demand refused allowed k (append x Q)) (λ r. asked allowed k (append x P) (λ e. working h))
 
   -- a constructor: 1, 2, then the work
   constructor-call : {meets : List ℕ} (nodes : List ℕ) (run : Run) → (KeepsRules P → Among meets (ofOut (run P))) → Situated (brokenPool ∷ unknownNode ∷ []) meets (isPool ks ws n ∷ allBelow n nodes ∷ []) (ofAnswer (onPool (givenNodes nodes run) ks ws n .answer))
@@ -96,8 +98,8 @@ module _ (ks ws : List ℕ) (n : ℕ) (fit : (i : ℕ) → getD ws i 0 < 2 ^ 64)
       valued (allBelow n (root ∷ [])) unknownNode _ (λ e.
       valued (leb (length values) mostValues) wrongValues value (λ f. working (of-walks P (rules r) root (root-below root [] e) .evaluation values))))
     where
-      valued : {checks meets : List ℕ} {tests : List Bool} (t : Bool) (k : ℕ) (v : Valued) → (t ≡ true → Situated checks meets tests (ofValued v)) → Situated (k ∷ checks) meets (t ∷ tests) (ofValued (demandValue t k v))
-      valued = demanded ofValued demandValue (λ k v. refl) (λ k v. refl)
+      valued : {checks meets : List ℕ} {tests : List Bool} (t : Bool) (k : ℕ) (v : Valued) → (t ≡ true → Situated checks meets tests (ofValued v)) → Situated (k ∷ checks) meets (t ∷ tests) (ofValued (demand valued-as.Refused t k v))
+      valued = demanded ofValued valued-as.Refused (λ k. refl)
 
   residue-answers : (root : ℕ) (values : List ℕ) → Answers table.evaluate-residue (isPool ks ws n ∷ allBelow n (root ∷ []) ∷ areResidues values ∷ []) (ofDivided (evaluateResidueCall ks ws n root values))
   unfolding evaluateResidueCall
@@ -107,21 +109,22 @@ module _ (ks ws : List ℕ) (n : ℕ) (fit : (i : ℕ) → getD ws i 0 < 2 ^ 64)
       divided (allBelow n (root ∷ [])) unknownNode _ (λ e.
       divided (areResidues values) wrongValues value (λ f. working (of-walks P (rules r) root (root-below root [] e) .residues fixedModulus values))))
     where
-      divided : {checks meets : List ℕ} {tests : List Bool} (t : Bool) (k : ℕ) (v : Divided) → (t ≡ true → Situated checks meets tests (ofDivided v)) → Situated (k ∷ checks) meets (t ∷ tests) (ofDivided (demandResidue t k v))
-      divided = demanded ofDivided demandResidue (λ k v. refl) (λ k v. refl)
+      divided : {checks meets : List ℕ} {tests : List Bool} (t : Bool) (k : ℕ) (v : Divided) → (t ≡ true → Situated checks meets tests (ofDivided v)) → Situated (k ∷ checks) meets (t ∷ tests) (ofDivided (demand divided-as.Refused t k v))
+      divided = demanded ofDivided divided-as.Refused (λ k. refl)
 
-  print-answers : (root : ℕ) (out : List ℕ) → Answers table.print (isPool ks ws n ∷ allBelow n (root ∷ []) ∷ []) (ofPrinted (printCall ks ws n root out .answer))
+  -- a call that fills an output
+  written-to : {checks meets : List ℕ} {tests : List Bool} (out : List ℕ) (t : Bool) (k : ℕ) (p : Put) → (t ≡ true → Situated checks meets tests (ofWritten (p .answer))) → Situated (k ∷ checks) meets (t ∷ tests) (ofWritten (demand (unwritten out) t k p .answer))
+  written-to out = demanded (λ p. ofWritten (p .answer)) (unwritten out) (λ k. refl)
+
+  print-answers : (root : ℕ) (out : List ℕ) → Answers table.print (isPool ks ws n ∷ allBelow n (root ∷ []) ∷ []) (ofWritten (printCall ks ws n root out .answer))
   unfolding printCall
   print-answers root out =
       let text = textOf (nodeIn ks ws) root in
-      printed (isPool ks ws n) brokenPool _ (λ r.
-      printed (allBelow n (root ∷ [])) unknownNode _ (λ e.
+      written-to out (isPool ks ws n) brokenPool _ (λ r.
+      written-to out (allBelow n (root ∷ [])) unknownNode _ (λ e.
       working (work (not (hasMax (nodeIn ks ws) root)) (textFits text out) text)))
     where
-      printed : {checks meets : List ℕ} {tests : List Bool} (t : Bool) (k : ℕ) (p : Put) → (t ≡ true → Situated checks meets tests (ofPrinted (p .answer))) → Situated (k ∷ checks) meets (t ∷ tests) (ofPrinted (demandPut t k out p .answer))
-      printed = demanded (λ p. ofPrinted (p .answer)) (λ t k p. demandPut t k out p) (λ k p. refl) (λ k p. refl)
-
-      work : (max fits : Bool) (bytes : List ℕ) → Among (10 ∷ 19 ∷ []) (ofPrinted (demandPut max maxReached out (demandPut fits noRoom out (writes bytes out)) .answer))
+      work : (max fits : Bool) (bytes : List ℕ) → Among (10 ∷ 19 ∷ []) (ofWritten (demand (unwritten out) max maxReached (demand (unwritten out) fits noRoom (writes bytes out)) .answer))
       work true true bytes = tt
       work true false bytes = inr (inl refl)
       work false fits bytes = inl refl
@@ -130,16 +133,13 @@ module _ (ks ws : List ℕ) (n : ℕ) (fit : (i : ℕ) → getD ws i 0 < 2 ^ 64)
   unfolding writeCall
   write-answers root out =
       let file = writtenFile ks ws root in
-      written (isPool ks ws n) brokenPool _ (λ r.
-      written (allBelow n (root ∷ [])) unknownNode _ (λ e.
-      working (work (leb (length file) (length out)) (length file) _)))
+      written-to out (isPool ks ws n) brokenPool _ (λ r.
+      written-to out (allBelow n (root ∷ [])) unknownNode _ (λ e.
+      working (work (leb (length file) (length out)) file)))
     where
-      written : {checks meets : List ℕ} {tests : List Bool} (t : Bool) (k : ℕ) (o : Output) → (t ≡ true → Situated checks meets tests (ofWritten (o .answer))) → Situated (k ∷ checks) meets (t ∷ tests) (ofWritten (demandOf out t k o .answer))
-      written = demanded (λ o. ofWritten (o .answer)) (demandOf out) (λ k o. refl) (λ k o. refl)
-
-      work : (fits : Bool) (m : ℕ) (bytes : List ℕ) → Among (19 ∷ []) (ofWritten (demandOf out fits noRoom (output (written-as.Length m) bytes) .answer))
-      work true m bytes = tt
-      work false m bytes = inl refl
+      work : (fits : Bool) (bytes : List ℕ) → Among (19 ∷ []) (ofWritten (demand (unwritten out) fits noRoom (writes bytes out) .answer))
+      work true bytes = tt
+      work false bytes = inl refl
 
   read-answers : (bs : List ℕ) → Answers table.read (isPool ks ws n ∷ isSized bs ∷ areNodes bs ∷ isInOrder bs ∷ []) (ofAnswer (onPool (readFile bs) ks ws n .answer))
   unfolding readFile

@@ -18,15 +18,13 @@ use Rattle.taylor.specs.Expand.{none, point}
 use Rattle.taylor_base.specs.Answers.{terms}
 use Rattle.lent.specs.declared.Answer.{Answer}
 use Rattle.lent.specs.declared.Answer.the-variants as answer
+use Rattle.lent.specs.declared.Written.{Written}
+use Rattle.lent.specs.declared.Written.the-variants as written
 use Rattle.lent.specs.Call.{onPool, givenNodes}
 use Rattle.engine.specs.Build.{litWork, varWork}
 use Rattle.engine_walk.specs.Walks.{substituteWork, deriveWork}
 use Rattle.engine_values.specs.Values.{mostValues, areResidues, evaluateCall, evaluateResidueCall}
-use Rattle.engine_print.specs.declared.Written as printed
-use Rattle.engine_print.specs.declared.Written.the-variants as printed-as
 use Rattle.engine_print.specs.Printing.{printCall}
-use Rattle.engine_file.specs.declared.Written as written
-use Rattle.engine_file.specs.declared.Written.the-variants as written-as
 use Rattle.engine_file.specs.Write.{writeCall}
 use Rattle.lent_series.specs.declared.series.Series.{Series}
 use Rattle.lent_series.specs.declared.call.Outcome.{Outcome}
@@ -49,13 +47,9 @@ abbrev pub ofAnswer : Answer → Refusal
 ofAnswer (answer.Node i) = refusal.none
 ofAnswer (answer.Refused k) = by k
 
-abbrev pub ofPrinted : printed.Written → Refusal
-ofPrinted (printed-as.Length m) = refusal.none
-ofPrinted (printed-as.Refused k) = by k
-
-abbrev pub ofWritten : written.Written → Refusal
-ofWritten (written-as.Length m) = refusal.none
-ofWritten (written-as.Refused k) = by k
+abbrev pub ofWritten : Written → Refusal
+ofWritten (written.Length m) = refusal.none
+ofWritten (written.Refused k) = by k
 
 abbrev pub ofCounted : Counted → Refusal
 ofCounted (counted.Count m) = refusal.none
@@ -105,7 +99,7 @@ pub record OfCalls (ks ws : List ℕ) (n : ℕ) : Type 0 where
   pub derive-call : (root v : ℕ) → Answers table.derive (isPool ks ws n ∷ allBelow n (root ∷ []) ∷ leb v greatestVariable ∷ []) (ofAnswer (onPool (deriveWork root v) ks ws n .answer))
   pub evaluate-call : (root : ℕ) (values : List Float) → Answers table.evaluate (isPool ks ws n ∷ allBelow n (root ∷ []) ∷ leb (length values) mostValues ∷ []) (ofValued (evaluateCall ks ws n root values))
   pub evaluate-residue-call : (root : ℕ) (values : List ℕ) → Answers table.evaluate-residue (isPool ks ws n ∷ allBelow n (root ∷ []) ∷ areResidues values ∷ []) (ofDivided (evaluateResidueCall ks ws n root values))
-  pub print-call : (root : ℕ) (out : List ℕ) → Answers table.print (isPool ks ws n ∷ allBelow n (root ∷ []) ∷ []) (ofPrinted (printCall ks ws n root out .answer))
+  pub print-call : (root : ℕ) (out : List ℕ) → Answers table.print (isPool ks ws n ∷ allBelow n (root ∷ []) ∷ []) (ofWritten (printCall ks ws n root out .answer))
   pub write-call : (root : ℕ) (out : List ℕ) → Answers table.write (isPool ks ws n ∷ allBelow n (root ∷ []) ∷ []) (ofWritten (writeCall ks ws n root out .answer))
   pub read-call : (bs : List ℕ) → Answers table.read (isPool ks ws n ∷ isSized bs ∷ areNodes bs ∷ isInOrder bs ∷ []) (ofAnswer (onPool (readFile bs) ks ws n .answer))
 

@@ -7,7 +7,7 @@ use case_lines::put_number;
 use case_lines::put_refused;
 use case_lines::size;
 use case_lines::word;
-use engine_print::Written;
+use lent::Written;
 
 // The longest output that a line gives: one byte more than the longest text has.
 const OUTPUT: usize = 65_536;
