@@ -1,0 +1,4 @@
+pub mod Duals
+pub mod Inverses
+pub mod Model
+pub mod Book
