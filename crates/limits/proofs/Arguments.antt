@@ -10,6 +10,7 @@ use borrow.Author.Tests.{lt-ltb}
 use Rattle.literal.specs.Literal.{folded}
 use Rattle.residue.specs.Residue.{fixedModulus}
 use Rattle.pool.specs.Nodes.{decode, mayStandAt}
+use Rattle.pool.specs.Fold.{under, foldNodesWithin, foldNodes}
 use Rattle.pool.specs.Pool.{append, nodeIn, each}
 use Rattle.constructors.specs.Tables.{addArms, mulLits, mulExps, mulLeft, mulPows, mulLast}
 use Rattle.constructors.specs.Build.{build, calls}
@@ -17,9 +18,6 @@ use Rattle.constructor_laws.proofs.Rules.{each-of}
 use Rattle.walks.specs.Walk.{walkBelow}
 use Rattle.walks.specs.Substitute.{substituteVar}
 use Rattle.walks.specs.Derive.{derive}
-use Rattle.walks.specs.Evaluate.{evaluateBelow}
-use Rattle.walks.specs.EvaluateResidue.{residueBelow}
-use Rattle.walks.specs.Print.{textBelow, hasMaxBelow}
 use Rattle.taylor.specs.Work as of
 use Rattle.taylor.specs.Expansion.{times, horner}
 use Rattle.taylor.specs.Expand.{expandBelow}
@@ -40,11 +38,11 @@ unfolding decode mayStandAt each
 variable-fits = refl
 
 residues-65536 : evaluatedByResidues (replicate 65536 7) 0 (lent (variable 65535 ∷ [])) ≡ gives 7
-unfolding nodeIn decode residueBelow
+unfolding nodeIn decode foldNodes foldNodesWithin under
 residues-65536 = residue-with (variable 65535 ∷ []) variable-fits (replicate 65536 7) 0 (are-residues 65536 7 refl (lit< tt))
 
 pub arguments : Arguments
-unfolding nodeIn decode mayStandAt each append calls build addArms mulLits mulExps mulLeft mulPows mulLast folded walkBelow substituteVar derive textBelow hasMaxBelow expandBelow of.each of.eachTwo of.fold of.fill times horner evaluateBelow residueBelow
+unfolding nodeIn decode mayStandAt each append calls build addArms mulLits mulExps mulLeft mulPows mulLast folded walkBelow substituteVar derive expandBelow of.each of.eachTwo of.fold of.fill times horner foldNodes foldNodesWithin under
 arguments =
     record {
       node-0-of-1 = called-on _ refl _;

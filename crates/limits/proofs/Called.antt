@@ -1,7 +1,7 @@
 -- What a call answers on a pool that keeps the rules: what its work gives, since 1 is passed.
 -- Assumes nothing.
 use mathlib.Core.Path.{_≡_, _∙_}
-use mathlib.Core.Bool.{true, false, not}
+use mathlib.Core.Bool.{true, false, not, cond}
 use mathlib.Core.List.{List, [], _∷_}
 use Prim.Native.Nat.{ℕ}
 use lib.Dec.{eqb, leb}
@@ -9,6 +9,8 @@ use lib.Ieee.{Float}
 use lib.ListN.{length}
 use Rattle.refusals.specs.Refusals.{unknownNode, wrongOrder, wrongValues, maxReached, noRoom}
 use Rattle.residue.specs.Residue.{fixedModulus}
+use Rattle.double.specs.declared.Valued.the-variants as valued
+use Rattle.residue.specs.declared.Divided.the-variants as divided
 use Rattle.pool.specs.Nodes.{allBelow}
 use Rattle.pool.specs.Pool.{Run, nodeIn, isPool}
 use Rattle.walks.specs.Evaluate.{evaluate}
@@ -17,16 +19,17 @@ use Rattle.walks.specs.Print.{textOf, hasMax}
 use Rattle.taylor.specs.Work.{Work}
 use Rattle.taylor.specs.Expansion.{Expansion}
 use Rattle.shape.specs.File.{writtenFile}
-use Rattle.lent.specs.Call.{leaves, lentPool}
+use Rattle.lent.specs.Call.{leaves, lentPool, demand}
 use Rattle.lent_series.specs.declared.series.Series.{Series}
 use Rattle.lent_series.specs.Series.{nodesOf, lengthOk}
 use Rattle.lent_series.specs.Call as series
 use Rattle.engine_series.specs.Operations as operations
-use Rattle.engine_values.specs.Values.{mostValues, demandValue, evaluateCall, areResidues, demandResidue, evaluateResidueCall}
-use Rattle.engine_print.specs.Printing.{Put, demandPut, textFits, writes, printCall}
-use Rattle.engine_file.specs.Write.{Output, demandOf, fileOver, writeCall}
+use Rattle.engine_values.specs.Values.{mostValues, evaluateCall, areResidues, evaluateResidueCall}
+use Rattle.lent.specs.Writing.{Put, unwritten, writes}
+use Rattle.engine_print.specs.Printing.{textFits, printCall}
+use Rattle.engine_file.specs.Write.{fileOver, writeCall}
 use Rattle.limits.specs.Lent.{Entry, Lent, lent, kindsOf, wordsOf}
-use Rattle.limits.specs.Calls.{Answer, refuses, nodeGiven, called, orderGiven, expanded, listed, bitsGiven, evaluated, residueGiven, evaluatedByResidues, output, lengthPrinted, printed, lengthWritten, written, bytesIn, text, file}
+use Rattle.limits.specs.Calls.{Answer, refuses, nodeGiven, called, orderGiven, expanded, listed, bitsGiven, evaluated, residueGiven, evaluatedByResidues, output, printed, lengthWritten, written, bytesIn, text, file}
 use Rattle.limits.proofs.Pools.{Passes, fits, by-rules}
 
 -- each call with 1 passed, on two tables and a count
@@ -37,31 +40,31 @@ abbrev pub expansionWorked : Work Expansion → List ℕ → List ℕ → ℕ �
 expansionWorked work ks ws n = orderGiven (series.leaves ks ws n (work (lentPool ks ws n)) .outcome)
 
 abbrev pub refusalOfList : Series → ℕ → ℕ
-refusalOfList s n = operations.pick (allBelow n (nodesOf s)) (operations.pick (lengthOk s) 0 wrongOrder) unknownNode
+refusalOfList s n = cond (allBelow n (nodesOf s)) (cond (lengthOk s) 0 wrongOrder) unknownNode
 
 abbrev pub listWorked : Series → ℕ → Answer
 listWorked s n = orderGiven (operations.expansionOr (eqb (refusalOfList s n) 0) (refusalOfList s n) s)
 
 abbrev pub valueWorked : List Float → ℕ → List ℕ → List ℕ → ℕ → Answer
 valueWorked values root ks ws n =
-    bitsGiven (demandValue (allBelow n (root ∷ [])) unknownNode (demandValue (leb (length values) mostValues) wrongValues (evaluate (nodeIn ks ws) values root)))
+    bitsGiven (demand valued.Refused (allBelow n (root ∷ [])) unknownNode (demand valued.Refused (leb (length values) mostValues) wrongValues (evaluate (nodeIn ks ws) values root)))
 
 abbrev pub residueWorked : List ℕ → ℕ → List ℕ → List ℕ → ℕ → Answer
 residueWorked values root ks ws n =
-    residueGiven (demandResidue (allBelow n (root ∷ [])) unknownNode (demandResidue (areResidues values) wrongValues (evaluateResidue fixedModulus (nodeIn ks ws) values root)))
+    residueGiven (demand divided.Refused (allBelow n (root ∷ [])) unknownNode (demand divided.Refused (areResidues values) wrongValues (evaluateResidue fixedModulus (nodeIn ks ws) values root)))
 
 abbrev pub printWorked : ℕ → List ℕ → List ℕ → List ℕ → ℕ → Put
 printWorked root out ks ws n =
-    demandPut (allBelow n (root ∷ [])) unknownNode out
-    (demandPut (not (hasMax (nodeIn ks ws) root)) maxReached out
-    (demandPut (textFits (textOf (nodeIn ks ws) root) out) noRoom out
+    demand (unwritten out) (allBelow n (root ∷ [])) unknownNode
+    (demand (unwritten out) (not (hasMax (nodeIn ks ws) root)) maxReached
+    (demand (unwritten out) (textFits (textOf (nodeIn ks ws) root) out) noRoom
     (writes (textOf (nodeIn ks ws) root) out)))
 
-abbrev pub writeWorked : ℕ → List ℕ → List ℕ → List ℕ → ℕ → Output
-writeWorked root old ks ws n = demandOf old (allBelow n (root ∷ [])) unknownNode (fileOver old (writtenFile ks ws root))
+abbrev pub writeWorked : ℕ → List ℕ → List ℕ → List ℕ → ℕ → Put
+writeWorked root old ks ws n = demand (unwritten old) (allBelow n (root ∷ [])) unknownNode (fileOver old (writtenFile ks ws root))
 
 -- the file in the output
-abbrev pub fileIn : Output → List ℕ
+abbrev pub fileIn : Put → List ℕ
 fileIn o = bytesIn (lengthWritten (o .answer)) (o .out)
 
 -- ---- on any pool that keeps the rules
@@ -86,12 +89,12 @@ module _ (P : Lent) (passes : Passes P) where
   unfolding evaluatedByResidues evaluateResidueCall
   residue-by values root = rw passes
 
-  pub printed-by : (room root : ℕ) → printed room root P ≡ lengthPrinted (printWorked root (output room) (P .kinds) (P .words) (P .count) .answer)
+  pub printed-by : (room root : ℕ) → printed room root P ≡ lengthWritten (printWorked root (output room) (P .kinds) (P .words) (P .count) .answer)
   unfolding printed printCall
   printed-by room root = rw passes
 
   pub text-by : (root : ℕ)
-      → text root P ≡ bytesIn (lengthPrinted (printWorked root (output 64) (P .kinds) (P .words) (P .count) .answer)) (printWorked root (output 64) (P .kinds) (P .words) (P .count) .out)
+      → text root P ≡ bytesIn (lengthWritten (printWorked root (output 64) (P .kinds) (P .words) (P .count) .answer)) (printWorked root (output 64) (P .kinds) (P .words) (P .count) .out)
   unfolding text printCall
   text-by root = rw passes
 
@@ -136,15 +139,15 @@ module _ (es : List Entry) (ok : fits es ≡ true) where
 
   pub residue-with : (values : List ℕ) (root : ℕ) → areResidues values ≡ true
       → evaluatedByResidues values root (lent es)
-      ≡ residueGiven (demandResidue (allBelow (length es) (root ∷ [])) unknownNode (evaluateResidue fixedModulus (nodeIn (kindsOf es) (wordsOf es)) values root))
+      ≡ residueGiven (demand divided.Refused (allBelow (length es) (root ∷ [])) unknownNode (evaluateResidue fixedModulus (nodeIn (kindsOf es) (wordsOf es)) values root))
   residue-with values root all = residue-on values root ∙ rw all
 
-  pub printed-on : (room root : ℕ) → printed room root (lent es) ≡ lengthPrinted (printWorked root (output room) (kindsOf es) (wordsOf es) (length es) .answer)
+  pub printed-on : (room root : ℕ) → printed room root (lent es) ≡ lengthWritten (printWorked root (output room) (kindsOf es) (wordsOf es) (length es) .answer)
   unfolding lent
   printed-on room root = printed-by (lent es) (by-rules es ok) room root
 
   pub text-on : (root : ℕ)
-      → text root (lent es) ≡ bytesIn (lengthPrinted (printWorked root (output 64) (kindsOf es) (wordsOf es) (length es) .answer)) (printWorked root (output 64) (kindsOf es) (wordsOf es) (length es) .out)
+      → text root (lent es) ≡ bytesIn (lengthWritten (printWorked root (output 64) (kindsOf es) (wordsOf es) (length es) .answer)) (printWorked root (output 64) (kindsOf es) (wordsOf es) (length es) .out)
   unfolding lent
   text-on root = text-by (lent es) (by-rules es ok) root
 

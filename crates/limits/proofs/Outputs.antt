@@ -3,15 +3,15 @@
 use mathlib.Core.Path.{refl}
 use Rattle.text.specs.Text.{digitsWithin, decimal, signedDecimal, display}
 use Rattle.pool.specs.Nodes.{decode, mayStandAt}
+use Rattle.pool.specs.Fold.{under, foldNodesWithin, foldNodes}
 use Rattle.pool.specs.Pool.{nodeIn, each}
-use Rattle.walks.specs.Print.{textBelow, hasMaxBelow}
 use Rattle.shape.specs.Order as order
 use Rattle.shape.specs.File.{fileOf, writtenFile}
 use Rattle.limits.specs.Limits.{Outputs}
 use Rattle.limits.proofs.Called.{printed-on, written-on}
 
 pub outputs : Outputs
-unfolding nodeIn decode mayStandAt each textBelow hasMaxBelow display signedDecimal decimal digitsWithin order.walk order.numbered order.written fileOf writtenFile
+unfolding nodeIn decode mayStandAt each display signedDecimal decimal digitsWithin order.walk order.numbered order.written fileOf writtenFile foldNodes foldNodesWithin under
 outputs =
     record {
       text-of-1-in-1 = printed-on _ refl _ _;

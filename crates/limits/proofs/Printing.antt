@@ -3,13 +3,13 @@
 use mathlib.Core.Path.{refl}
 use Rattle.text.specs.Text.{digitsWithin, decimal, signedDecimal, display}
 use Rattle.pool.specs.Nodes.{decode, mayStandAt}
+use Rattle.pool.specs.Fold.{under, foldNodesWithin, foldNodes}
 use Rattle.pool.specs.Pool.{nodeIn, each}
-use Rattle.walks.specs.Print.{textBelow, hasMaxBelow}
 use Rattle.limits.specs.Printing.{Printing}
 use Rattle.limits.proofs.Called.{text-on}
 
 pub printing : Printing
-unfolding nodeIn decode mayStandAt each textBelow hasMaxBelow display signedDecimal decimal digitsWithin
+unfolding nodeIn decode mayStandAt each display signedDecimal decimal digitsWithin foldNodes foldNodesWithin under
 printing =
     record {
       sum-left-in-sum = text-on _ refl _;

@@ -6,12 +6,12 @@ use Prim.Native.Nat.{ℕ}
 use lib.ListN.{length}
 use Rattle.text.specs.Text.{digitsWithin, decimal, signedDecimal, display}
 use Rattle.pool.specs.Nodes.{decode, mayStandAt}
+use Rattle.pool.specs.Fold.{under, foldNodesWithin, foldNodes}
 use Rattle.pool.specs.Pool.{append, nodeIn, each}
 use Rattle.shape.specs.Order as order
 use Rattle.shape.specs.File.{fileOf, writtenFile, readFile, isSized, areNodes, areInOrder, isInOrder, entryIn, appendFirst}
 use Rattle.constructors.specs.Tables.{mulLits, mulExps, mulLeft, mulPows, mulLast}
 use Rattle.constructors.specs.Build.{build, calls}
-use Rattle.walks.specs.Print.{textBelow}
 use Rattle.taylor.specs.Expansion.{times}
 use Rattle.taylor.specs.Expand.{expandBelow}
 use Rattle.sheet_text.specs.Line.{digitsFrom, decimalOf, pointOf, fields, parse}
@@ -22,7 +22,7 @@ use Rattle.limits.specs.Sheets.{Sheets}
 use Rattle.limits.proofs.Called.{file-on}
 
 pub sheets : Sheets
-unfolding sheet parse fields decimalOf digitsFrom pointOf coefficients empty readFile isSized areNodes areInOrder isInOrder entryIn appendFirst order.walk order.numbered order.written fileOf writtenFile mayStandAt each append calls build mulLits mulExps mulLeft mulPows mulLast nodeIn decode textBelow display signedDecimal decimal digitsWithin times expandBelow linesFrom
+unfolding sheet parse fields decimalOf digitsFrom pointOf coefficients empty readFile isSized areNodes areInOrder isInOrder entryIn appendFirst order.walk order.numbered order.written fileOf writtenFile mayStandAt each append calls build mulLits mulExps mulLeft mulPows mulLast nodeIn decode display signedDecimal decimal digitsWithin times expandBelow linesFrom foldNodes foldNodesWithin under
 sheets =
     record {
       line-of-64 = refl;

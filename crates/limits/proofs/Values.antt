@@ -7,15 +7,14 @@ use Rattle.double.proofs.Examples as doubles
 use Rattle.residue.specs.Residue.{residue}
 use Rattle.residue.proofs.Examples as residues
 use Rattle.pool.specs.Nodes.{decode, mayStandAt}
+use Rattle.pool.specs.Fold.{under, foldNodesWithin, foldNodes}
 use Rattle.pool.specs.Pool.{nodeIn, each}
-use Rattle.walks.specs.Evaluate.{evaluateBelow}
-use Rattle.walks.specs.EvaluateResidue.{residueBelow}
 use Rattle.limits.specs.Calls.{gives, residueGiven}
 use Rattle.limits.specs.Limits.{Values}
 use Rattle.limits.proofs.Called.{evaluated-on, residue-on}
 
 pub values : Values
-unfolding nodeIn decode mayStandAt each evaluateBelow doubleOf residueBelow residue toBits div ofInt
+unfolding nodeIn decode mayStandAt each doubleOf residue toBits div ofInt foldNodes foldNodesWithin under
 values =
     record {
       a-third = evaluated-on _ refl _ _ ∙ ap gives doubles.a-third;

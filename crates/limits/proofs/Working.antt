@@ -5,14 +5,12 @@ use Rattle.literal.specs.Literal.{folded, expOf, logOf}
 use Rattle.residue.specs.Residue.{residue}
 use Rattle.residue.proofs.Examples as residues
 use Rattle.pool.specs.Nodes.{decode, mayStandAt}
+use Rattle.pool.specs.Fold.{under, foldNodesWithin, foldNodes}
 use Rattle.pool.specs.Pool.{append, nodeIn, each}
 use Rattle.constructors.specs.Tables.{addArms, mulLits, mulExps, mulLeft, mulPows, mulLast, powTable, expArms, logArms}
 use Rattle.constructors.specs.Build.{build, calls}
 use Rattle.walks.specs.Walk.{walkBelow}
 use Rattle.walks.specs.Derive.{derive}
-use Rattle.walks.specs.Evaluate.{evaluateBelow}
-use Rattle.walks.specs.EvaluateResidue.{residueBelow}
-use Rattle.walks.specs.Print.{hasMaxBelow}
 use Rattle.taylor.specs.Work as of
 use Rattle.taylor.specs.Expand.{expandBelow}
 use Rattle.limits.specs.Lent.{full}
@@ -22,7 +20,7 @@ use Rattle.limits.proofs.Pools.{full-by-rules}
 use Rattle.limits.proofs.Called.{called-by, called-on, expanded-on, evaluated-on, residue-on, printed-on}
 
 pub working : Working
-unfolding full nodeIn decode mayStandAt each append calls build addArms mulLits mulExps mulLeft mulPows mulLast powTable expArms logArms folded expOf logOf walkBelow derive hasMaxBelow expandBelow of.fold evaluateBelow residueBelow residue
+unfolding full nodeIn decode mayStandAt each append calls build addArms mulLits mulExps mulLeft mulPows mulLast powTable expArms logArms folded expOf logOf walkBelow derive expandBelow of.fold residue foldNodes foldNodesWithin under
 working =
     record {
       max-derived = called-on _ refl _;

@@ -21,12 +21,10 @@ use Rattle.lent_series.specs.declared.call.Outcome.{Outcome}
 use Rattle.lent_series.specs.Call as series
 use Rattle.engine_series.specs.Operations.{coefficientsOf}
 use Rattle.engine_values.specs.Values.{evaluateCall, evaluateResidueCall}
-use Rattle.engine_print.specs.Printing.{Put, printCall}
-use Rattle.engine_print.specs.declared.Written as print-answer
-use Rattle.engine_print.specs.declared.Written.the-variants as printed-as
+use Rattle.lent.specs.declared.Written.{Written}
+use Rattle.lent.specs.declared.Written.the-variants as written-as
+use Rattle.engine_print.specs.Printing.{printCall}
 use Rattle.engine_file.specs.Write.{Output, writeCall}
-use Rattle.engine_file.specs.declared.Written as file-answer
-use Rattle.engine_file.specs.declared.Written.the-variants as written-as
 use Rattle.limits.specs.Lent.{Lent}
 
 -- a number, which is what an accepted call gives, or a refusal number
@@ -77,19 +75,15 @@ unfoldable pub evaluatedByResidues : List ℕ → ℕ → Lent → Answer
 evaluatedByResidues values root P = residueGiven (evaluateResidueCall (P .kinds) (P .words) (P .count) root values)
 
 -- ---- printing and writing into an output of so many bytes: how many were written
-abbrev pub lengthPrinted : print-answer.Written → Answer
-lengthPrinted (printed-as.Length n) = gives n
-lengthPrinted (printed-as.Refused k) = refuses k
+abbrev pub lengthWritten : Written → Answer
+lengthWritten (written-as.Length n) = gives n
+lengthWritten (written-as.Refused k) = refuses k
 
 abbrev pub output : ℕ → List ℕ
 output n = replicate n 0
 
 unfoldable pub printed : ℕ → ℕ → Lent → Answer
-printed room root P = lengthPrinted (printCall (P .kinds) (P .words) (P .count) root (output room) .answer)
-
-abbrev pub lengthWritten : file-answer.Written → Answer
-lengthWritten (written-as.Length n) = gives n
-lengthWritten (written-as.Refused k) = refuses k
+printed room root P = lengthWritten (printCall (P .kinds) (P .words) (P .count) root (output room) .answer)
 
 unfoldable pub written : ℕ → ℕ → Lent → Answer
 written room root P = lengthWritten (writeCall (P .kinds) (P .words) (P .count) root (output room) .answer)
@@ -102,7 +96,7 @@ bytesIn (refuses k) out = []
 unfoldable pub text : ℕ → Lent → List ℕ
 text root P =
     let put = printCall (P .kinds) (P .words) (P .count) root (output 64) in
-    bytesIn (lengthPrinted (put .answer)) (put .out)
+    bytesIn (lengthWritten (put .answer)) (put .out)
 
 unfoldable pub file : ℕ → ℕ → Lent → List ℕ
 file room root P =
