@@ -1,6 +1,6 @@
 #!/usr/bin/env bash
 # The program sheet over a folder of cases: each has a line, an expected output, its origin, and a nodes.bin unless that is to be missing.
-# It runs with 4 MiB of stack and must end with status 0.
+# It runs with 4 MiB of stack, must end with status 0 and must write nothing to standard error.
 set -u
 cd "$(dirname "$0")/.."
 program=$PWD/target/bin/sheet
@@ -16,7 +16,7 @@ for case in tests/sheet/*/; do
   (cd "$work" && "$program") < "$case/line" > "$work/out" 2> "$work/errors"
   status=$?
   count=$((count + 1))
-  if [ "$status" -ne 0 ] || ! cmp -s "$work/out" "$case/expected"; then
+  if [ "$status" -ne 0 ] || [ -s "$work/errors" ] || ! cmp -s "$work/out" "$case/expected"; then
     bad=$((bad + 1))
     echo "$name: status $status, printed:"
     head -c 400 "$work/out"

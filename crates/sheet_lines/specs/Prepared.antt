@@ -15,7 +15,9 @@ use Rattle.taylor.specs.Expand.{Point, expand}
 use Rattle.taylor_base.specs.Answers.{terms}
 use Rattle.expand.specs.declared.point.Point.the-variants as place
 use Rattle.shape.specs.File.{readFile}
-use Rattle.sheet_text.specs.Sheet.{Coefficients, coefficientsOf, empty, expandRoot}
+use Rattle.inputs.specs.Rooms.{Holds}
+use Rattle.sheet_text.specs.Line.{Line, usage, asks, parse}
+use Rattle.sheet_text.specs.Sheet.{Coefficients, coefficientsOf, empty, expandRoot, sheet}
 use Rattle.sheet_page.specs.declared.first.Page.{Page}
 use Rattle.sheet_page.specs.declared.first.Verdict.{Verdict}
 use Rattle.sheet_page.specs.Pages.{wholeOf, Printable}
@@ -50,3 +52,13 @@ fileCoefficients file v order x = expandRoot v order x (readFile file empty)
 pub record Prepared (page : Page) (ks ws text : List ℕ) : Type 0 where
   pub whole : wholeOf page ks ws ≡ text
   pub printable : Printable page ks ws
+
+-- "Anything else prints `usage`, before the file is looked at": where the line asks for a sheet, the room has what was read of the file
+abbrev pub LookedAt : Line → List ℕ → ℕ → List ℕ → Type 0
+LookedAt usage room n file = Unit {0}
+LookedAt (asks v order x) room n file = Holds room n file
+
+-- whatever file and line were read into the rooms, n and m bytes of them, the page is their sheet
+abbrev pub PreparedFrom : List ℕ → ℕ → List ℕ → ℕ → Page → List ℕ → List ℕ → Type 0
+PreparedFrom fileRoom n lineRoom m page ks ws =
+    (file line : List ℕ) → Holds lineRoom m line → LookedAt (parse line) fileRoom n file → Prepared page ks ws (sheet file line)

@@ -1,7 +1,7 @@
 -- The pieces are short enough to be put, and all of them in order are the sheet.
 -- Assumes nothing.
 use mathlib.Core.Path.{_≡_, refl, sym, ap, _∙_}
-use mathlib.Core.Bool.{Bool, true, false, cond}
+use mathlib.Core.Bool.{Bool, true, false, _&&_, cond}
 use mathlib.Core.Logic.{_≢_}
 use mathlib.Core.List.{List, [], _∷_, _++_, append-nil, append-assoc}
 use Prim.Native.Nat.{ℕ, zero, suc, _+_, _-_, min, _≤_, _<_}
@@ -9,8 +9,8 @@ use native.Mathlib.Nat.{min-eq-left, add-zero}
 use native.Mathlib.Omega.{arith}
 use lib.IntN.{ℤ, pos, negsuc}
 use lib.ListN.{length, length-append}
-use lib.Dec.{ltb}
-use borrow.Author.Tests.{lt-ltb, le-ltb, ltb-true, le-leb, lt-leb}
+use lib.Dec.{leb, ltb}
+use borrow.Author.Tests.{lt-ltb, le-ltb, ltb-true, le-leb, lt-leb, leb-true}
 use Rattle.text.specs.Text.{mostDigits, decimal, signedDecimal}
 use Rattle.text.proofs.Digits.{decimal-is-short}
 use Rattle.walks.specs.Print.{longestText}
@@ -221,3 +221,19 @@ module _ (page : Page) (ks ws : List ℕ) (line part room : ℕ) where
 
   pub may-be-put : longestText ≤ room → page .lines ≤ terms → short (pieceOf page ks ws line part) ≡ putOf page ks ws line part room
   may-be-put h k = rw (le-leb longestText room h, le-leb (page .lines) terms k) refl
+
+  -- what is put has room
+  pub put-fits : length (putOf page ks ws line part room) ≤ room
+  put-fits = go (leb longestText room) (leb (page .lines) terms) refl
+    where
+      piece : List ℕ
+      piece = pieceOf page ks ws line part
+
+      is-short : (t : Bool) → leb (length piece) longestText ≡ t → length (pick t piece []) ≤ longestText
+      is-short true e = leb-true (length piece) longestText e
+      is-short false e = omega arith
+
+      go : (t u : Bool) → leb longestText room ≡ t → length (pick (t && u) (short piece) []) ≤ room
+      go true true e = omega (arith, is-short (leb (length piece) longestText) refl, leb-true longestText room e)
+      go true false e = omega arith
+      go false u e = omega arith

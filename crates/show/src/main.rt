@@ -1,28 +1,34 @@
 // The program `show`: the expression in nodes.bin as text, for an author who wants to look at a file.
+use inputs::FILE_ROOM;
+use inputs::Input;
 use lent::Answer;
 use lent::Written;
 use libc::STDOUT_FILENO;
 use pool::LIMIT;
 
-// One byte more than the longest file has.
-const FILE_ROOM: usize = 4 + 9 * LIMIT + 1;
-
-fn put_refused(number: u32) {
-    io::write_all(STDOUT_FILENO, b"refused ");
-    io::print_decimal(STDOUT_FILENO, number as u64);
-    io::write_all(STDOUT_FILENO, b"\n");
+// `refused`, a space and the number. Each function that prints answers whether all of it was written.
+fn put_refused(number: u32) -> bool {
+    if !io::write_all(STDOUT_FILENO, b"refused ") {
+        return false;
+    }
+    if !io::print_decimal(STDOUT_FILENO, number as u64) {
+        return false;
+    }
+    io::write_all(STDOUT_FILENO, b"\n")
 }
 
-fn put_text(text: &[u8], n: u64) {
+fn put_text(text: &[u8], n: u64) -> bool {
     let end = n as usize;
     if end <= text.len() {
-        io::write_all(STDOUT_FILENO, &text[..end]);
+        if !io::write_all(STDOUT_FILENO, &text[..end]) {
+            return false;
+        }
     }
-    io::write_all(STDOUT_FILENO, b"\n");
+    io::write_all(STDOUT_FILENO, b"\n")
 }
 
 // The text of a root.
-fn show_root(kinds: &[u8], words: &[u64], count: u64, root: u64) {
+fn show_root(kinds: &[u8], words: &[u64], count: u64, root: u64) -> bool {
     let mut text = [0u8; print::TEXT_MAX];
     match engine_print::print(kinds, words, count, root, &mut text) {
         Written::Length(n) => put_text(&text, n),
@@ -31,7 +37,7 @@ fn show_root(kinds: &[u8], words: &[u64], count: u64, root: u64) {
 }
 
 // The file's nodes in an empty pool.
-fn show_file(file: &[u8]) {
+fn show_file(file: &[u8]) -> bool {
     let mut kinds = [0u8; LIMIT];
     let mut words = [0u64; LIMIT];
     let mut count = 0;
@@ -42,13 +48,15 @@ fn show_file(file: &[u8]) {
 }
 
 fn main() {
-    let fd = os::open_read(b"nodes.bin");
-    if fd < 0 {
-        os::fail(b"nodes.bin");
-        return;
-    }
     let mut file = [0u8; FILE_ROOM];
-    let n = io::read_full(fd, &mut file);
-    libc::close(fd);
-    show_file(&file[..n]);
+    let input = inputs::read_nodes(&mut file);
+    match input {
+        Input::Bytes(n) => {
+            if !show_file(&file[..n]) {
+                os::fail(b"standard output");
+            }
+        }
+        Input::Missing => os::fail(b"nodes.bin"),
+        Input::Failed => {}
+    }
 }

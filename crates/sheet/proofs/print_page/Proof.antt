@@ -1,20 +1,24 @@
--- `sheet::print_page` meets its contract: the output keeps its length.
+-- `sheet::print_page` meets its contract: the output keeps its length, and each turn leaves one line less.
 -- Assumes nothing.
 use borrow.Author.Needs.{needs}
 use native.Mathlib.Omega.{arith}
 use mathlib.Core.Path.{_≡_, refl, _∙_}
 use Prim.Native.Nat.{_+_, _-_}
 use lib.ListN.{length}
-use Rattle.taylor_base.specs.Answers.{terms}
 use Rattle.walks.specs.Print.{longestText}
 use Rattle.sheet.proofs.print_page.Statement.{statement}
 use Rattle.sheet.proofs.print_page.Tie as tie
+use Rattle.sheet.proofs.print_page.Reads as reads
+use Rattle.sheet.proofs.print_page.Lts as lts
 
 abbrev Inv-loop : tie.InvT-loop
-Inv-loop page kinds words out₀ line₀ t6 out line = length out ≡ longestText
+Inv-loop page kinds words out₀ lines line₀ t7 out line = length out ≡ longestText
 
 abbrev μ-loop : tie.MeasureT-loop
-μ-loop page kinds words out₀ line₀ t6 out line = terms + 1 - line
+μ-loop page kinds words out₀ lines line₀ t7 out line = lines + 1 - line
+
+cast-lines : tie.Need-cast-lines Inv-loop μ-loop
+cast-lines c = search needs
 
 loop-holds : tie.Need-loop-holds Inv-loop μ-loop
 loop-holds c = refl
@@ -55,6 +59,7 @@ print-page-spec =
     (tie.spec
     Inv-loop
     μ-loop
+    cast-lines
     loop-holds
     cast-print-line
     slice-aggregate-print-line
