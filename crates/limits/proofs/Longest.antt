@@ -13,10 +13,10 @@ use Rattle.refusals.specs.Refusals.{poolFull}
 use Rattle.pool.specs.declared.node.Node.{Node}
 use Rattle.pool.specs.declared.node.Node.the-variants.{Variable, Exp}
 use Rattle.pool.specs.Nodes.{decode, mayStandAt}
-use Rattle.pool.specs.Pool.{Pool, pool, limit, nodeIn, nodeAt, Out, refused, each}
+use Rattle.pool.specs.Pool.{Pool, pool, limit, nodeIn, nodeAt, Out, refused, each, empty}
 use Rattle.shape.specs.Order.{walk, numbered}
 use Rattle.shape.specs.File.{fileFrom, sizeOf, readFile}
-use Rattle.shape.specs.Demand.{KeepsRules, emptyPool}
+use Rattle.shape.specs.Demand.{KeepsRules}
 use Rattle.shape.proofs.Pools.{empty-keeps-rules}
 use Rattle.shape.proofs.Demand3.{length-of-a-file, size-of-a-file, reads-back, reads-into-no-full-pool}
 use Rattle.engine_file.specs.Write.{fileOver}
@@ -99,9 +99,9 @@ file-is : file 36868 4095 chain ≡ fileFrom chainPool 4095
 unfolding chain chainPool
 file-is = file-by chain chain-by-rules 36868 4095 ∙ taken-whole (fileFrom chainPool 4095) chain-length
 
-into-empty : nodeGiven (leaves (emptyPool .kinds) (emptyPool .words) 0 (readFile (fileFrom chainPool 4095) emptyPool) .answer) ≡ gives 4095
+into-empty : nodeGiven (leaves (empty .kinds) (empty .words) 0 (readFile (fileFrom chainPool 4095) empty) .answer) ≡ gives 4095
 into-empty =
-    let (s, R, e, shape, left) = reads-back chainPool emptyPool chain-keeps empty-keeps-rules 4095 last-there (room, room) in
+    let (s, R, e, shape, left) = reads-back chainPool empty chain-keeps empty-keeps-rules 4095 last-there (room, room) in
     let last : s + 1 ≡ R .count = left .root-last in
     let grown : R .count ≡ 0 + sizeOf (fileFrom chainPool 4095) = left .grows in
     rw e (ap gives (omega (arith, chain-size)))
