@@ -100,6 +100,7 @@ unfolding chain chainPool
 file-is = file-by chain chain-by-rules 36868 4095 ∙ taken-whole (fileFrom chainPool 4095) chain-length
 
 into-empty : nodeGiven (leaves (empty .kinds) (empty .words) 0 (readFile (fileFrom chainPool 4095) empty) .answer) ≡ gives 4095
+unfolding empty
 into-empty =
     let (s, R, e, shape, left) = reads-back chainPool empty chain-keeps empty-keeps-rules 4095 last-there (room, room) in
     let last : s + 1 ≡ R .count = left .root-last in
@@ -110,7 +111,7 @@ into-empty =
     room = omega (arith, chain-size)
 
 longest-read : called (readFile (file 36868 4095 chain)) (lent []) ≡ gives 4095
-unfolding each
+unfolding each empty
 longest-read = rw file-is (called-on [] refl (readFile (fileFrom chainPool 4095)) ∙ into-empty)
 
 -- a pool with one node has no room for it
