@@ -1,13 +1,7 @@
 pub mod Pools
 pub mod Called
-pub mod Longest
 pub mod LentPools
 pub mod Arguments
 pub mod Reading
 pub mod Working
 pub mod Values
-pub mod Outputs
-pub mod Printing
-pub mod Files
-pub mod Sheets
-pub mod Numbers

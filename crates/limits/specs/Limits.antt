@@ -18,8 +18,8 @@ use Rattle.engine_series.specs.declared.indexed.Indexed.the-variants as indexed
 use Rattle.engine_pairs.specs.Pairs as pairs
 use Rattle.engine_pairs.specs.declared.binary.Binary.the-variants as binary
 use Rattle.engine_expand.specs.Expressions.{expandWork}
-use Rattle.limits.specs.Lent.{Lent, lent, tables, variable, literal, sum, product, quotient, greater, exponential, logarithm, power, full, chain, underMul, text65535, text65536}
-use Rattle.limits.specs.Calls.{Answer, gives, refuses, called, expanded, listed, listOf, evaluated, evaluatedByResidues, printed, written, file}
+use Rattle.limits.specs.Lent.{Lent, lent, tables, variable, literal, sum, product, quotient, greater, exponential, logarithm, power, full, underMul}
+use Rattle.limits.specs.Calls.{Answer, gives, refuses, called, expanded, listed, listOf, evaluated, evaluatedByResidues, printed, written}
 use Rattle.limits.specs.Written.{hex}
 
 -- "An empty pool has count 0."
@@ -188,20 +188,3 @@ pub record Values : Type 0 where
   pub a-third : evaluated [] 2 (lent (literal 1 ∷ literal 3 ∷ quotient 0 1 ∷ [])) ≡ gives 0x3FD5_5555_5555_5555
   pub no-number : evaluated [] 1 (lent (literal 0 ∷ quotient 0 0 ∷ [])) ≡ gives 0x7FF8_0000_0000_0000
   pub a-half : evaluatedByResidues [] 2 (lent (literal 1 ∷ literal 2 ∷ quotient 0 1 ∷ [])) ≡ gives 1073741824
-
--- 19. "The lent output is too short, or a text has more than 65,535 bytes."
-pub record Outputs : Type 0 where
-  pub text-of-1-in-1 : printed 1 0 x0 ≡ gives 1
-  pub text-of-1-in-0 : printed 0 0 x0 ≡ refuses 19
-  pub text-65535 : printed 65535 15 (lent text65535) ≡ gives 65535
-  pub text-65535-in-65534 : printed 65534 15 (lent text65535) ≡ refuses 19
-  pub text-65536 : printed 65536 30 (lent text65536) ≡ refuses 19
-  pub file-of-13-in-13 : written 13 0 x0 ≡ gives 13
-  pub file-of-13-in-12 : written 12 0 x0 ≡ refuses 19
-
--- "The longest file has 36,868 bytes.": of 4,096 nodes, written and read back; after one more node 18
-pub record Longest : Type 0 where
-  pub file-in-36868 : written 36868 4095 chain ≡ gives 36868
-  pub file-in-36867 : written 36867 4095 chain ≡ refuses 19
-  pub read-into-nothing : called (readFile (file 36868 4095 chain)) nothing ≡ gives 4095
-  pub read-after-one : called (readFile (file 36868 4095 chain)) x0 ≡ refuses 18

@@ -1,1 +1,1 @@
-// The limits and the refusal numbers of document 01, as one proved statement; there is no code here.
+// The limits and the refusal numbers of document 01, by what the calls answer; there is no code here.

@@ -5,8 +5,8 @@ use Rattle.pool.specs.Nodes.{decode, mayStandAt}
 use Rattle.pool.specs.Pool.{append, nodeIn, each}
 use Rattle.shape.specs.Order as order
 use Rattle.shape.specs.File.{fileOf, writtenFile, readFile, isSized, areNodes, areInOrder, isInOrder, entryIn, appendFirst}
-use Rattle.limits.specs.Files.{Files}
+use Rattle.limits_texts.specs.Files.{Files}
 use Rattle.limits.proofs.Called.{called-on, file-on}
 
 pub files : Files
 unfolding nodeIn decode mayStandAt each append order.walk order.numbered order.written fileOf writtenFile readFile isSized areNodes areInOrder isInOrder entryIn appendFirst

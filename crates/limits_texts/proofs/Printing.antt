@@ -5,8 +5,8 @@ use Rattle.text.specs.Text.{digitsWithin, decimal, signedDecimal, display}
 use Rattle.pool.specs.Nodes.{decode, mayStandAt}
 use Rattle.pool.specs.Fold.{under, foldNodesWithin, foldNodes}
 use Rattle.pool.specs.Pool.{nodeIn, each}
-use Rattle.limits.specs.Printing.{Printing}
+use Rattle.limits_texts.specs.Printing.{Printing}
 use Rattle.limits.proofs.Called.{text-on}
 
 pub printing : Printing
 unfolding nodeIn decode mayStandAt each display signedDecimal decimal digitsWithin foldNodes foldNodesWithin under

@@ -21,11 +21,11 @@ use Rattle.shape.proofs.Pools.{empty-keeps-rules}
 use Rattle.shape.proofs.Demand3.{length-of-a-file, size-of-a-file, reads-back, reads-into-no-full-pool}
 use Rattle.engine_file.specs.Write.{fileOver}
 use Rattle.lent.specs.Call.{leaves}
 use Rattle.limits.specs.Lent.{lent, chain, variable, kindsOf, wordsOf}
 use Rattle.limits.specs.Calls.{Answer, gives, refuses, called, nodeGiven, output, lengthWritten, written, file}
-use Rattle.limits.specs.Limits.{Longest}
+use Rattle.limits_texts.specs.Outputs.{Longest}
 use Rattle.limits.proofs.Pools.{chain-by-rules, chainKinds, chainWords, chain-entry, from-below}
 use Rattle.limits.proofs.Called.{called-on, written-by, file-by, fileIn}
 
 chainPool : Pool
 chainPool = pool chainKinds chainWords 4096 limit

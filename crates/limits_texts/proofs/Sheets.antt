@@ -16,10 +16,10 @@ use Rattle.taylor.specs.Expansion.{times}
 use Rattle.taylor.specs.Expand.{expandBelow}
 use Rattle.sheet_text.specs.Line.{digitsFrom, decimalOf, pointOf, fields, parse}
 use Rattle.sheet_text.specs.Sheet.{empty, coefficients, linesFrom, sheet}
 use Rattle.limits.specs.Lent.{text65535, text65536}
 use Rattle.limits.specs.Written.{bytes}
-use Rattle.limits.specs.Sheets.{Sheets}
+use Rattle.limits_texts.specs.Sheets.{Sheets}
 use Rattle.limits.proofs.Called.{file-on}
 
 pub sheets : Sheets
 unfolding sheet parse fields decimalOf digitsFrom pointOf coefficients empty readFile isSized areNodes areInOrder isInOrder entryIn appendFirst order.walk order.numbered order.written fileOf writtenFile mayStandAt each append calls build mulLits mulExps mulLeft mulPows mulLast nodeIn decode display signedDecimal decimal digitsWithin times expandBelow linesFrom foldNodes foldNodesWithin under

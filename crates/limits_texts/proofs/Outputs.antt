@@ -7,8 +7,8 @@ use Rattle.pool.specs.Fold.{under, foldNodesWithin, foldNodes}
 use Rattle.pool.specs.Pool.{nodeIn, each}
 use Rattle.shape.specs.Order as order
 use Rattle.shape.specs.File.{fileOf, writtenFile}
-use Rattle.limits.specs.Limits.{Outputs}
+use Rattle.limits_texts.specs.Outputs.{Outputs}
 use Rattle.limits.proofs.Called.{printed-on, written-on}
 
 pub outputs : Outputs
 unfolding nodeIn decode mayStandAt each display signedDecimal decimal digitsWithin order.walk order.numbered order.written fileOf writtenFile foldNodes foldNodesWithin under

@@ -1,0 +1,6 @@
+pub mod Longest
+pub mod Outputs
+pub mod Printing
+pub mod Files
+pub mod Sheets
+pub mod Numbers

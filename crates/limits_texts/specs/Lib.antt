@@ -1,0 +1,5 @@
+pub mod Outputs
+pub mod Printing
+pub mod Files
+pub mod Sheets
+pub mod Numbers
