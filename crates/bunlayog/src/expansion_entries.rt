@@ -1,10 +1,7 @@
 // What is asked of one expansion: an entry, its length, and the expansion of given coefficients.
 ghost use mathlib.Core.Path.{_≡_};
-ghost use Rattle.taylor.specs.Expansion.{coeff, derivative};
 ghost use Rattle.lent.specs.Call.{onPool};
-ghost use Rattle.lent_series.specs.Series.{given};
-ghost use Rattle.lent_series.specs.Call.{asRun};
-ghost use Rattle.engine_series.specs.Operations.{givenIndex, countOf, coefficientsOf};
+ghost use Rattle.engine_series.specs.Operations.{coeffCall, derivativeCall, countOf, coefficientsOf};
 ghost use Rattle.c_answers.specs.Interface.{leftInC, inC, valueInC};
 ghost use Rattle.c_answers.specs.Expansions.{series, countInC, outcomeLeftInC, outcomeInC};
 use c_answers::answered;
@@ -24,7 +21,7 @@ pub extern "C" fn bunlayog_taylor_coeff(
     index: u64,
     node: &mut u64,
 ) -> u32
-    ensures { λ r. ⌜ leftInC r (now (kinds .exit)) (now (words .exit)) (now (count .exit)) (now (node .exit)) ≡ inC (now (node .entry)) (onPool (asRun (givenIndex (series order (now (coeffs .entry))) index (coeff (given (series order (now (coeffs .entry)))) index))) (now (kinds .entry)) (now (words .entry)) (now (count .entry))) ⌝ }
+    ensures { λ r. ⌜ leftInC r (now (kinds .exit)) (now (words .exit)) (now (count .exit)) (now (node .exit)) ≡ inC (now (node .entry)) (onPool (coeffCall (series order (now (coeffs .entry))) index) (now (kinds .entry)) (now (words .entry)) (now (count .entry))) ⌝ }
 {
     let given = *coeffs;
     let s = Series {
@@ -45,7 +42,7 @@ pub extern "C" fn bunlayog_taylor_derivative(
     index: u64,
     node: &mut u64,
 ) -> u32
-    ensures { λ r. ⌜ leftInC r (now (kinds .exit)) (now (words .exit)) (now (count .exit)) (now (node .exit)) ≡ inC (now (node .entry)) (onPool (asRun (givenIndex (series order (now (coeffs .entry))) index (derivative (given (series order (now (coeffs .entry)))) index))) (now (kinds .entry)) (now (words .entry)) (now (count .entry))) ⌝ }
+    ensures { λ r. ⌜ leftInC r (now (kinds .exit)) (now (words .exit)) (now (count .exit)) (now (node .exit)) ≡ inC (now (node .entry)) (onPool (derivativeCall (series order (now (coeffs .entry))) index) (now (kinds .entry)) (now (words .entry)) (now (count .entry))) ⌝ }
 {
     let given = *coeffs;
     let s = Series {

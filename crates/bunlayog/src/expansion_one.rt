@@ -1,9 +1,7 @@
 // The operations on one expansion as C functions.
 ghost use mathlib.Core.Path.{_≡_};
-ghost use Rattle.taylor.specs.Expansion.{negate, exponential, logarithm, power};
-ghost use Rattle.lent_series.specs.Series.{given};
-ghost use Rattle.lent_series.specs.Call.{onPool, givenSeries};
-ghost use Rattle.engine_series.specs.Operations.{varWork};
+ghost use Rattle.lent_series.specs.Call.{onPool};
+ghost use Rattle.engine_series.specs.Operations.{varWork, negCall, expCall, logCall, powCall};
 ghost use Rattle.c_answers.specs.Expansions.{series, seriesLeftInC, seriesInC};
 use c_answers::outcome_answered;
 use lent_series::Series;
@@ -20,7 +18,7 @@ pub extern "C" fn bunlayog_taylor_neg(
     order_out: &mut u64,
     coeffs_out: &mut [u64; TERMS],
 ) -> u32
-    ensures { λ r. ⌜ seriesLeftInC r (now (kinds .exit)) (now (words .exit)) (now (count .exit)) (now («order_out» .exit)) (now («coeffs_out» .exit)) ≡ seriesInC (now («order_out» .entry)) (now («coeffs_out» .entry)) (onPool (givenSeries (series order (now (coeffs .entry))) (negate (given (series order (now (coeffs .entry)))))) (now (kinds .entry)) (now (words .entry)) (now (count .entry))) ⌝ }
+    ensures { λ r. ⌜ seriesLeftInC r (now (kinds .exit)) (now (words .exit)) (now (count .exit)) (now («order_out» .exit)) (now («coeffs_out» .exit)) ≡ seriesInC (now («order_out» .entry)) (now («coeffs_out» .entry)) (onPool (negCall (series order (now (coeffs .entry)))) (now (kinds .entry)) (now (words .entry)) (now (count .entry))) ⌝ }
 {
     let given = *coeffs;
     let s = Series {
@@ -45,7 +43,7 @@ pub extern "C" fn bunlayog_taylor_exp(
     order_out: &mut u64,
     coeffs_out: &mut [u64; TERMS],
 ) -> u32
-    ensures { λ r. ⌜ seriesLeftInC r (now (kinds .exit)) (now (words .exit)) (now (count .exit)) (now («order_out» .exit)) (now («coeffs_out» .exit)) ≡ seriesInC (now («order_out» .entry)) (now («coeffs_out» .entry)) (onPool (givenSeries (series order (now (coeffs .entry))) (exponential (given (series order (now (coeffs .entry)))))) (now (kinds .entry)) (now (words .entry)) (now (count .entry))) ⌝ }
+    ensures { λ r. ⌜ seriesLeftInC r (now (kinds .exit)) (now (words .exit)) (now (count .exit)) (now («order_out» .exit)) (now («coeffs_out» .exit)) ≡ seriesInC (now («order_out» .entry)) (now («coeffs_out» .entry)) (onPool (expCall (series order (now (coeffs .entry)))) (now (kinds .entry)) (now (words .entry)) (now (count .entry))) ⌝ }
 {
     let given = *coeffs;
     let s = Series {
@@ -70,7 +68,7 @@ pub extern "C" fn bunlayog_taylor_log(
     order_out: &mut u64,
     coeffs_out: &mut [u64; TERMS],
 ) -> u32
-    ensures { λ r. ⌜ seriesLeftInC r (now (kinds .exit)) (now (words .exit)) (now (count .exit)) (now («order_out» .exit)) (now («coeffs_out» .exit)) ≡ seriesInC (now («order_out» .entry)) (now («coeffs_out» .entry)) (onPool (givenSeries (series order (now (coeffs .entry))) (logarithm (given (series order (now (coeffs .entry)))))) (now (kinds .entry)) (now (words .entry)) (now (count .entry))) ⌝ }
+    ensures { λ r. ⌜ seriesLeftInC r (now (kinds .exit)) (now (words .exit)) (now (count .exit)) (now («order_out» .exit)) (now («coeffs_out» .exit)) ≡ seriesInC (now («order_out» .entry)) (now («coeffs_out» .entry)) (onPool (logCall (series order (now (coeffs .entry)))) (now (kinds .entry)) (now (words .entry)) (now (count .entry))) ⌝ }
 {
     let given = *coeffs;
     let s = Series {
@@ -96,7 +94,7 @@ pub extern "C" fn bunlayog_taylor_pow(
     order_out: &mut u64,
     coeffs_out: &mut [u64; TERMS],
 ) -> u32
-    ensures { λ r. ⌜ seriesLeftInC r (now (kinds .exit)) (now (words .exit)) (now (count .exit)) (now («order_out» .exit)) (now («coeffs_out» .exit)) ≡ seriesInC (now («order_out» .entry)) (now («coeffs_out» .entry)) (onPool (givenSeries (series order (now (coeffs .entry))) (power (given (series order (now (coeffs .entry)))) exp)) (now (kinds .entry)) (now (words .entry)) (now (count .entry))) ⌝ }
+    ensures { λ r. ⌜ seriesLeftInC r (now (kinds .exit)) (now (words .exit)) (now (count .exit)) (now («order_out» .exit)) (now («coeffs_out» .exit)) ≡ seriesInC (now («order_out» .entry)) (now («coeffs_out» .entry)) (onPool (powCall (series order (now (coeffs .entry))) exp) (now (kinds .entry)) (now (words .entry)) (now (count .entry))) ⌝ }
 {
     let given = *coeffs;
     let s = Series {

@@ -1,10 +1,7 @@
 // The operations on two expansions as C functions.
 ghost use mathlib.Core.Path.{_≡_};
-ghost use mathlib.Core.Bool.{_&&_};
-ghost use Rattle.taylor.specs.Expansion.{subFrom, times, quotient, maximum};
-ghost use Rattle.lent_series.specs.Series.{lengthOk, given};
-ghost use Rattle.lent_series.specs.Call.{onPool, givenTwo};
-ghost use Rattle.engine_pairs.specs.Pairs.{addCall, substCall};
+ghost use Rattle.lent_series.specs.Call.{onPool};
+ghost use Rattle.engine_pairs.specs.Pairs.{addCall, subCall, mulCall, divCall, maxCall, substCall};
 ghost use Rattle.c_answers.specs.Expansions.{series, seriesLeftInC, seriesInC};
 use c_answers::outcome_answered;
 use lent_series::Series;
@@ -55,7 +52,7 @@ pub extern "C" fn bunlayog_taylor_sub(
     order_out: &mut u64,
     coeffs_out: &mut [u64; TERMS],
 ) -> u32
-    ensures { λ r. ⌜ seriesLeftInC r (now (kinds .exit)) (now (words .exit)) (now (count .exit)) (now («order_out» .exit)) (now («coeffs_out» .exit)) ≡ seriesInC (now («order_out» .entry)) (now («coeffs_out» .entry)) (onPool (givenTwo (series «lhs_order» (now (lhs .entry))) (series «rhs_order» (now (rhs .entry))) (lengthOk (series «lhs_order» (now (lhs .entry))) && lengthOk (series «rhs_order» (now (rhs .entry)))) (subFrom (given (series «lhs_order» (now (lhs .entry)))) (given (series «rhs_order» (now (rhs .entry)))))) (now (kinds .entry)) (now (words .entry)) (now (count .entry))) ⌝ }
+    ensures { λ r. ⌜ seriesLeftInC r (now (kinds .exit)) (now (words .exit)) (now (count .exit)) (now («order_out» .exit)) (now («coeffs_out» .exit)) ≡ seriesInC (now («order_out» .entry)) (now («coeffs_out» .entry)) (onPool (subCall (series «lhs_order» (now (lhs .entry))) (series «rhs_order» (now (rhs .entry)))) (now (kinds .entry)) (now (words .entry)) (now (count .entry))) ⌝ }
 {
     let left = *lhs;
     let right = *rhs;
@@ -87,7 +84,7 @@ pub extern "C" fn bunlayog_taylor_mul(
     order_out: &mut u64,
     coeffs_out: &mut [u64; TERMS],
 ) -> u32
-    ensures { λ r. ⌜ seriesLeftInC r (now (kinds .exit)) (now (words .exit)) (now (count .exit)) (now («order_out» .exit)) (now («coeffs_out» .exit)) ≡ seriesInC (now («order_out» .entry)) (now («coeffs_out» .entry)) (onPool (givenTwo (series «lhs_order» (now (lhs .entry))) (series «rhs_order» (now (rhs .entry))) (lengthOk (series «lhs_order» (now (lhs .entry))) && lengthOk (series «rhs_order» (now (rhs .entry)))) (times (given (series «lhs_order» (now (lhs .entry)))) (given (series «rhs_order» (now (rhs .entry)))))) (now (kinds .entry)) (now (words .entry)) (now (count .entry))) ⌝ }
+    ensures { λ r. ⌜ seriesLeftInC r (now (kinds .exit)) (now (words .exit)) (now (count .exit)) (now («order_out» .exit)) (now («coeffs_out» .exit)) ≡ seriesInC (now («order_out» .entry)) (now («coeffs_out» .entry)) (onPool (mulCall (series «lhs_order» (now (lhs .entry))) (series «rhs_order» (now (rhs .entry)))) (now (kinds .entry)) (now (words .entry)) (now (count .entry))) ⌝ }
 {
     let left = *lhs;
     let right = *rhs;
@@ -119,7 +116,7 @@ pub extern "C" fn bunlayog_taylor_div(
     order_out: &mut u64,
     coeffs_out: &mut [u64; TERMS],
 ) -> u32
-    ensures { λ r. ⌜ seriesLeftInC r (now (kinds .exit)) (now (words .exit)) (now (count .exit)) (now («order_out» .exit)) (now («coeffs_out» .exit)) ≡ seriesInC (now («order_out» .entry)) (now («coeffs_out» .entry)) (onPool (givenTwo (series «lhs_order» (now (lhs .entry))) (series «rhs_order» (now (rhs .entry))) (lengthOk (series «lhs_order» (now (lhs .entry))) && lengthOk (series «rhs_order» (now (rhs .entry)))) (quotient (given (series «lhs_order» (now (lhs .entry)))) (given (series «rhs_order» (now (rhs .entry)))))) (now (kinds .entry)) (now (words .entry)) (now (count .entry))) ⌝ }
+    ensures { λ r. ⌜ seriesLeftInC r (now (kinds .exit)) (now (words .exit)) (now (count .exit)) (now («order_out» .exit)) (now («coeffs_out» .exit)) ≡ seriesInC (now («order_out» .entry)) (now («coeffs_out» .entry)) (onPool (divCall (series «lhs_order» (now (lhs .entry))) (series «rhs_order» (now (rhs .entry)))) (now (kinds .entry)) (now (words .entry)) (now (count .entry))) ⌝ }
 {
     let left = *lhs;
     let right = *rhs;
@@ -151,7 +148,7 @@ pub extern "C" fn bunlayog_taylor_max(
     order_out: &mut u64,
     coeffs_out: &mut [u64; TERMS],
 ) -> u32
-    ensures { λ r. ⌜ seriesLeftInC r (now (kinds .exit)) (now (words .exit)) (now (count .exit)) (now («order_out» .exit)) (now («coeffs_out» .exit)) ≡ seriesInC (now («order_out» .entry)) (now («coeffs_out» .entry)) (onPool (givenTwo (series «lhs_order» (now (lhs .entry))) (series «rhs_order» (now (rhs .entry))) (lengthOk (series «lhs_order» (now (lhs .entry))) && lengthOk (series «rhs_order» (now (rhs .entry)))) (maximum (given (series «lhs_order» (now (lhs .entry)))) (given (series «rhs_order» (now (rhs .entry)))))) (now (kinds .entry)) (now (words .entry)) (now (count .entry))) ⌝ }
+    ensures { λ r. ⌜ seriesLeftInC r (now (kinds .exit)) (now (words .exit)) (now (count .exit)) (now («order_out» .exit)) (now («coeffs_out» .exit)) ≡ seriesInC (now («order_out» .entry)) (now («coeffs_out» .entry)) (onPool (maxCall (series «lhs_order» (now (lhs .entry))) (series «rhs_order» (now (rhs .entry)))) (now (kinds .entry)) (now (words .entry)) (now (count .entry))) ⌝ }
 {
     let left = *lhs;
     let right = *rhs;

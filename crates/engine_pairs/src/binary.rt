@@ -3,11 +3,10 @@ ghost use mathlib.Core.Path.{_≡_};
 ghost use mathlib.Core.Bool.{_&&_};
 ghost use Rattle.pool.specs.Made.{poolOf};
 ghost use Rattle.pool.specs.Nodes.{allBelow};
-ghost use Rattle.taylor.specs.Expansion.{addTo, subFrom, times, quotient, maximum, subst};
 ghost use Rattle.taylor_base.specs.Answers.{expansionOf, Given, Answers};
-ghost use Rattle.lent_series.specs.Series.{nodesOf, lengthOk, given};
-ghost use Rattle.lent_series.specs.Call.{left, onPool, givenTwo};
-ghost use Rattle.engine_pairs.specs.Pairs.{binaryWork, agree, lengthsOk, onTwo};
+ghost use Rattle.lent_series.specs.Series.{nodesOf};
+ghost use Rattle.lent_series.specs.Call.{left, onPool};
+ghost use Rattle.engine_pairs.specs.Pairs.{binaryWork, agree, lengthsOk, onTwo, addCall, subCall, mulCall, divCall, maxCall, substCall};
 use lent_series::ENDLESS;
 use lent_series::Outcome;
 use lent_series::Series;
@@ -131,7 +130,7 @@ pub fn add(
     lhs: Series,
     rhs: Series,
 ) -> Outcome
-    ensures { λ r. ⌜ left r (now (kinds .exit)) (now (words .exit)) (now (count .exit)) ≡ onPool (givenTwo lhs rhs (lengthOk lhs && lengthOk rhs) (addTo (given lhs) (given rhs))) (now (kinds .entry)) (now (words .entry)) (now (count .entry)) ⌝ }
+    ensures { λ r. ⌜ left r (now (kinds .exit)) (now (words .exit)) (now (count .exit)) ≡ onPool (addCall lhs rhs) (now (kinds .entry)) (now (words .entry)) (now (count .entry)) ⌝ }
 {
     on_two(kinds, words, count, Binary::Add, lhs, rhs)
 }
@@ -144,7 +143,7 @@ pub fn sub(
     lhs: Series,
     rhs: Series,
 ) -> Outcome
-    ensures { λ r. ⌜ left r (now (kinds .exit)) (now (words .exit)) (now (count .exit)) ≡ onPool (givenTwo lhs rhs (lengthOk lhs && lengthOk rhs) (subFrom (given lhs) (given rhs))) (now (kinds .entry)) (now (words .entry)) (now (count .entry)) ⌝ }
+    ensures { λ r. ⌜ left r (now (kinds .exit)) (now (words .exit)) (now (count .exit)) ≡ onPool (subCall lhs rhs) (now (kinds .entry)) (now (words .entry)) (now (count .entry)) ⌝ }
 {
     on_two(kinds, words, count, Binary::Sub, lhs, rhs)
 }
@@ -157,7 +156,7 @@ pub fn mul(
     lhs: Series,
     rhs: Series,
 ) -> Outcome
-    ensures { λ r. ⌜ left r (now (kinds .exit)) (now (words .exit)) (now (count .exit)) ≡ onPool (givenTwo lhs rhs (lengthOk lhs && lengthOk rhs) (times (given lhs) (given rhs))) (now (kinds .entry)) (now (words .entry)) (now (count .entry)) ⌝ }
+    ensures { λ r. ⌜ left r (now (kinds .exit)) (now (words .exit)) (now (count .exit)) ≡ onPool (mulCall lhs rhs) (now (kinds .entry)) (now (words .entry)) (now (count .entry)) ⌝ }
 {
     on_two(kinds, words, count, Binary::Mul, lhs, rhs)
 }
@@ -170,7 +169,7 @@ pub fn div(
     lhs: Series,
     rhs: Series,
 ) -> Outcome
-    ensures { λ r. ⌜ left r (now (kinds .exit)) (now (words .exit)) (now (count .exit)) ≡ onPool (givenTwo lhs rhs (lengthOk lhs && lengthOk rhs) (quotient (given lhs) (given rhs))) (now (kinds .entry)) (now (words .entry)) (now (count .entry)) ⌝ }
+    ensures { λ r. ⌜ left r (now (kinds .exit)) (now (words .exit)) (now (count .exit)) ≡ onPool (divCall lhs rhs) (now (kinds .entry)) (now (words .entry)) (now (count .entry)) ⌝ }
 {
     on_two(kinds, words, count, Binary::Div, lhs, rhs)
 }
@@ -183,7 +182,7 @@ pub fn max(
     lhs: Series,
     rhs: Series,
 ) -> Outcome
-    ensures { λ r. ⌜ left r (now (kinds .exit)) (now (words .exit)) (now (count .exit)) ≡ onPool (givenTwo lhs rhs (lengthOk lhs && lengthOk rhs) (maximum (given lhs) (given rhs))) (now (kinds .entry)) (now (words .entry)) (now (count .entry)) ⌝ }
+    ensures { λ r. ⌜ left r (now (kinds .exit)) (now (words .exit)) (now (count .exit)) ≡ onPool (maxCall lhs rhs) (now (kinds .entry)) (now (words .entry)) (now (count .entry)) ⌝ }
 {
     on_two(kinds, words, count, Binary::Max, lhs, rhs)
 }
@@ -196,7 +195,7 @@ pub fn subst(
     outer: Series,
     inner: Series,
 ) -> Outcome
-    ensures { λ r. ⌜ left r (now (kinds .exit)) (now (words .exit)) (now (count .exit)) ≡ onPool (givenTwo outer inner ((lengthOk outer && lengthOk inner) && agree outer inner) (subst (given outer) (given inner))) (now (kinds .entry)) (now (words .entry)) (now (count .entry)) ⌝ }
+    ensures { λ r. ⌜ left r (now (kinds .exit)) (now (words .exit)) (now (count .exit)) ≡ onPool (substCall outer inner) (now (kinds .entry)) (now (words .entry)) (now (count .entry)) ⌝ }
 {
     on_two(kinds, words, count, Binary::Subst, outer, inner)
 }

@@ -32,6 +32,18 @@ unaryWork (unary.Pow n) e = power e n
 abbrev pub onOne : Unary → Series → Work Expansion
 onOne op s = givenSeries s (unaryWork op (given s))
 
+abbrev pub negCall : Series → Work Expansion
+negCall s = onOne unary.Neg s
+
+abbrev pub expCall : Series → Work Expansion
+expCall s = onOne unary.Exp s
+
+abbrev pub logCall : Series → Work Expansion
+logCall s = onOne unary.Log s
+
+abbrev pub powCall : Series → ℕ → Work Expansion
+powCall s n = onOne (unary.Pow n) s
+
 -- ---- an entry of one
 abbrev pub indexedWork : Indexed → Expansion → ℕ → Work ℕ
 indexedWork indexed.Coeff e k = coeff e k
@@ -46,6 +58,12 @@ givenIndex s k work P = demand refused (allBelow (P .count) (nodesOf s)) unknown
 
 abbrev pub onIndex : Indexed → Series → ℕ → Run
 onIndex op s k = asRun (givenIndex s k (indexedWork op (given s) k))
+
+abbrev pub coeffCall : Series → ℕ → Run
+coeffCall s k = onIndex indexed.Coeff s k
+
+abbrev pub derivativeCall : Series → ℕ → Run
+derivativeCall s k = onIndex indexed.Derivative s k
 
 -- ---- of a variable; 5. "An order is above 24"
 abbrev pub varWork : ℕ → ℕ → Work Expansion

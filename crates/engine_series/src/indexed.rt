@@ -4,11 +4,8 @@ ghost use Rattle.pool.specs.Made.{poolOf};
 ghost use Rattle.pool.specs.Pool.{limit};
 ghost use lib.ListN.{length};
 ghost use Rattle.lent.specs.Call.{left, onPool};
-ghost use Rattle.taylor.specs.Expansion.{coeff, derivative};
 ghost use Rattle.taylor_base.specs.Answers.{expansionOf, Given, HasIndex, worked};
-ghost use Rattle.lent_series.specs.Series.{given};
-ghost use Rattle.lent_series.specs.Call.{asRun};
-ghost use Rattle.engine_series.specs.Operations.{indexedWork, hasIndex, givenIndex, onIndex};
+ghost use Rattle.engine_series.specs.Operations.{indexedWork, hasIndex, onIndex, coeffCall, derivativeCall};
 use lent::Answer;
 use lent_series::ENDLESS;
 use lent_series::Series;
@@ -89,7 +86,7 @@ fn on_index(
 
 // Coefficient `index`.
 pub fn coeff(kinds: &mut [u8], words: &mut [u64], count: &mut u64, e: Series, index: u64) -> Answer
-    ensures { λ r. ⌜ left r (now (kinds .exit)) (now (words .exit)) (now (count .exit)) ≡ onPool (asRun (givenIndex e index (coeff (given e) index))) (now (kinds .entry)) (now (words .entry)) (now (count .entry)) ⌝ }
+    ensures { λ r. ⌜ left r (now (kinds .exit)) (now (words .exit)) (now (count .exit)) ≡ onPool (coeffCall e index) (now (kinds .entry)) (now (words .entry)) (now (count .entry)) ⌝ }
 {
     on_index(kinds, words, count, Indexed::Coeff, e, index)
 }
@@ -102,7 +99,7 @@ pub fn derivative(
     e: Series,
     index: u64,
 ) -> Answer
-    ensures { λ r. ⌜ left r (now (kinds .exit)) (now (words .exit)) (now (count .exit)) ≡ onPool (asRun (givenIndex e index (derivative (given e) index))) (now (kinds .entry)) (now (words .entry)) (now (count .entry)) ⌝ }
+    ensures { λ r. ⌜ left r (now (kinds .exit)) (now (words .exit)) (now (count .exit)) ≡ onPool (derivativeCall e index) (now (kinds .entry)) (now (words .entry)) (now (count .entry)) ⌝ }
 {
     on_index(kinds, words, count, Indexed::Derivative, e, index)
 }

@@ -1,11 +1,9 @@
 // The operations on one expansion.
 ghost use mathlib.Core.Path.{_≡_};
 ghost use Rattle.pool.specs.Made.{poolOf};
-ghost use Rattle.taylor.specs.Expansion.{negate, exponential, logarithm, power};
 ghost use Rattle.taylor_base.specs.Answers.{expansionOf, Given, Answers};
-ghost use Rattle.lent_series.specs.Series.{given};
-ghost use Rattle.lent_series.specs.Call.{left, onPool, givenSeries};
-ghost use Rattle.engine_series.specs.Operations.{unaryWork, onOne};
+ghost use Rattle.lent_series.specs.Call.{left, onPool};
+ghost use Rattle.engine_series.specs.Operations.{unaryWork, onOne, negCall, expCall, logCall, powCall};
 use lent_series::Outcome;
 use lent_series::Series;
 use pool::LIMIT;
@@ -64,21 +62,21 @@ fn on_one(kinds: &mut [u8], words: &mut [u64], count: &mut u64, op: Unary, s: Se
 
 // -e
 pub fn neg(kinds: &mut [u8], words: &mut [u64], count: &mut u64, e: Series) -> Outcome
-    ensures { λ r. ⌜ left r (now (kinds .exit)) (now (words .exit)) (now (count .exit)) ≡ onPool (givenSeries e (negate (given e))) (now (kinds .entry)) (now (words .entry)) (now (count .entry)) ⌝ }
+    ensures { λ r. ⌜ left r (now (kinds .exit)) (now (words .exit)) (now (count .exit)) ≡ onPool (negCall e) (now (kinds .entry)) (now (words .entry)) (now (count .entry)) ⌝ }
 {
     on_one(kinds, words, count, Unary::Neg, e)
 }
 
 // exp e
 pub fn exp(kinds: &mut [u8], words: &mut [u64], count: &mut u64, e: Series) -> Outcome
-    ensures { λ r. ⌜ left r (now (kinds .exit)) (now (words .exit)) (now (count .exit)) ≡ onPool (givenSeries e (exponential (given e))) (now (kinds .entry)) (now (words .entry)) (now (count .entry)) ⌝ }
+    ensures { λ r. ⌜ left r (now (kinds .exit)) (now (words .exit)) (now (count .exit)) ≡ onPool (expCall e) (now (kinds .entry)) (now (words .entry)) (now (count .entry)) ⌝ }
 {
     on_one(kinds, words, count, Unary::Exp, e)
 }
 
 // log e
 pub fn log(kinds: &mut [u8], words: &mut [u64], count: &mut u64, e: Series) -> Outcome
-    ensures { λ r. ⌜ left r (now (kinds .exit)) (now (words .exit)) (now (count .exit)) ≡ onPool (givenSeries e (logarithm (given e))) (now (kinds .entry)) (now (words .entry)) (now (count .entry)) ⌝ }
+    ensures { λ r. ⌜ left r (now (kinds .exit)) (now (words .exit)) (now (count .exit)) ≡ onPool (logCall e) (now (kinds .entry)) (now (words .entry)) (now (count .entry)) ⌝ }
 {
     on_one(kinds, words, count, Unary::Log, e)
 }
@@ -91,7 +89,7 @@ pub fn pow(
     e: Series,
     exponent: u32,
 ) -> Outcome
-    ensures { λ r. ⌜ left r (now (kinds .exit)) (now (words .exit)) (now (count .exit)) ≡ onPool (givenSeries e (power (given e) exponent)) (now (kinds .entry)) (now (words .entry)) (now (count .entry)) ⌝ }
+    ensures { λ r. ⌜ left r (now (kinds .exit)) (now (words .exit)) (now (count .exit)) ≡ onPool (powCall e exponent) (now (kinds .entry)) (now (words .entry)) (now (count .entry)) ⌝ }
 {
     on_one(kinds, words, count, Unary::Pow(exponent), e)
 }
