@@ -158,8 +158,13 @@ root-follows-the-book {from = from} h = h .each from (root (here from []))
 
 -- ---- the calls
 module _ {ks ws : List ℕ} {n : ℕ} {r : Outcome} {ks′ ws′ : List ℕ} {n′ : ℕ} (from v order : ℕ) where
-  call-follows : (x : Point) → Answered (expandWork from v x order) ks ws n r ks′ ws′ n′ → Expanded (lentPool ks ws n) (lentPool ks′ ws′ n′) v x order from (given (r .series))
-  call-follows x call =
+  -- what holds of every accepted expansion of an expression holds of the answer
+  pub expansion-holds :
+      (x : Point) (H : Pool → Expansion → Type 0)
+      → (Keeps (lentPool ks ws n) → from < n → v ≤ greatestVariable → order < terms → (e : Expansion) (Q : Pool) → expand from v x order (lentPool ks ws n) ≡ gives e Q → H Q e)
+      → Answered (expandWork from v x order) ks ws n r ks′ ws′ n′
+      → H (lentPool ks′ ws′ n′) (given (r .series))
+  expansion-holds x H holds call =
       let done = done-by call in
       let inside = demanded (allBelow n (from ∷ [])) unknownNode (done .worked) in
       let known = demanded (leb v greatestVariable) unknownVariable (inside .1) in
@@ -169,8 +174,11 @@ module _ {ks ws : List ℕ} {n : ℕ} {r : Outcome} {ks′ ws′ : List ℕ} {n�
       let known′ : v ≤ greatestVariable = leb-true v greatestVariable (known .0) in
       let small′ : order < terms = ltb-true order terms (small .0) in
       let k = kept-then (expand-kept (done .keeps) from v x order inside′ known′ small′) (small .1) in
-      holds-of-the-answer (λ Q e. Expanded (lentPool ks ws n) Q v x order from e) done (k .grown) (k .fits)
-      (expand-follows-the-book (lentPool ks ws n) v x order small′ (done .keeps) known′ from inside′ (small .1))
+      holds-of-the-answer H done (k .grown) (k .fits) (holds (done .keeps) inside′ known′ small′ (done .expansion) (done .finish) (small .1))
+
+  call-follows : (x : Point) → Answered (expandWork from v x order) ks ws n r ks′ ws′ n′ → Expanded (lentPool ks ws n) (lentPool ks′ ws′ n′) v x order from (given (r .series))
+  call-follows x =
+      expansion-holds x (λ Q e. Expanded (lentPool ks ws n) Q v x order from e) (λ keeps inside known small e Q eq. expand-follows-the-book (lentPool ks ws n) v x order small keeps known from inside eq)
 
   pub coeffs-call-follows-the-book : Answered (expandWork from v none order) ks ws n r ks′ ws′ n′ → Expanded (lentPool ks ws n) (lentPool ks′ ws′ n′) v none order from (given (r .series))
   coeffs-call-follows-the-book = call-follows none

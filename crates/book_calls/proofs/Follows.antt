@@ -1,7 +1,6 @@
 -- Whatever an accepted product, quotient, exponential or logarithm of expansions that may be given is worked on, constants or lists, its answer follows the book.
 -- Assumes nothing.
-use mathlib.Core.Path.{_≡_, ap, subst}
-use mathlib.Core.List.{List}
+use mathlib.Core.Path.{_≡_, subst}
 use Prim.Native.Nat.{ℕ}
 use native.Mathlib.Omega.{arith}
 use Rattle.pool.specs.Pool.{Pool, done, refused}

@@ -1,23 +1,26 @@
--- In every ring with fractions, for all values of the variables: the coefficients that an accepted call of `mul`, `div`, `exp` or `log` of expansions answers have the values of the book's formulas.
+-- In every ring with fractions, for all values of the variables: the coefficients that an accepted call of `mul`, `div`, `exp` or `log` of expansions answers have the values of the book's formulas; and those of an expression are the coefficients of its value in the algebra of series.
 -- Assumes nothing.
-use mathlib.Core.Path.{_≡_, refl}
+use mathlib.Core.Path.{_≡_}
 use mathlib.Core.Bool.{_&&_}
 use mathlib.Core.List.{List, [], _∷_}
-use Prim.Native.Nat.{ℕ, zero, suc, _<_}
+use Prim.Native.Nat.{ℕ, zero, suc, _^_, _<_}
 use native.Mathlib.Omega.{arith}
-use lib.ListN.{length}
+use lib.IntN.{ℤ}
+use lib.ListN.{length, getD}
 use Rattle.pool.specs.Pool.{Pool, nodeAt, done}
 use Rattle.constructor_laws.specs.Keeps.{Keeps}
 use Rattle.constructor_laws.proofs.Rules.{AllBelow, all-below}
 use Rattle.taylor.specs.Work.{at}
 use Rattle.taylor.specs.Expansion.{Expansion, Constant, Polynomial, times, quotient, exponential, logarithm}
-use Rattle.taylor_rules.specs.Kept.{nodesOf, Fits}
+use Rattle.taylor.specs.Expand.{none, point}
+use Rattle.taylor_rules.specs.Kept.{Fits}
 use Rattle.taylor_rules.proofs.Theorems.{times-kept, quotient-kept, exponential-kept, logarithm-kept}
 use Rattle.book.specs.Formula.{Formula, #, _⊗_, _⊘_, Exp, Log, work}
 use Rattle.meaning.specs.Model.{Algebra, Model, Distributive}
 use Rattle.meaning.specs.Value.{Values, value}
-use Rattle.taylor_meaning.specs.Series.{Fractions}
-use Rattle.book_meaning.specs.Value.{formulaValue}
+use Rattle.taylor_meaning.specs.Series.{series, Fractions}
+use Rattle.taylor_meaning.specs.Coefficients.{MeansSeries, asSeries}
+use Rattle.taylor_meaning.proofs.Theorems.{expansion-means}
 use Rattle.book_meaning.proofs.Working.{Stands}
 use Rattle.book_meaning.proofs.Recurrences.{worked-has-its-value}
 use Rattle.book_meaning.proofs.Theorems.{product-has-the-books-values, scaled-has-the-books-values, quotient-has-the-books-values, constant-quotient-has-the-books-values, divided-has-the-books-values, exp-has-the-books-values, log-has-the-books-values}
@@ -26,19 +29,21 @@ use Rattle.lent_series.specs.declared.series.Series.{Series}
 use Rattle.lent_series.specs.declared.call.Outcome.{Outcome}
 use Rattle.lent_series.specs.Series.{lengthOk, given}
 use Rattle.lent_series.specs.Call.{givenSeries, givenTwo}
+use Rattle.engine_expand.specs.Expressions.{expandWork}
 use Rattle.book_calls.specs.Follows.{ProductFollows, QuotientFollows, ExpFollows, LogFollows}
 use Rattle.book_calls.specs.Follows as follows
 use Rattle.book_calls.specs.Calls.{Array, Answered}
 use Rattle.book_calls.specs.Formulas.{productFormula, quotientFormula, expFormula, logFormula, HasValues}
 use Rattle.book_calls.proofs.Follows.{kept-then, product-follows, quotient-follows, exponential-follows, logarithm-follows}
 use Rattle.book_calls.proofs.Operations.{two-follow, one-follows}
+use Rattle.book_calls.proofs.Expressions.{expansion-holds}
 
 -- each entry of a list that is below is below
 entry-below : (n : ℕ) (cs : List ℕ) → AllBelow n cs → (k : ℕ) → k < length cs → at cs k < n
-entry-below n [] h k l = absurd (none l)
+entry-below n [] h k l = absurd (never l)
   where
-    none : k < 0 → ⊥
-    none l = omega arith
+    never : k < 0 → ⊥
+    never l = omega arith
 entry-below n (c ∷ cs) h zero l = h .0
 entry-below n (c ∷ cs) h (suc k) l = entry-below n cs (h .1) k (omega arith)
 
@@ -53,10 +58,10 @@ module _ {A : Algebra} (M : Model A) (D : Distributive A) (fractions : Fractions
     -- a constant that is one formula's
     constant-values : {v : ℕ} (f : Formula) → Stands P f → work f P ≡ done v Q → HasValues A env Q (Constant v) (λ k. f)
     constant-values f h e zero l = worked-has-its-value M env f P keeps h e
-    constant-values f h e (suc k) l = absurd (none l)
+    constant-values f h e (suc k) l = absurd (never l)
       where
-        none : suc k < 1 → ⊥
-        none l = omega arith
+        never : suc k < 1 → ⊥
+        never l = omega arith
 
     pub product-values : {s t e : Expansion} → ProductFollows P Q s t e → Fits (P .count) s → Fits (P .count) t → HasValues A env Q e (productFormula s t)
     product-values (follows.constants {b} {c} h) hs ht = constant-values (# b ⊗ # c) (node b hs, node c ht) h
@@ -109,3 +114,19 @@ module _ {A : Algebra} (M : Model A) (D : Distributive A) (fractions : Fractions
       log-call-has-the-books-values =
           one-follows logarithm (λ Q s e. HasValues A env Q e (logFormula s e)) (λ s e Q k hs eq. let x = kept-then (logarithm-kept k s hs) eq in (x .grown, x .fits))
           (λ s e Q k hs eq. log-values (lentPool ks ws n) Q k (logarithm-follows k s e hs eq) hs) arg array
+
+    -- of an expression: its value in the algebra of series, the variable being its value and t
+    module _ (from v order : ℕ) (words : (i : ℕ) → getD ws i 0 < 2 ^ 64) where
+      pub coeffs-call-means :
+          Answered (expandWork from v none order) ks ws n r ks′ ws′ n′
+          → MeansSeries A env (lentPool ks ws n) (suc order) (value (series A) (asSeries A env v none) (nodeAt (lentPool ks ws n)) from) (given (r .series)) (lentPool ks′ ws′ n′)
+      coeffs-call-means =
+          expansion-holds from v order none (λ Q e. MeansSeries A env (lentPool ks ws n) (suc order) (value (series A) (asSeries A env v none) (nodeAt (lentPool ks ws n)) from) e Q)
+          (λ keeps inside known small e Q eq. expansion-means M env keeps D v known none order fractions words from inside eq)
+
+      pub coeffs-at-call-means :
+          (z : ℤ) → Answered (expandWork from v (point z) order) ks ws n r ks′ ws′ n′
+          → MeansSeries A env (lentPool ks ws n) (suc order) (value (series A) (asSeries A env v (point z)) (nodeAt (lentPool ks ws n)) from) (given (r .series)) (lentPool ks′ ws′ n′)
+      coeffs-at-call-means z =
+          expansion-holds from v order (point z) (λ Q e. MeansSeries A env (lentPool ks ws n) (suc order) (value (series A) (asSeries A env v (point z)) (nodeAt (lentPool ks ws n)) from) e Q)
+          (λ keeps inside known small e Q eq. expansion-means M env keeps D v known (point z) order fractions words from inside eq)

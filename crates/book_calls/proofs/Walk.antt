@@ -27,10 +27,10 @@ use Rattle.taylor.specs.Expand.{Kept, nothing, kept, State, state, Went, Walk, 
 use Rattle.taylor_base.specs.Answers.{terms}
 use Rattle.taylor_rules.specs.Kept.{nodesOf, Fits}
 use Rattle.taylor_rules.proofs.Nodes.{KeptAs, Keeping, next-keeps}
-use Rattle.taylor_rules.proofs.Operations.{Within, Series, within-more, var-keeps, add-to-keeps, times-keeps, quotient-keeps, exponential-keeps, logarithm-keeps}
+use Rattle.taylor_rules.proofs.Operations.{Within, Series, var-keeps, add-to-keeps, times-keeps, quotient-keeps, exponential-keeps, logarithm-keeps}
 use Rattle.taylor_rules.proofs.Expanding.{Come, come-more, come-by, shorter, constant-come, power-comes, point-keeps}
-use Rattle.expand_laws.proofs.Holding.{Held, came}
-use Rattle.book_calls.specs.Walk.{AllFit, Between}
+use Rattle.expand_laws.proofs.Holding.{came}
+use Rattle.book_calls.specs.Walk.{Between}
 
 fits : {n : ℕ} (e : Expansion) → Within n e → Fits n e
 fits {n} e h = record { nodes = below-all n (nodesOf e) (h .below); least = h .least; most = h .most }

@@ -4,7 +4,7 @@ use mathlib.Core.Path.{_≡_, refl, sym, ap, _∙_}
 use mathlib.Core.List.{List}
 use Prim.Native.Nat.{ℕ}
 use lib.IntN.{pos, negsuc}
-use Rattle.book.specs.Formula.{Formula, #, whole, _⊕_, _⊖_, _⊗_, _⊘_, _⊟_, Exp, Log}
+use Rattle.book.specs.Formula.{Formula}
 use Rattle.book.specs.Order.{_≈_, itself, both, sums, differences, products, quotients, once, product-comm, product-assoc, less-zero, less-sum, as-quotient, sum-first}
 use Rattle.meaning.specs.Model.{Algebra, Model, Distributive}
 use Rattle.meaning.proofs.Values.{same-op}

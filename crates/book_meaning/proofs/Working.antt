@@ -1,23 +1,20 @@
 -- A formula that is worked on a pool by the rules comes to a node with its value; and so do formulas that are worked in turn, each of which names nodes of the first pool and nodes that came before it.
 -- Assumes nothing.
-use mathlib.Core.Path.{_≡_, refl, sym, ap, _∙_, subst}
-use mathlib.Core.Logic.{_⊎_, inl, inr}
-use mathlib.Core.List.{List, [], _∷_}
-use Prim.Native.Nat.{ℕ, zero, suc, _<_}
+use mathlib.Core.Path.{_≡_, refl, ap}
+use Prim.Native.Nat.{ℕ, _<_}
 use native.Mathlib.Omega.{arith}
 use lib.IntN.{pos}
-use lib.ListN.{length, getD}
-use Rattle.pool.specs.Pool.{Pool, nodeAt, done, refused}
+use Rattle.pool.specs.Pool.{Pool, nodeAt}
 use Rattle.constructor_laws.specs.Grown.{Grown}
 use Rattle.constructor_laws.specs.Keeps.{Keeps}
-use Rattle.taylor.specs.Work.{Result, Work, bind, yield, at}
-use Rattle.book.specs.Formula.{Formula, #, whole, _⊕_, _⊖_, _⊗_, _⊘_, _⊟_, Exp, Log, work, works}
+use Rattle.taylor.specs.Work.{Work, bind}
+use Rattle.book.specs.Formula.{Formula, #, whole, _⊕_, _⊖_, _⊗_, _⊘_, _⊟_, Exp, Log, work}
 use Rattle.meaning.specs.Model.{Algebra, Model}
 use Rattle.meaning.specs.Value.{Values, value}
 use Rattle.meaning.proofs.Values.{same-op, value-kept}
 use Rattle.meaning.proofs.Running.{Has, has-later}
 use Rattle.taylor_meaning.specs.Series.{minus}
-use Rattle.taylor_meaning.proofs.Working.{Gives, gave, ended-work, gives-here, gives-next, Is, has-same, is-same, lit-gives, add-gives, sub-gives, mul-gives, div-gives, exp-gives, log-gives}
+use Rattle.taylor_meaning.proofs.Working.{Gives, gives-here, gives-next, Is, has-same, lit-gives, add-gives, sub-gives, mul-gives, div-gives, exp-gives, log-gives}
 use Rattle.book_meaning.specs.Value.{formulaValue}
 
 -- K holds of every node that a formula names
