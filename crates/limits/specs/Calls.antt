@@ -24,7 +24,7 @@ use Rattle.engine_values.specs.Values.{evaluateCall, evaluateResidueCall}
 use Rattle.lent.specs.declared.Written.{Written}
 use Rattle.lent.specs.declared.Written.the-variants as written-as
 use Rattle.engine_print.specs.Printing.{printCall}
-use Rattle.engine_file.specs.Write.{Output, writeCall}
+use Rattle.engine_file.specs.Write.{writeCall}
 use Rattle.limits.specs.Lent.{Lent}
 
 -- a number, which is what an accepted call gives, or a refusal number
