@@ -19,6 +19,7 @@ outputs =
       text-65535 = printed-on _ refl _ _;
       text-65535-in-65534 = printed-on _ refl _ _;
       text-65536 = printed-on _ refl _ _;
+      length-65536 = refl;
       file-of-13-in-13 = written-on _ refl _ _;
       file-of-13-in-12 = written-on _ refl _ _;
     }
