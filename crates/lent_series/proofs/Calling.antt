@@ -27,7 +27,7 @@ use Rattle.taylor_laws.proofs.Growing.{Growing}
 use Rattle.lent_series.specs.Call.{accepted, refusal, Left, left, leaves, onPool, out, statusMade}
 
 -- a demand that is met
-pub met : {A : Type 0} {t : Bool} (k : ℕ) {x : Result A} → t ≡ true → x ≡ demand refused-work t k x
+pub met : {A : Type 0} {t : Bool} (k : ℕ) {x : Result A} → t ≡ true → x ≡ demand refused t k x
 met k e = rw e
 
 -- ---- what puts the entries back
