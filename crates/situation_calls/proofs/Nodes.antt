@@ -37,6 +37,7 @@ use Rattle.situations.specs.Refusal.{Among, ofOut, ofValued, ofDivided}
 use Rattle.situations.proofs.Steps.{Refusing, _>>=_, append-refuses}
 use Rattle.situations.proofs.Situations.{of-constructors, of-walks}
 use Rattle.situation_calls.specs.Table as table
+use Rattle.situation_calls.specs.Table.{met}
 use Rattle.situation_calls.specs.Answers.{Situated, Answers, ofAnswer, ofPrinted, ofWritten, OfCalls}
 use Rattle.situation_calls.proofs.Laws.{working, passing, failing, demanded}
 
@@ -54,7 +55,7 @@ module _ {checks meets : List ℕ} {tests : List Bool} where
   left ks ws n (done i P) s = s
   left ks ws n (refused k) s = s
 
-appends : (n : ℕ) (p : ℕ → Node) → Refusing (18 ∷ []) (appendFirst n p)
+appends : (n : ℕ) (p : ℕ → Node) → Refusing (met table.read) (appendFirst n p)
 unfolding appendFirst
 appends zero p = record { refuses = λ P. tt }
 appends (suc n) p = record { refuses = (appends n p >>= (λ before. append-refuses (inl refl) (p n))) .refuses }
@@ -121,7 +122,7 @@ module _ (ks ws : List ℕ) (n : ℕ) (fit : (i : ℕ) → getD ws i 0 < 2 ^ 64)
       printed : {checks meets : List ℕ} {tests : List Bool} (t : Bool) (k : ℕ) (p : Put) → (t ≡ true → Situated checks meets tests (ofPrinted (p .answer))) → Situated (k ∷ checks) meets (t ∷ tests) (ofPrinted (demandPut t k out p .answer))
       printed = demanded (λ p. ofPrinted (p .answer)) (λ t k p. demandPut t k out p) (λ k p. refl) (λ k p. refl)
 
-      work : (max fits : Bool) (bytes : List ℕ) → Among (10 ∷ 19 ∷ []) (ofPrinted (demandPut max maxReached out (demandPut fits noRoom out (writes bytes out)) .answer))
+      work : (max fits : Bool) (bytes : List ℕ) → Among (met table.print) (ofPrinted (demandPut max maxReached out (demandPut fits noRoom out (writes bytes out)) .answer))
       work true true bytes = tt
       work true false bytes = inr (inl refl)
       work false fits bytes = inl refl
@@ -137,7 +138,7 @@ module _ (ks ws : List ℕ) (n : ℕ) (fit : (i : ℕ) → getD ws i 0 < 2 ^ 64)
       written : {checks meets : List ℕ} {tests : List Bool} (t : Bool) (k : ℕ) (o : Output) → (t ≡ true → Situated checks meets tests (ofWritten (o .answer))) → Situated (k ∷ checks) meets (t ∷ tests) (ofWritten (demandOf out t k o .answer))
       written = demanded (λ o. ofWritten (o .answer)) (demandOf out) (λ k o. refl) (λ k o. refl)
 
-      work : (fits : Bool) (m : ℕ) (bytes : List ℕ) → Among (19 ∷ []) (ofWritten (demandOf out fits noRoom (output (written-as.Length m) bytes) .answer))
+      work : (fits : Bool) (m : ℕ) (bytes : List ℕ) → Among (met table.write) (ofWritten (demandOf out fits noRoom (output (written-as.Length m) bytes) .answer))
       work true m bytes = tt
       work false m bytes = inl refl
 
