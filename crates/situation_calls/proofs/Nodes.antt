@@ -39,6 +39,7 @@ use Rattle.situations.specs.Refusal.{Among, ofOut, ofValued, ofDivided}
 use Rattle.situations.proofs.Steps.{Refusing, _>>=_, append-refuses}
 use Rattle.situations.proofs.Situations.{of-constructors, of-walks}
 use Rattle.situation_calls.specs.Table as table
+use Rattle.situation_calls.specs.Table.{met}
 use Rattle.situation_calls.specs.Answers.{Situated, Answers, ofAnswer, ofWritten, OfCalls}
 use Rattle.situation_calls.proofs.Laws.{working, passing, failing, demanded}
 
@@ -56,7 +57,7 @@ module _ {checks meets : List ℕ} {tests : List Bool} where
   left ks ws n (done i P) s = s
   left ks ws n (refused k) s = s
 
-appends : (n : ℕ) (p : ℕ → Node) → Refusing (18 ∷ []) (appendFirst n p)
+appends : (n : ℕ) (p : ℕ → Node) → Refusing (met table.read) (appendFirst n p)
 unfolding appendFirst
 appends zero p = record { refuses = λ P. tt }
 appends (suc n) p = record { refuses = (appends n p >>= (λ before. append-refuses (inl refl) (p n))) .refuses }
@@ -124,7 +125,7 @@ module _ (ks ws : List ℕ) (n : ℕ) (fit : (i : ℕ) → getD ws i 0 < 2 ^ 64)
       written-to out (allBelow n (root ∷ [])) unknownNode _ (λ e.
       working (work (not (hasMax (nodeIn ks ws) root)) (textFits text out) text)))
     where
-      work : (max fits : Bool) (bytes : List ℕ) → Among (10 ∷ 19 ∷ []) (ofWritten (demand (unwritten out) max maxReached (demand (unwritten out) fits noRoom (writes bytes out)) .answer))
+      work : (max fits : Bool) (bytes : List ℕ) → Among (met table.print) (ofWritten (demand (unwritten out) max maxReached (demand (unwritten out) fits noRoom (writes bytes out)) .answer))
       work true true bytes = tt
       work true false bytes = inr (inl refl)
       work false fits bytes = inl refl
@@ -137,7 +138,7 @@ module _ (ks ws : List ℕ) (n : ℕ) (fit : (i : ℕ) → getD ws i 0 < 2 ^ 64)
       written-to out (allBelow n (root ∷ [])) unknownNode _ (λ e.
       working (work (leb (length file) (length out)) file)))
     where
-      work : (fits : Bool) (bytes : List ℕ) → Among (19 ∷ []) (ofWritten (demand (unwritten out) fits noRoom (writes bytes out) .answer))
+      work : (fits : Bool) (bytes : List ℕ) → Among (met table.write) (ofWritten (demand (unwritten out) fits noRoom (writes bytes out) .answer))
       work true bytes = tt
       work false bytes = inl refl
 

@@ -10,7 +10,7 @@ use lib.ListN.{length}
 use lib.Ieee.{Float}
 use Rattle.literal.specs.Literal.{isLiteral}
 use Rattle.pool.specs.Nodes.{allBelow, greatestVariable}
-use Rattle.pool.specs.Pool.{isPool}
+use Rattle.pool.specs.Pool.{Run, isPool}
 use Rattle.constructors.specs.Build.{calls, depth}
 use Rattle.shape.specs.File.{isSized, areNodes, isInOrder, readFile}
 use Rattle.taylor.specs.Expansion.{Expansion, coeff, derivative, negate, exponential, logarithm, power, addTo, subFrom, times, quotient, maximum, subst}
@@ -83,25 +83,33 @@ pub record Gives (c : Call) (tests : List Bool) (o : Outcome) : Type 0 where
   pub answers : Answers c tests (ofNumber (o .number))
   pub zero-accepts : o .number ≡ 0 → (e : Expansion) × (o ≡ accepted e)
 
+-- the tests of node numbers given
+abbrev pub nodesTested : List ℕ → List ℕ → ℕ → List ℕ → List Bool
+nodesTested ks ws n nodes = isPool ks ws n ∷ allBelow n nodes ∷ []
+
+-- how a call that works on the pool refuses
+abbrev pub refusalOf : Run → List ℕ → List ℕ → ℕ → Refusal
+refusalOf work ks ws n = ofAnswer (onPool work ks ws n .answer)
+
 -- ---- every call, on any lent tables and any count: the tests are what is checked, in order
 pub record OfCalls (ks ws : List ℕ) (n : ℕ) : Type 0 where
-  pub lit-call : (z : ℤ) → Answers table.lit (isPool ks ws n ∷ isLiteral z ∷ []) (ofAnswer (onPool (litWork z) ks ws n .answer))
-  pub var-call : (v : ℕ) → Answers table.var (isPool ks ws n ∷ leb v greatestVariable ∷ []) (ofAnswer (onPool (varWork v) ks ws n .answer))
-  pub add-call : (a b : ℕ) → Answers table.add (isPool ks ws n ∷ allBelow n (a ∷ b ∷ []) ∷ []) (ofAnswer (onPool (givenNodes (a ∷ b ∷ []) (calls depth .add-at a b)) ks ws n .answer))
-  pub mul-call : (a b : ℕ) → Answers table.mul (isPool ks ws n ∷ allBelow n (a ∷ b ∷ []) ∷ []) (ofAnswer (onPool (givenNodes (a ∷ b ∷ []) (calls depth .mul-at a b)) ks ws n .answer))
-  pub div-call : (a b : ℕ) → Answers table.div (isPool ks ws n ∷ allBelow n (a ∷ b ∷ []) ∷ []) (ofAnswer (onPool (givenNodes (a ∷ b ∷ []) (calls depth .div-at a b)) ks ws n .answer))
-  pub max-call : (a b : ℕ) → Answers table.max (isPool ks ws n ∷ allBelow n (a ∷ b ∷ []) ∷ []) (ofAnswer (onPool (givenNodes (a ∷ b ∷ []) (calls depth .max-at a b)) ks ws n .answer))
-  pub neg-call : (a : ℕ) → Answers table.neg (isPool ks ws n ∷ allBelow n (a ∷ []) ∷ []) (ofAnswer (onPool (givenNodes (a ∷ []) (calls depth .neg-at a)) ks ws n .answer))
-  pub exp-call : (a : ℕ) → Answers table.exp (isPool ks ws n ∷ allBelow n (a ∷ []) ∷ []) (ofAnswer (onPool (givenNodes (a ∷ []) (calls depth .exp-at a)) ks ws n .answer))
-  pub log-call : (a : ℕ) → Answers table.log (isPool ks ws n ∷ allBelow n (a ∷ []) ∷ []) (ofAnswer (onPool (givenNodes (a ∷ []) (calls depth .log-at a)) ks ws n .answer))
-  pub pow-call : (a e : ℕ) → Answers table.pow (isPool ks ws n ∷ allBelow n (a ∷ []) ∷ []) (ofAnswer (onPool (givenNodes (a ∷ []) (calls depth .pow-at a e)) ks ws n .answer))
-  pub substitute-var-call : (root v value : ℕ) → Answers table.substitute-var (isPool ks ws n ∷ allBelow n (root ∷ value ∷ []) ∷ leb v greatestVariable ∷ []) (ofAnswer (onPool (substituteWork root v value) ks ws n .answer))
-  pub derive-call : (root v : ℕ) → Answers table.derive (isPool ks ws n ∷ allBelow n (root ∷ []) ∷ leb v greatestVariable ∷ []) (ofAnswer (onPool (deriveWork root v) ks ws n .answer))
+  pub lit-call : (z : ℤ) → Answers table.lit (isPool ks ws n ∷ isLiteral z ∷ []) (refusalOf (litWork z) ks ws n)
+  pub var-call : (v : ℕ) → Answers table.var (isPool ks ws n ∷ leb v greatestVariable ∷ []) (refusalOf (varWork v) ks ws n)
+  pub add-call : (a b : ℕ) → Answers table.add (nodesTested ks ws n (a ∷ b ∷ [])) (refusalOf (givenNodes (a ∷ b ∷ []) (calls depth .add-at a b)) ks ws n)
+  pub mul-call : (a b : ℕ) → Answers table.mul (nodesTested ks ws n (a ∷ b ∷ [])) (refusalOf (givenNodes (a ∷ b ∷ []) (calls depth .mul-at a b)) ks ws n)
+  pub div-call : (a b : ℕ) → Answers table.div (nodesTested ks ws n (a ∷ b ∷ [])) (refusalOf (givenNodes (a ∷ b ∷ []) (calls depth .div-at a b)) ks ws n)
+  pub max-call : (a b : ℕ) → Answers table.max (nodesTested ks ws n (a ∷ b ∷ [])) (refusalOf (givenNodes (a ∷ b ∷ []) (calls depth .max-at a b)) ks ws n)
+  pub neg-call : (a : ℕ) → Answers table.neg (nodesTested ks ws n (a ∷ [])) (refusalOf (givenNodes (a ∷ []) (calls depth .neg-at a)) ks ws n)
+  pub exp-call : (a : ℕ) → Answers table.exp (nodesTested ks ws n (a ∷ [])) (refusalOf (givenNodes (a ∷ []) (calls depth .exp-at a)) ks ws n)
+  pub log-call : (a : ℕ) → Answers table.log (nodesTested ks ws n (a ∷ [])) (refusalOf (givenNodes (a ∷ []) (calls depth .log-at a)) ks ws n)
+  pub pow-call : (a e : ℕ) → Answers table.pow (nodesTested ks ws n (a ∷ [])) (refusalOf (givenNodes (a ∷ []) (calls depth .pow-at a e)) ks ws n)
+  pub substitute-var-call : (root v value : ℕ) → Answers table.substitute-var (isPool ks ws n ∷ allBelow n (root ∷ value ∷ []) ∷ leb v greatestVariable ∷ []) (refusalOf (substituteWork root v value) ks ws n)
+  pub derive-call : (root v : ℕ) → Answers table.derive (isPool ks ws n ∷ allBelow n (root ∷ []) ∷ leb v greatestVariable ∷ []) (refusalOf (deriveWork root v) ks ws n)
   pub evaluate-call : (root : ℕ) (values : List Float) → Answers table.evaluate (isPool ks ws n ∷ allBelow n (root ∷ []) ∷ leb (length values) mostValues ∷ []) (ofValued (evaluateCall ks ws n root values))
   pub evaluate-residue-call : (root : ℕ) (values : List ℕ) → Answers table.evaluate-residue (isPool ks ws n ∷ allBelow n (root ∷ []) ∷ areResidues values ∷ []) (ofDivided (evaluateResidueCall ks ws n root values))
-  pub print-call : (root : ℕ) (out : List ℕ) → Answers table.print (isPool ks ws n ∷ allBelow n (root ∷ []) ∷ []) (ofWritten (printCall ks ws n root out .answer))
-  pub write-call : (root : ℕ) (out : List ℕ) → Answers table.write (isPool ks ws n ∷ allBelow n (root ∷ []) ∷ []) (ofWritten (writeCall ks ws n root out .answer))
-  pub read-call : (bs : List ℕ) → Answers table.read (isPool ks ws n ∷ isSized bs ∷ areNodes bs ∷ isInOrder bs ∷ []) (ofAnswer (onPool (readFile bs) ks ws n .answer))
+  pub print-call : (root : ℕ) (out : List ℕ) → Answers table.print (nodesTested ks ws n (root ∷ [])) (ofWritten (printCall ks ws n root out .answer))
+  pub write-call : (root : ℕ) (out : List ℕ) → Answers table.write (nodesTested ks ws n (root ∷ [])) (ofWritten (writeCall ks ws n root out .answer))
+  pub read-call : (bs : List ℕ) → Answers table.read (isPool ks ws n ∷ isSized bs ∷ areNodes bs ∷ isInOrder bs ∷ []) (refusalOf (readFile bs) ks ws n)
 
 -- the tests of one expansion, and of two with what is asked of their lengths
 abbrev pub oneTested : List ℕ → List ℕ → ℕ → Series → Bool → List Bool
@@ -113,8 +121,8 @@ twoTested ks ws n s t fits = isPool ks ws n ∷ (allBelow n (nodesOf s) && allBe
 -- ---- every call on expansions
 pub record OfSeries (ks ws : List ℕ) (n : ℕ) : Type 0 where
   pub var-call : (x order : ℕ) → Gives table.of-var (isPool ks ws n ∷ allBelow n (x ∷ []) ∷ ltb order terms ∷ []) (series.onPool (on-series.varWork x order) ks ws n .outcome)
-  pub coeff-call : (s : Series) (k : ℕ) → Answers table.of-coeff (oneTested ks ws n s (hasIndex s k)) (ofAnswer (onPool (asRun (givenIndex s k (coeff (given s) k))) ks ws n .answer))
-  pub derivative-call : (s : Series) (k : ℕ) → Answers table.of-derivative (oneTested ks ws n s (hasIndex s k)) (ofAnswer (onPool (asRun (givenIndex s k (derivative (given s) k))) ks ws n .answer))
+  pub coeff-call : (s : Series) (k : ℕ) → Answers table.of-coeff (oneTested ks ws n s (hasIndex s k)) (refusalOf (asRun (givenIndex s k (coeff (given s) k))) ks ws n)
+  pub derivative-call : (s : Series) (k : ℕ) → Answers table.of-derivative (oneTested ks ws n s (hasIndex s k)) (refusalOf (asRun (givenIndex s k (derivative (given s) k))) ks ws n)
   pub order-call : (s : Series) → Answers table.of-order (oneTested ks ws n s (lengthOk s)) (ofCounted (countOf ks ws n s))
   pub from-coefficients-call : (s : Series) → Gives table.of-from-coefficients (oneTested ks ws n s (lengthOk s)) (coefficientsOf ks ws n s)
   pub neg-call : (s : Series) → Gives table.of-neg (oneTested ks ws n s (lengthOk s)) (series.onPool (givenSeries s (negate (given s))) ks ws n .outcome)

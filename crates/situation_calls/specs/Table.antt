@@ -11,7 +11,7 @@ pub data Call : Type 0 where
   of-neg of-exp of-log of-pow of-add of-sub of-mul of-div of-max of-subst : Call
   coeffs coeffs-at : Call
 
--- "1 to 9 are checked first, smallest number first."
+-- "1 to 9 are checked first, smallest number first.": 1 the pool, 2 the node numbers given, 3 a variable, 4 a literal or point, 5 an order, list or index, 6 the values, 7 to 9 the file
 abbrev pub checked : Call → List ℕ
 checked lit = 1 ∷ 4 ∷ []
 checked var = 1 ∷ 3 ∷ []
@@ -48,7 +48,7 @@ checked of-subst = 1 ∷ 2 ∷ 5 ∷ []
 checked coeffs = 1 ∷ 2 ∷ 3 ∷ 5 ∷ []
 checked coeffs-at = 1 ∷ 2 ∷ 3 ∷ 4 ∷ 5 ∷ []
 
--- "Then the work runs, and the first step to meet one of 10 to 18 decides .. 19 comes last."
+-- "Then the work runs, and the first step to meet one of 10 to 18 decides .. 19 comes last.": 10 a Max, 11 `exp` or `log` of a literal, 12 a folded literal, 13 an exponent sum, 14 the depth, 15 no value, 16 no evaluation, 17 no inverse, 18 a full pool, 19 the output
 abbrev pub met : Call → List ℕ
 met lit = 18 ∷ []
 met var = 18 ∷ []

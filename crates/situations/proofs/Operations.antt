@@ -2,7 +2,7 @@
 -- Assumes nothing.
 use mathlib.Core.Path.{refl}
 use mathlib.Core.Logic.{inr}
-use mathlib.Core.List.{List, _∷_}
+use mathlib.Core.List.{List}
 use Prim.Native.Nat.{ℕ, _-_}
 use lib.IntN.{pos}
 use Rattle.refusals.specs.Refusals.{poolFull}
@@ -13,7 +13,7 @@ use Rattle.constructor_laws.specs.Grown.{Grown, Grows}
 use Rattle.constructor_laws.proofs.Growth.{Growing, grown-by-nothing, grown-by-both, calls-grow, literal-grows}
 use Rattle.taylor.specs.Work.{Result, Work, answered, node, zeroLit, oneLit, add, neg, max}
 use Rattle.situations.specs.Refusal.{OneOf, Among, ofOut, ofResult}
-use Rattle.situations.specs.Situations.{ofConstructors, ofSums, ofAppending}
+use Rattle.situations.specs.Situations.{ofConstructors, ofSums, ofAppending, ofMax}
 use Rattle.situations.proofs.Steps.{literal-refuses}
 use Rattle.situations.proofs.Constructors.{calls-refuse, literals-refuse}
 use Rattle.situations.proofs.Literals.{Long, long-grown}
@@ -82,5 +82,5 @@ sum-holds a b = called ofSums (calls-grow depth .add-at a b) (λ P l. add-refuse
 pub opposite-holds : (a : ℕ) → Holding (refusing-by ofAppending) (neg a)
 opposite-holds a = called ofAppending (calls-grow depth .neg-at a) (neg-refuses (depth - 2) a)
 
-pub greater-holds : (a b : ℕ) → Holding (refusing-by (10 ∷ ofAppending)) (max a b)
-greater-holds a b = wider ofAppending (10 ∷ ofAppending) (λ k h. inr h) (called ofAppending (calls-grow depth .max-at a b) (λ P l. max-refuses (depth - 1) a b .refuses P))
+pub greater-holds : (a b : ℕ) → Holding (refusing-by ofMax) (max a b)
+greater-holds a b = wider ofAppending ofMax (λ k h. inr h) (called ofAppending (calls-grow depth .max-at a b) (λ P l. max-refuses (depth - 1) a b .refuses P))

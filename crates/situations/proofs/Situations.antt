@@ -2,12 +2,11 @@
 -- Assumes nothing.
 use mathlib.Core.Path.{refl}
 use mathlib.Core.Logic.{inl, inr}
-use mathlib.Core.List.{_∷_}
 use Prim.Native.Nat.{ℕ, _-_, _<_}
 use Rattle.pool.specs.Pool.{Pool}
 use Rattle.constructors.specs.Build.{depth}
 use Rattle.shape.specs.Demand.{KeepsRules}
-use Rattle.situations.specs.Situations.{ofConstructors, ofSums, ofAppending, OfConstructors, OfWalks, OfExpansions}
+use Rattle.situations.specs.Situations.{ofConstructors, ofSums, ofAppending, ofMax, OfConstructors, OfWalks, OfExpansions}
 use Rattle.situations.proofs.Constructors.{calls-refuse}
 use Rattle.situations.proofs.Each.{add-refuses, div-refuses, max-refuses, pow-refuses, neg-refuses, exp-refuses, log-refuses}
 use Rattle.situations.proofs.Values.{evaluation-refuses, residues-refuse}
@@ -57,6 +56,6 @@ module _ (P : Pool) (k : KeepsRules P) where
         sub-meets = λ s t. meets ofSums (general.sub-from-holds (λ a. wider ofAppending ofSums (λ r h. inr (inr h)) (opposite-holds a)) sum-holds s t) P long;
         mul-meets = λ s t. meets ofConstructors (general.times-holds every-constructor s t) P long;
         div-meets = λ s t. meets ofConstructors (general.quotient-holds every-constructor s t) P long;
-        max-meets = λ s t. meets (10 ∷ ofAppending) (general.maximum-holds greater-holds (inl refl) s t) P long;
+        max-meets = λ s t. meets ofMax (general.maximum-holds greater-holds (inl refl) s t) P long;
         subst-meets = λ outer inner. meets ofConstructors (general.subst-holds every-constructor outer inner) P long;
       }

@@ -34,6 +34,7 @@ use Rattle.shape.specs.Demand.{KeepsRules}
 use Rattle.shape.proofs.Lists.{All}
 use Rattle.shape.proofs.TableOfKinds.{Valid}
 use Rattle.situations.specs.Refusal.{Among, ofValued, ofDivided}
+use Rattle.situations.specs.Situations.{ofEvaluation, ofResidues}
 use Rattle.situations.proofs.Throughout.{left, right, Walking, throughout}
 
 module _ {A : Type 0} (none : A) where
@@ -67,7 +68,7 @@ module _ {A : Type 0} (none : A) where
 
 -- ---- doubles
 record Fine (x : Valued) : Type 0 where
-  only : Among (15 ∷ 16 ∷ []) (ofValued x)
+  only : Among ofEvaluation (ofValued x)
 
 one-fine : (x : Valued) {next : Float → Valued} → Fine x → ((a : Float) → Fine (next a)) → Fine (doubles.one x next)
 one-fine (valued.Double a) f g = g a
@@ -97,12 +98,12 @@ module _ (values : List Float) (down : ℕ → Valued) where
   double-fine (Pow a e) v h = one-fine (down a) (left a [] h) (λ x. record { only = tt })
   double-fine (Max a b) v h = both-fine (down a) (down b) (left a (b ∷ []) h) (right a b h) (λ x y. record { only = tt })
 
-pub evaluation-refuses : (P : Pool) → KeepsRules P → (root : ℕ) → root < P .count → (values : List Float) → Among (15 ∷ 16 ∷ []) (ofValued (evaluate (nodeAt P) values root))
+pub evaluation-refuses : (P : Pool) → KeepsRules P → (root : ℕ) → root < P .count → (values : List Float) → Among ofEvaluation (ofValued (evaluate (nodeAt P) values root))
 evaluation-refuses P k root l values = everywhere (valued.Refused brokenPool) (evaluateNode values) Fine (λ down i. double-fine values down) k root l .only
 
 -- ---- residues
 record Whole (x : Divided) : Type 0 where
-  only : Among (15 ∷ 16 ∷ 17 ∷ []) (ofDivided x)
+  only : Among ofResidues (ofDivided x)
 
 one-whole : (x : Divided) {next : ℕ → Divided} → Whole x → ((a : ℕ) → Whole (next a)) → Whole (whole.one x next)
 one-whole (divided.Residue a) f g = g a
@@ -147,5 +148,5 @@ module _ (m : ℕ) (values : List ℕ) (down : ℕ → Divided) where
   residue-whole (Pow a e) v h = one-whole (down a) (left a [] h) (λ x. record { only = tt })
   residue-whole (Max a b) v h = both-whole (down a) (down b) (left a (b ∷ []) h) (right a b h) (λ x y. record { only = inr (inl refl) })
 
-pub residues-refuse : (P : Pool) → KeepsRules P → (root : ℕ) → root < P .count → (m : ℕ) (values : List ℕ) → Among (15 ∷ 16 ∷ 17 ∷ []) (ofDivided (evaluateResidue m (nodeAt P) values root))
+pub residues-refuse : (P : Pool) → KeepsRules P → (root : ℕ) → root < P .count → (m : ℕ) (values : List ℕ) → Among ofResidues (ofDivided (evaluateResidue m (nodeAt P) values root))
 residues-refuse P k root l m values = everywhere (divided.Refused brokenPool) (residueNode m values) Whole (λ down i. residue-whole m values down) k root l .only

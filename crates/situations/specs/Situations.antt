@@ -37,6 +37,17 @@ ofAppending = 18 ∷ []
 abbrev pub andMax : List ℕ
 andMax = 10 ∷ ofConstructors
 
+-- "Substitution, derivation, evaluation, printing. 10, 15 to 17": 17 by residues alone
+abbrev pub ofEvaluation : List ℕ
+ofEvaluation = 15 ∷ 16 ∷ []
+
+abbrev pub ofResidues : List ℕ
+ofResidues = 15 ∷ 16 ∷ 17 ∷ []
+
+-- a Max is made of two constants, and of nothing else
+abbrev pub ofMax : List ℕ
+ofMax = 10 ∷ ofAppending
+
 -- the constructors, called from outside
 pub record OfConstructors (P : Pool) : Type 0 where
   pub add-meets : (lhs rhs : ℕ) → Among ofSums (ofOut (calls depth .add-at lhs rhs P))
@@ -50,8 +61,8 @@ pub record OfConstructors (P : Pool) : Type 0 where
 
 -- the work on an expression that stands in the pool
 pub record OfWalks (P : Pool) (root : ℕ) : Type 0 where
-  pub evaluation : (values : List Float) → Among (15 ∷ 16 ∷ []) (ofValued (evaluate (nodeAt P) values root))
-  pub residues : (m : ℕ) (values : List ℕ) → Among (15 ∷ 16 ∷ 17 ∷ []) (ofDivided (evaluateResidue m (nodeAt P) values root))
+  pub evaluation : (values : List Float) → Among ofEvaluation (ofValued (evaluate (nodeAt P) values root))
+  pub residues : (m : ℕ) (values : List ℕ) → Among ofResidues (ofDivided (evaluateResidue m (nodeAt P) values root))
   pub substitution : (var value : ℕ) → Among ofConstructors (ofOut (substituteVar root var value P))
   pub derivation : (var : ℕ) → Among andMax (ofOut (derive root var P))
   pub expansion : (v : ℕ) (x : Point) (order : ℕ) → Among andMax (ofResult (expand root v x order P))
@@ -69,5 +80,5 @@ pub record OfExpansions (P : Pool) : Type 0 where
   pub sub-meets : (s t : Expansion) → Among ofSums (ofResult (subFrom s t P))
   pub mul-meets : (s t : Expansion) → Among ofConstructors (ofResult (times s t P))
   pub div-meets : (s t : Expansion) → Among ofConstructors (ofResult (quotient s t P))
-  pub max-meets : (s t : Expansion) → Among (10 ∷ ofAppending) (ofResult (maximum s t P))
+  pub max-meets : (s t : Expansion) → Among ofMax (ofResult (maximum s t P))
   pub subst-meets : (outer inner : Expansion) → Among ofConstructors (ofResult (subst outer inner P))
