@@ -1,4 +1,4 @@
-/* What the C tests share: a pool, and a note of what is not as document 01 has it. */
+/* What the C tests share: a pool, and a note of what is not as docs/SPECIFICATION.md has it. */
 #ifndef CASE_H
 #define CASE_H
 

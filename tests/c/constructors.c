@@ -1,4 +1,4 @@
-/* The constructors of include/bunlayog.h on an example each: the answer, and the pool after it. Exits with 0 where all is as document 01 has it. */
+/* The constructors of include/bunlayog.h on an example each: the answer, and the pool after it. Exits with 0 where all is as docs/SPECIFICATION.md has it. */
 #include "case.h"
 
 int main(void) {

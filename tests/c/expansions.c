@@ -1,5 +1,5 @@
-/* Expansions: an example of each operation, and what each refuses. Exits with 0 where all is as document 01 has it. The expected
- * coefficients were worked by hand; those of expressions are document 01's examples. */
+/* Expansions: an example of each operation, and what each refuses. Exits with 0 where all is as docs/SPECIFICATION.md has it. The expected
+ * coefficients were worked by hand; those of expressions are the examples there. */
 #include "case.h"
 
 static uint64_t order, coeffs[BUNLAYOG_TERMS];

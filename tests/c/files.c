@@ -1,8 +1,8 @@
-/* Node files written and read. Exits with 0 where all is as document 01 has it. */
+/* Node files written and read. Exits with 0 where all is as docs/SPECIFICATION.md has it. */
 #include "case.h"
 
 int main(void) {
-    /* document 01's file of x0 * x0 */
+    /* the file of x0 * x0 */
     static const uint8_t square[22] = {2, 0, 0, 0, 1, 4};
     uint8_t out[24], before[24], file[22];
     uint64_t given;

@@ -1,4 +1,4 @@
-/* Printing. Exits with 0 where all is as document 01 has it. */
+/* Printing. Exits with 0 where all is as docs/SPECIFICATION.md has it. */
 #include "case.h"
 
 int main(void) {

@@ -1,4 +1,4 @@
-/* Evaluation, as doubles and by residues. Exits with 0 where all is as document 01 has it. */
+/* Evaluation, as doubles and by residues. Exits with 0 where all is as docs/SPECIFICATION.md has it. */
 #include "case.h"
 
 #include <math.h>

@@ -1,4 +1,4 @@
-/* The test of a pool, substitution and derivation. Exits with 0 where all is as document 01 has it. */
+/* The test of a pool, substitution and derivation. Exits with 0 where all is as docs/SPECIFICATION.md has it. */
 #include "case.h"
 
 int main(void) {

@@ -138,7 +138,7 @@ pub extern "C" fn bunlayog_taylor_div(
     )
 }
 
-// The greater of two constants.
+// What `max` makes of two constants; 10 of any list.
 #[no_mangle]
 pub extern "C" fn bunlayog_taylor_max(
     kinds: &mut [u8],

@@ -1,5 +1,5 @@
--- What a C function leaves: its answer, 0 or the refusal number, and everything that was lent to it. "unchanged after a refusal" holds of the places for
--- answers too.
+-- What a C function leaves: its answer, 0 or the refusal number, and everything that was lent to it. The places for answers are lent bytes
+-- too: "After a refusal all lent bytes and the count are unchanged."
 -- Assumes nothing.
 use mathlib.Core.Bool.{Bool, true, false}
 use mathlib.Core.List.{List}

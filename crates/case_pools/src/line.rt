@@ -6,9 +6,7 @@ use case_lines::number;
 use case_lines::put;
 use case_lines::put_name;
 use case_lines::word;
-
-// 2^32, what the upper half of a word counts for.
-const HALF: u64 = 0x1_0000_0000;
+use pool::HALF;
 
 // The numbers of document 01's table of kinds.
 fn kind(text: &[u8], at: &mut usize) -> u8 {

@@ -9,13 +9,11 @@ ghost use Rattle.walk_laws.specs.Walked.{walked, stateOf};
 ghost use Rattle.derive.specs.Rules.{deriveTwo, deriveOne};
 use crate::rules::One;
 use crate::rules::Two;
+use pool::HALF;
 use pool::LIMIT;
 use pool::Made;
 use pool::Node;
 use pool::Room;
-
-// A node number has half a word.
-const HALF: u64 = 0x1_0000_0000;
 
 // `derive`: the derivative by the variable `var` of the expression at `root`.
 pub fn derive_in(

@@ -1,4 +1,4 @@
-// The entry points: every operation of document 01, checked. These are the functions that other programs call.
+// The entry points of the constructors: what is lent is checked, then the constructor works. The other operations have theirs in the crates engine_*.
 mod leaf;
 mod one;
 mod two;

@@ -175,7 +175,7 @@ pub fn div(
     on_two(kinds, words, count, Binary::Div, lhs, rhs)
 }
 
-// The greater of two constants; 10 of any list.
+// What `max` makes of two constants; 10 of any list.
 pub fn max(
     kinds: &mut [u8],
     words: &mut [u64],

@@ -1,4 +1,4 @@
--- The operations on one expansion as calls from outside: "Refusals 1, 2, 4, 5 first", then the work.
+-- The operations on one expansion as calls from outside: refusals 1, 2, 4 and 5 first, then the work.
 -- Assumes nothing.
 use mathlib.Core.Bool.{Bool, true, false, _&&_, _||_}
 use mathlib.Core.List.{List, [], _∷_}

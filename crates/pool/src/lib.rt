@@ -3,6 +3,7 @@ mod node;
 mod table;
 
 pub use node::EXPONENT_MIN;
+pub use node::HALF;
 pub use node::Node;
 pub use node::VARIABLE_MAX;
 pub use node::decode;

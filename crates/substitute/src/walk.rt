@@ -10,13 +10,11 @@ ghost use Rattle.walk_laws.specs.Walked.{walked, stateOf};
 ghost use Rattle.substitute.specs.Rebuild.{substituteTwo, substituteOne};
 use constructor_calls::One;
 use constructor_calls::Two;
+use pool::HALF;
 use pool::LIMIT;
 use pool::Made;
 use pool::Node;
 use pool::Room;
-
-// A node number has half a word.
-const HALF: u64 = 0x1_0000_0000;
 
 // `substitute_var`: the expression at `root` with the node `value` for the variable `var`.
 pub fn substitute_in(

@@ -1,4 +1,4 @@
--- `taylor_coeffs_with` of src/symbolic.rs: the expansion of an expression, "each visited node's result kept for that call".
+-- `taylor_coeffs_with` of src/symbolic.rs: the expansion of an expression. It visits "left before right" and keeps "each visited node's result for that call".
 -- Assumes nothing.
 use mathlib.Core.Bool.{Bool, true, false}
 use mathlib.Core.List.{List}

@@ -213,7 +213,7 @@ pub fn sub_in(
     )
 }
 
-// The greater of two constants.
+// What `max` makes of two constants; 10 of any list.
 pub fn max_in(
     kinds: &mut [u8; LIMIT],
     words: &mut [u64; LIMIT],

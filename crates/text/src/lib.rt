@@ -4,7 +4,7 @@ ghost use mathlib.Core.List.{_∷_};
 ghost use Prim.Native.Nat.{_+_, _<_};
 ghost use Rattle.text.specs.Text.{Written, content, decimal, signedDecimal, display, letters, letterA};
 
-// Room for the longest text: `x_` and 20 digits.
+// Room for every text: the longest, `x_` and 20 digits, has 22 bytes.
 pub const ROOM: usize = 24;
 
 // How many variables have a letter for a name.
