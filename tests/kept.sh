@@ -1,6 +1,6 @@
 #!/usr/bin/env bash
 # That the walks keep their results, and that no call's work grows faster than the nodes that it reaches: no contract says so of evaluation. Counts the
-# instructions of every entry point on chains and on 40 and 4,095 doublings, by callgrind. A walk that kept nothing would visit 2^41 nodes or more.
+# instructions of every entry point on chains and on 40 and 4,095 doublings, by callgrind. Of 40 doublings a walk that kept nothing would visit 2^41 - 1 nodes.
 set -eu
 cd "$(dirname "$0")/.."
 if ! command -v valgrind > /dev/null; then
@@ -14,10 +14,10 @@ cc -O1 -Wall -Wextra -Werror -std=c99 -Iinclude tests/kept/kept.c "$archive" -o 
 timeout 300 valgrind --tool=callgrind --callgrind-out-file="$out/counts" --combine-dumps=yes --toggle-collect=counted --dump-after=counted \
   "$out/kept" > "$out/calls" 2> "$out/errors" || { echo "the calls did not end well within 300 seconds"; tail -n 3 "$out/errors"; exit 1; }
 
-# The bounds, each about twice what was counted:
+# The bounds in instructions, with what was counted:
 # - every call looks at both tables of 4,096 entries and copies them: 200,000 (140,000 counted);
-# - a walk visits each node that it reaches once: 1,000 for each (300 to 900 counted);
-# - what works on expansions appends as many nodes as there is room for: 500 for each of 4,096 (300 counted);
+# - a walk visits each node that it reaches once: 1,000 for each (130 to 820 counted), which work for each two of 4,096 nodes would exceed;
+# - what works on expansions appends as many nodes as there is room for: 500 for each of 4,096 (360 counted);
 # - a text is made up to 65,536 bytes: 150 for each (90 counted).
 sed -n 's/^totals: //p' "$out/counts" | head -n "$(wc -l < "$out/calls")" | paste -d ' ' - "$out/calls" | awk '
   function bound(nodes, call) {

@@ -5,7 +5,7 @@ cd "$(dirname "$0")/.."
 . tests/parts/rust.sh
 folder=$(mktemp -d)
 trap 'rm -rf "$folder"' EXIT
-"$program" list "$folder" 2> /dev/null
+"$program" list "$folder" "$folder" 2> /dev/null
 cmp "$folder/stdin" crates/replay/stdin
 cmp "$folder/stdout" crates/replay/stdout
 cmp "$folder/wrong" tests/replay/wrong

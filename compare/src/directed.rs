@@ -1,9 +1,10 @@
-//! One call for each refusal that an operation can meet, and one that is accepted, on one pool: nothing here is left to chance.
+//! One call for each refusal that an operation can meet, and one that is accepted, on one pool; and calls for each rule. Nothing here is left to chance.
 use crate::both::{Both, Met};
 use crate::call::{Call, Series, ENDLESS, TERMS};
 use crate::counted::LIMIT;
 use crate::file::Entry;
-use crate::{damage, report, whole};
+use crate::symbolic::oracle;
+use crate::{counted, damage, list, report, whole};
 use std::collections::BTreeSet;
 use Call::*;
 
@@ -32,8 +33,9 @@ pub struct Pool {
     sums: u64,
     left_sums: u64,
     ones: u64,
-    /// A text of 65,536 bytes.
-    long: u64,
+    /// Texts of 65,535 and 65,536 bytes.
+    longest: u64,
+    too_long: u64,
 }
 
 fn pair(a: u64, b: u64) -> u64 {
@@ -74,7 +76,7 @@ impl Pool {
         let mut p = Pool {
             entries: leaves.to_vec(),
             x: 0, y: 1, z: 2, zero: 3, one: 4, minus_one: 5, two: 6, most: 7,
-            exp: 0, square: 0, power: 0, maximum: 0, quotient: 0, products: 0, sums: 0, left_sums: 0, ones: 0, long: 0,
+            exp: 0, square: 0, power: 0, maximum: 0, quotient: 0, products: 0, sums: 0, left_sums: 0, ones: 0, longest: 0, too_long: 0,
         };
         p.exp = p.put(6, p.one);
         p.square = p.put(8, pair(p.x, 2));
@@ -87,7 +89,8 @@ impl Pool {
         p.sums = p.nested(|t| (3, pair(t, zero)));
         p.left_sums = p.nested(|t| (3, pair(zero, t)));
         p.ones = p.nested(|t| (3, pair(t, one)));
-        p.long = p.sum_of_leaves(1_000);
+        p.longest = p.sum_of_leaves(100);
+        p.too_long = p.sum_of_leaves(1_000);
         p
     }
 
@@ -178,7 +181,7 @@ fn of_values_and_texts(p: &Pool) -> Vec<Directed> {
     vec![
         (15, Evaluate(p.y, vec![1.0])), (16, Evaluate(p.exp, vec![])), (15, EvaluateResidue(p.y, vec![1])), (16, EvaluateResidue(p.maximum, vec![1, 1])),
         (17, EvaluateResidue(p.quotient, vec![])), (10, Print { root: p.maximum, room: 0 }), (19, Print { root: p.x, room: 0 }),
-        (19, Print { root: p.long, room: 65_536 }), (19, Write { root: p.x, room: 12 }),
+        (19, Print { root: p.longest, room: 65_534 }), (19, Print { root: p.too_long, room: 65_536 }), (19, Write { root: p.x, room: 12 }),
     ]
 }
 
@@ -245,6 +248,7 @@ pub fn all() -> All {
     calls.extend(of_values_and_texts(&pool));
     calls.extend(of_expansions(&pool));
     calls.extend(of_room(&pool).into_iter().chain(of_no_room(&pool)).map(|call| (0, call)));
+    calls.push((0, Print { root: pool.longest, room: 65_535 }));
     let full = of_room(&pool).into_iter().map(|call| (18, call)).collect();
     All { pool, calls, full }
 }
@@ -263,15 +267,33 @@ pub fn run() -> Met {
     made_on(&mut both, full);
     damage::one_too_many(&mut both);
     both.forget_from(0);
+    of_rules(&mut both);
     let found: BTreeSet<_> = both.met.outcomes().collect();
     assert_eq!(found, report::outcomes().collect(), "the outcomes of the calls made for them, and those on the list");
     let made = both.met.calls_made();
-    println!("{made} calls, one at least for each of the {} outcomes that an operation can have: each has it, as the Rust's", found.len());
+    println!("{made} calls, which meet each rule and each of the {} outcomes that an operation can have, as the Rust's", found.len());
     both.met
 }
 
+/// Every rule of the constructors: sums, products and quotients of every two shapes, and exp and log of each.
+fn of_rules(both: &mut Both) {
+    list::shapes().iter().for_each(|(kind, word)| {
+        both.raw(*kind, *word);
+    });
+    let before = counted::count();
+    for a in 0..before as u64 {
+        let of_two = |b: u64| [Add(a, b), Mul(a, b), Div(a, b)];
+        for call in (0..before as u64).flat_map(of_two).chain([Exp(a), Log(a)]) {
+            let _ = both.call(&call);
+            both.forget_from(before);
+        }
+    }
+    both.forget_from(0);
+    oracle::RULES.iter().for_each(|rule| assert!(both.met.rules.contains_key(rule), "rule {rule} is not met"));
+}
+
 fn made_on(both: &mut Both, calls: Vec<Directed>) {
-    let before = crate::counted::count();
+    let before = counted::count();
     for (number, call) in calls {
         assert_eq!(both.call(&call).err().unwrap_or(0), number, "{call:?}");
         both.forget_from(before);

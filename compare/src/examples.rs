@@ -1,9 +1,13 @@
-//! The examples of document 01 and the tests of the Rust whose numbers are whole, by name, on both sides.
+//! The examples of document 01, the tests of the Rust whose numbers are whole and examples of docs/DIFFERENCES.md, by name, on both sides.
 use crate::both::Both;
 use crate::call::{Answer, Call, Given, Series};
-use crate::counted::LIMIT;
-use crate::univariate_taylor::TESTS;
+use crate::counted::{self, LIMIT};
+use crate::number::{Number, F64};
+use crate::ppl;
+use crate::symbolic::SymGenFun;
+use crate::univariate_taylor::{TaylorExpansion, TESTS};
 use crate::whole;
+use std::panic::{catch_unwind, AssertUnwindSafe};
 use Call::*;
 
 fn node(both: &mut Both, call: Call) -> u64 {
@@ -228,6 +232,137 @@ const WHOLE_TESTS: [Example; 6] = [
     }),
 ];
 
+type Own = SymGenFun<F64>;
+
+/// The Rust over its own `F64`; what it made is forgotten. None where it panics.
+fn own<T>(work: impl FnOnce() -> T) -> Option<T> {
+    let before = counted::count();
+    let hook = std::panic::take_hook();
+    std::panic::set_hook(Box::new(|_| {}));
+    let given = catch_unwind(AssertUnwindSafe(work));
+    std::panic::set_hook(hook);
+    counted::forget_from(before);
+    given.ok()
+}
+
+fn own_lit(x: f64) -> Own {
+    Own::lit(x.into())
+}
+
+fn own_var(v: usize) -> Own {
+    Own::var(ppl::Var(v))
+}
+
+/// The value of an expression in x0.
+fn own_value(root: Own, x: f64) -> u64 {
+    let x = std::hint::black_box(x);
+    root.evaluate_var(ppl::Var(0), F64::from(x)).to_f64().to_bits()
+}
+
+fn own_text(root: Own) -> String {
+    root.to_string()
+}
+
+/// The bits of an expression's value.
+fn bits(both: &mut Both, call: Call, values: &[f64]) -> u64 {
+    let root = node(both, call);
+    node(both, Evaluate(root, values.to_vec()))
+}
+
+/// docs/DIFFERENCES.md: the engine's answer, and the Rust's over `F64`.
+const DIFFERENCES: [Example; 15] = [
+    ("(2^53 - 1) + 2: 12; the Rust rounds it to 2^53", |b| {
+        let (most, two) = (lit(b, whole::MAX), lit(b, 2));
+        assert_eq!(b.call(&Add(most, two)), Err(12));
+        assert_eq!(own(|| own_text(own_lit(9_007_199_254_740_991.0) + own_lit(2.0))).unwrap(), "9007199254740992.0");
+    }),
+    ("exp(1): 11; the Rust computes a literal", |b| {
+        let one = lit(b, 1);
+        assert_eq!(b.call(&Exp(one)), Err(11));
+        assert_eq!(own(|| own_text(own_lit(1.0).exp())).unwrap(), "2.718281828459045");
+    }),
+    ("exp(x0) and log(x0) at 1: 16; the Rust computes them", |b| {
+        let x0 = x0(b);
+        for call in [Exp(x0), Log(x0)] {
+            let root = node(b, call);
+            assert_eq!(b.call(&Evaluate(root, vec![1.0])), Err(16));
+        }
+        assert_eq!(own(|| own_value(own_var(0).exp(), 1.0)), Some(1f64.exp().to_bits()));
+        assert_eq!(own(|| own_value(own_var(0).log(), 1.0)), Some(0));
+    }),
+    ("1.1^4: 3FF76CF41F212D79; multiplied from the left ..7A", |b| {
+        let x0 = x0(b);
+        assert_eq!(bits(b, Pow(x0, 4), &[1.1]), 0x3ff7_6cf4_1f21_2d79);
+        let x = std::hint::black_box(1.1f64);
+        assert_eq!((((x * x) * x) * x).to_bits(), 0x3ff7_6cf4_1f21_2d7a);
+    }),
+    ("1^2147483648 is 1; F64's pow panics", |b| {
+        let x0 = x0(b);
+        assert_eq!(bits(b, Pow(x0, 1 << 31), &[1.0]), 1f64.to_bits());
+        assert_eq!(own(|| F64::from(1.0).pow(1 << 31)), None);
+        assert!(own(|| F64::from(1.0).pow((1 << 31) - 1)).is_some());
+    }),
+    ("max(2, NaN) is 2; F64's is NaN", |b| {
+        let (x0, two) = (x0(b), lit(b, 2));
+        assert_eq!(bits(b, Max(two, x0), &[f64::NAN]), 2f64.to_bits());
+        assert!(own(|| f64::from_bits(own_value(own_lit(2.0).max(&own_var(0)), f64::NAN))).unwrap().is_nan());
+    }),
+    ("x0 at NaN 7FF0000000000001: 7FF8000000000000; the Rust hands on its bits", |b| {
+        let (x0, nan) = (x0(b), f64::from_bits(0x7ff0_0000_0000_0001));
+        assert_eq!(b.call(&Evaluate(x0, vec![nan])), Ok(Given::Number(0x7ff8_0000_0000_0000)));
+        assert_eq!(own(|| own_value(own_var(0), nan)), Some(0x7ff0_0000_0000_0001));
+    }),
+    ("94,906,266 to the power 1 is itself; the square after it leaves the literal range", |b| {
+        for (z, square) in [(94_906_265, Ok(())), (94_906_266, Err(12))] {
+            let z = lit(b, z);
+            assert_eq!(b.call(&TaylorPow(Series::constant(z), 1)), Ok(Given::Expansion(Series::constant(z))));
+            assert_eq!(b.call(&Mul(z, z)).map(|_| ()), square);
+        }
+    }),
+    ("a Max derived, expanded or printed: 10; the Rust panics", |b| {
+        let (x0, x1) = (x0(b), node(b, Var(1)));
+        let root = node(b, Max(x0, x1));
+        for call in [Derive { root, var: 0 }, TaylorCoeffs { root, var: 0, order: 0 }, Print { root, room: 65_535 }] {
+            assert_eq!(b.call(&call), Err(10));
+        }
+        let max = || own_var(0).max(&own_var(1));
+        assert!(own(|| max().derive(ppl::Var(0))).is_none() && own(|| max().taylor_coeffs(ppl::Var(0), 0)).is_none() && own(|| own_text(max())).is_none());
+    }),
+    ("`max` of a list: 10; the Rust panics", |b| {
+        let x0 = x0(b);
+        assert_eq!(b.call(&TaylorMax(Series::list(&[x0]), Series::list(&[x0]))), Err(10));
+        assert!(own(|| TaylorExpansion::var(own_var(0), 0).max(&TaylorExpansion::var(own_var(0), 0))).is_none());
+    }),
+    ("coefficient 1 of a list of one: 5; the Rust panics", |b| {
+        let x0 = x0(b);
+        assert_eq!(b.call(&TaylorCoeff(Series::list(&[x0]), 1)), Err(5));
+        assert!(own(|| TaylorExpansion::var(own_var(0), 0).coeff(1)).is_none());
+    }),
+    ("`subst` of lists of 1 and 2: 5; the Rust panics", |b| {
+        let x0 = x0(b);
+        assert_eq!(b.call(&TaylorSubst(Series::list(&[x0]), Series::list(&[x0, x0]))), Err(5));
+        assert!(own(|| TaylorExpansion::var(own_var(0), 0).subst(&TaylorExpansion::var(own_var(0), 1))).is_none());
+    }),
+    ("order 25, lists of 0 and 26: 5; the Rust takes them", |b| {
+        let x = x0(b);
+        assert_eq!(b.call(&TaylorVar { x, order: 25 }), Err(5));
+        assert_eq!(own(|| TaylorExpansion::var(own_var(0), 25).order()), Some(26));
+        for order in [0, 26] {
+            assert_eq!(b.call(&TaylorOrder(Series { order, coeffs: [x; 25] })), Err(5));
+            assert_eq!(own(|| TaylorExpansion::from_coefficients(vec![own_var(0); order as usize]).order() as u64), Some(order));
+        }
+    }),
+    ("variable 65,536: 3; the Rust prints x_65536", |b| {
+        assert_eq!(b.call(&Var(65_536)), Err(3));
+        assert_eq!(own(|| own_text(own_var(65_536))).unwrap(), "x_65536");
+    }),
+    ("19! x0 as a derivative: 12; the Rust rounds it", |b| {
+        let x0 = x0(b);
+        assert_eq!(b.call(&TaylorDerivative(Series::list(&[x0; 25]), 19)), Err(12));
+        assert_eq!(own(|| own_text(TaylorExpansion::from_coefficients(vec![own_var(0); 20]).derivative(19))).unwrap(), "1.21645100408832e17*a");
+    }),
+];
+
 fn run(both: &mut Both, examples: &[Example]) {
     for (name, example) in examples {
         println!("  {name}");
@@ -247,5 +382,7 @@ pub fn all() {
         test();
     }
     run(&mut both, &WHOLE_TESTS);
-    println!("{} calls for the examples and tests, as the Rust's", both.met.calls_made());
+    println!("Examples of docs/DIFFERENCES.md, on both sides:");
+    run(&mut both, &DIFFERENCES);
+    println!("{} calls for these, as the Rust's", both.met.calls_made());
 }

@@ -279,29 +279,26 @@ fn pair(a: u64, b: u64) -> u64 {
     a + (b << 32)
 }
 
+/// Entries that meet the rules: literals, variables, and each kind of node over them.
+pub fn shapes() -> Vec<Entry> {
+    let lit = |z: i64| (2, z as u64);
+    let mut entries: Vec<Entry> = vec![(1, 0), (1, 1), lit(0), lit(1), lit(2), lit(-3), lit(crate::whole::MAX)];
+    let (x, y, one, two) = (0, 1, 3, 4);
+    let (exp_x, exp_y, square, most) = (7, 8, 9, 10);
+    entries.extend([(6, x), (6, y), (8, pair(x, 2)), (8, pair(x, u32::MAX as u64))]);
+    entries.extend([(x, one), (y, two), (two, x), (x, y)].map(|(a, b)| (3, pair(a, b))));
+    let products = [(two, x), (two, y), (y, x), (exp_x, y), (y, exp_x), (exp_y, exp_x), (y, square), (y, most)];
+    entries.extend(products.map(|(a, b)| (4, pair(a, b))));
+    entries.extend([(5, pair(x, y)), (7, x), (9, pair(x, y))]);
+    entries
+}
+
 /// The fixed part: every shape that a rule looks at, with every other.
 impl List {
-    /// Entries that meet the rules: literals, variables, and each kind of node over them.
     fn shapes(&mut self) -> Vec<u64> {
-        let lit = |z: i64| (2, z as u64);
-        let leaves = [(1, 0), (1, 1), lit(0), lit(1), lit(2), lit(-3), lit(crate::whole::MAX)];
-        leaves.iter().for_each(|(kind, word)| {
+        shapes().iter().for_each(|(kind, word)| {
             self.put(*kind, *word);
         });
-        let (x, y, one, two) = (0, 1, 3, 4);
-        let exp_x = self.put(6, x);
-        let exp_y = self.put(6, y);
-        let square = self.put(8, pair(x, 2));
-        let most = self.put(8, pair(x, u32::MAX as u64));
-        for (a, b) in [(x, one), (y, two), (two, x), (x, y)] {
-            self.put(3, pair(a, b));
-        }
-        for (a, b) in [(two, x), (two, y), (y, x), (exp_x, y), (y, exp_x), (exp_y, exp_x), (y, square), (y, most)] {
-            self.put(4, pair(a, b));
-        }
-        self.put(5, pair(x, y));
-        self.put(7, x);
-        self.put(9, pair(x, y));
         let count = self.count();
         self.set_count(count);
         (0..count).collect()

@@ -1,7 +1,8 @@
 //! Drives the Rust and the engine through the same calls and compares every answer and every lent byte.
 //! Usage: bunlayog-compare [SEED [SECONDS]]
 //! The seconds are those of the random calls.
-//! Or: bunlayog-compare list FOLDER, which writes the files stdin and stdout of the program `replay`, by the Rust alone.
+//! Or: bunlayog-compare list FOLDER FOLDER, which writes the files stdin and stdout of the program `replay` to the first, and a list of wrong answers and
+//! the report on it to the second, by the Rust alone.
 #![feature(arbitrary_self_types)]
 #![allow(dead_code, unused_imports, clippy::all)]
 
@@ -77,7 +78,7 @@ fn main() {
     }));
     let mut args = std::env::args().skip(1).peekable();
     if args.next_if_eq("list").is_some() {
-        return write_list(&args.next().expect("a folder"));
+        return write_lists(&args.next().expect("a folder"), &args.next().expect("a folder for wrong answers"));
     }
     let seed: u64 = args.next().map_or(20_261_115, |s| s.parse().expect("a seed"));
     let seconds: u64 = args.next().map_or(60, |s| s.parse().expect("seconds"));
@@ -87,10 +88,11 @@ fn main() {
 }
 
 /// The fixed list of answers, with a seed of its own, and the list of wrong ones.
-fn write_list(folder: &str) {
-    let lists = || (list::made(20_261_116), list::wrong());
-    let ((list, last), wrong) = std::thread::Builder::new().stack_size(256 << 20).spawn(lists).unwrap().join().unwrap();
-    for (name, text) in [("stdin", list), ("stdout", last), ("wrong", wrong.list), ("report", wrong.report)] {
+fn write_lists(right: &str, wrong: &str) {
+    let made = || (list::made(20_261_116), list::wrong());
+    let ((list, last), wrong_list) = std::thread::Builder::new().stack_size(256 << 20).spawn(made).unwrap().join().unwrap();
+    let files = [(right, "stdin", list), (right, "stdout", last), (wrong, "wrong", wrong_list.list), (wrong, "report", wrong_list.report)];
+    for (folder, name, text) in files {
         std::fs::write(format!("{folder}/{name}"), text).expect(name);
     }
 }
