@@ -49,7 +49,8 @@ pub fn made(seed: u64) -> (String, String) {
         }
     }
     list.complete();
-    (in_blocks(&list.text), format!("{} calls replayed, 0 differ\n", list.met.calls_made()))
+    let calls = list.met.calls_made() + cases_checked();
+    (in_blocks(&(list.text + CASES)), format!("{calls} calls replayed, 0 differ\n"))
 }
 
 fn in_blocks(text: &str) -> String {
@@ -662,3 +663,4 @@ impl List {
 }
 
 include!("wrong.rs");
+include!("cases.rs");

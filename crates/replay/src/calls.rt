@@ -1,6 +1,9 @@
 // One call of the list, by the number of its operation.
 use crate::answers::node_is_right;
 use crate::answers::value_is_right;
+use number_list::length_of;
+use number_list::next;
+use pool::LIMIT;
 use replay_calls::same_pools;
 
 pub const EVALUATE: u64 = 22;
@@ -24,6 +27,10 @@ pub const COEFF: u64 = 32;
 pub const DERIVATIVE: u64 = 33;
 
 pub const ORDER: u64 = 34;
+
+pub const PRINT_REPEATED: u64 = 47;
+
+pub const LENT: u64 = 48;
 
 const FIRST_EXPANSION: u64 = 30;
 
@@ -59,6 +66,7 @@ fn group_of(op: u64) -> Group {
         COEFF => Group::Node,
         DERIVATIVE => Group::Node,
         ORDER => Group::Value,
+        PRINT_REPEATED => Group::Text,
         _ => Group::Expansion,
     }
 }
@@ -112,7 +120,7 @@ fn answer_is_right(
 }
 
 // The answer, and then every entry of both tables and the count.
-pub fn call_is_right(
+fn all_is_right(
     op: u64,
     text: &[u8],
     at: &mut usize,
@@ -127,4 +135,73 @@ pub fn call_is_right(
         return false;
     }
     same_pools(k, w, *count, kinds, words, *counted)
+}
+
+// With the first entries of the tables lent, as many kinds and as many words as said.
+fn lent_is_right(
+    m: usize,
+    n: usize,
+    op: u64,
+    text: &[u8],
+    at: &mut usize,
+    k: &mut [u8],
+    w: &mut [u64],
+    count: &mut u64,
+    kinds: &mut [u8],
+    words: &mut [u64],
+    counted: &mut u64,
+) -> bool {
+    if m <= k.len() {
+        if n <= w.len() {
+            if m <= kinds.len() {
+                if n <= words.len() {
+                    return all_is_right(
+                        op,
+                        text,
+                        at,
+                        &mut k[..m],
+                        &mut w[..n],
+                        count,
+                        &mut kinds[..m],
+                        &mut words[..n],
+                        counted,
+                    );
+                }
+            }
+        }
+    }
+    false
+}
+
+// A call with tables of the right lengths, or of those that the list gives before it.
+pub fn call_is_right(
+    op: u64,
+    text: &[u8],
+    at: &mut usize,
+    k: &mut [u8],
+    w: &mut [u64],
+    count: &mut u64,
+    kinds: &mut [u8],
+    words: &mut [u64],
+    counted: &mut u64,
+) -> bool {
+    if op != LENT {
+        return lent_is_right(
+            LIMIT,
+            LIMIT,
+            op,
+            text,
+            at,
+            k,
+            w,
+            count,
+            kinds,
+            words,
+            counted,
+        );
+    }
+    let m = length_of(next(text, at));
+    let n = length_of(next(text, at));
+    let call = next(text, at);
+    lent_is_right(m, n, call, text, at, k, w, count, kinds, words, counted)
 }

@@ -1,11 +1,11 @@
 // The list from its first line to its last.
 use crate::calls::call_is_right;
+use crate::raw::TABLE;
 use crate::raw::set_both;
 use libc::STDIN_FILENO;
 use libc::STDOUT_FILENO;
 use number_list::at_end;
 use number_list::next;
-use pool::LIMIT;
 
 const FIRST_CALL: u64 = 10;
 
@@ -157,9 +157,9 @@ fn all_blocks(k: &mut [u8], w: &mut [u64], kinds: &mut [u8], words: &mut [u64]) 
 
 // The engine's tables, and beside them those that the list's entries go to.
 pub fn replay() {
-    let mut k = [0u8; LIMIT];
-    let mut w = [0u64; LIMIT];
-    let mut kinds = [0u8; LIMIT];
-    let mut words = [0u64; LIMIT];
+    let mut k = [0u8; TABLE];
+    let mut w = [0u64; TABLE];
+    let mut kinds = [0u8; TABLE];
+    let mut words = [0u64; TABLE];
     all_blocks(&mut k, &mut w, &mut kinds, &mut words);
 }

@@ -8,8 +8,11 @@ use number_list::length_of;
 use number_list::next;
 use number_list::next_bytes;
 use number_list::same_bytes;
+use std::num::wrapping_sub_usize;
 
-pub const PRINT: u64 = 24;
+pub const WRITE: u64 = 25;
+
+pub const PRINT_REPEATED: u64 = 47;
 
 // The longest output of the list, one byte more than the longest text, and what stands in it before a call.
 const ROOM_MAX: usize = 65_536;
@@ -52,18 +55,58 @@ fn write_in(k: &[u8], w: &[u64], count: u64, root: u64, out: &mut [u8], room: us
 }
 
 fn put(op: u64, k: &[u8], w: &[u64], count: u64, root: u64, out: &mut [u8], room: usize) -> Got {
-    if op == PRINT {
-        return print_in(k, w, count, root, out, room);
+    if op == WRITE {
+        return write_in(k, w, count, root, out, room);
     }
-    write_in(k, w, count, root, out, room)
+    print_in(k, w, count, root, out, room)
+}
+
+fn set_byte(out: &mut [u8], i: usize, byte: u8) {
+    if i < out.len() {
+        out[i] = byte;
+    }
+}
+
+fn byte_at(bytes: &[u8], i: usize) -> u8 {
+    if i < bytes.len() {
+        return bytes[i];
+    }
+    0
+}
+
+// From the place `period` up to a length each byte is the one so many places before it.
+fn repeat(out: &mut [u8], period: usize, length: usize) {
+    let mut i = period;
+    while i < length {
+        let byte = byte_at(out, wrapping_sub_usize(i, period));
+        set_byte(out, i, byte);
+        i += 1;
+    }
+}
+
+// A long text: a piece again and again, and its last byte.
+fn next_repeated(text: &[u8], at: &mut usize, length: usize, out: &mut [u8]) {
+    let period = length_of(next(text, at));
+    next_bytes(text, at, period, out);
+    repeat(out, period, length);
+    let mut last = [0u8; 1];
+    next_bytes(text, at, 1, &mut last);
+    set_byte(out, wrapping_sub_usize(length, 1), last[0]);
+}
+
+fn next_text(op: u64, text: &[u8], at: &mut usize, length: usize, out: &mut [u8]) {
+    if op == PRINT_REPEATED {
+        return next_repeated(text, at, length, out);
+    }
+    next_bytes(text, at, length, out);
 }
 
 // The answer and the output against the list's.
-fn compare(text: &[u8], at: &mut usize, got: Got, out: &[u8]) -> bool {
+fn compare(op: u64, text: &[u8], at: &mut usize, got: Got, out: &[u8]) -> bool {
     let want = expected(text, at);
     let length = want.value;
     let mut bytes = [BEFORE; ROOM_MAX];
-    next_bytes(text, at, length_of(length), &mut bytes);
+    next_text(op, text, at, length_of(length), &mut bytes);
     if !same(got, want) {
         return false;
     }
@@ -82,5 +125,5 @@ pub fn text_is_right(
     let root = next(text, at);
     let mut out = [BEFORE; ROOM_MAX];
     let got = put(op, k, w, count, root, &mut out, room);
-    compare(text, at, got, &out)
+    compare(op, text, at, got, &out)
 }

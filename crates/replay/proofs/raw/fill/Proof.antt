@@ -9,16 +9,19 @@ use Rattle.replay.proofs.raw.fill.Statement.{statement}
 use Rattle.replay.proofs.raw.fill.Tie as tie
 
 abbrev Inv-loop : tie.InvT-loop
-Inv-loop kinds₀ words₀ from to kind word i₀ kinds words i = (length kinds ≡ length kinds₀) × (length words ≡ length words₀)
+Inv-loop kinds₀ words₀ from to kind first step i₀ word₀ kinds words i word = (length kinds ≡ length kinds₀) × (length words ≡ length words₀)
 
 abbrev μ-loop : tie.MeasureT-loop
-μ-loop kinds₀ words₀ from to kind word i₀ kinds words i = to - i
+μ-loop kinds₀ words₀ from to kind first step i₀ word₀ kinds words i word = to - i
 
 loop-holds : tie.Need-loop-holds Inv-loop μ-loop
 loop-holds c = (refl, refl)
 
 set-requires : tie.Need-set-requires Inv-loop μ-loop
 set-requires c κs = tt
+
+wrapping-add-u64-requires : tie.Need-wrapping-add-u64-requires Inv-loop μ-loop
+wrapping-add-u64-requires c κs = search needs
 
 add-i : tie.Need-add-i Inv-loop μ-loop
 add-i c = omega arith
@@ -46,6 +49,7 @@ fill-spec =
     μ-loop
     loop-holds
     set-requires
+    wrapping-add-u64-requires
     add-i
     loop-less
     loop-again

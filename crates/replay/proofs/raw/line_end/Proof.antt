@@ -1,16 +1,16 @@
--- `case_lines::scan::end` returns: each turn counts up to the length.
+-- `replay::raw::line_end` returns: each turn counts up to the length.
 -- Assumes nothing.
-use Prim.Native.Nat.{_-_, _≤_}
+use Prim.Native.Nat.{_-_}
 use borrow.Author.Needs.{needs}
 use lib.ListN.{length}
-use Rattle.case_lines.proofs.scan.end.Statement.{statement}
-use Rattle.case_lines.proofs.scan.end.Tie as tie
+use Rattle.replay.proofs.raw.line_end.Statement.{statement}
+use Rattle.replay.proofs.raw.line_end.Tie as tie
 
 abbrev Inv-loop : tie.InvT-loop
-Inv-loop text from most i₀ i = from ≤ i
+Inv-loop text from i₀ i = Unit
 
 abbrev μ-loop : tie.MeasureT-loop
-μ-loop text from most i₀ i = length text - i
+μ-loop text from i₀ i = length text - i
 
 loop-holds : tie.Need-loop-holds Inv-loop μ-loop
 loop-holds c = search needs
@@ -33,8 +33,8 @@ loop-again c = search needs
 returns-2 : tie.Need-returns-2 Inv-loop μ-loop
 returns-2 c = search needs
 
-pub end-spec : {M : Type 1} → statement M
-end-spec =
+pub line-end-spec : {M : Type 1} → statement M
+line-end-spec =
     tie.close
     (tie.spec
     Inv-loop
