@@ -161,7 +161,7 @@ module _ {ks ws : List ℕ} {n : ℕ} {r : Outcome} {ks′ ws′ : List ℕ} {n�
   -- what holds of every accepted expansion of an expression holds of the answer
   pub expansion-holds :
       (x : Point) (H : Pool → Expansion → Type 0)
-      → (Keeps (lentPool ks ws n) → from < n → v ≤ greatestVariable → order < terms → (e : Expansion) (Q : Pool) → expand from v x order (lentPool ks ws n) ≡ gives e Q → H Q e)
+      → (Keeps (lentPool ks ws n) → from < n → v ≤ greatestVariable → order < terms → (e : Expansion) (Q : Pool) → expand from v x order (lentPool ks ws n) ≡ done e Q → H Q e)
       → Answered (expandWork from v x order) ks ws n r ks′ ws′ n′
       → H (lentPool ks′ ws′ n′) (given (r .series))
   expansion-holds x H holds call =

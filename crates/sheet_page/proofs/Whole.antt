@@ -229,11 +229,11 @@ module _ (page : Page) (ks ws : List ℕ) (line part room : ℕ) where
       piece : List ℕ
       piece = pieceOf page ks ws line part
 
-      is-short : (t : Bool) → leb (length piece) longestText ≡ t → length (pick t piece []) ≤ longestText
+      is-short : (t : Bool) → leb (length piece) longestText ≡ t → length (cond t piece []) ≤ longestText
       is-short true e = leb-true (length piece) longestText e
       is-short false e = omega arith
 
-      go : (t u : Bool) → leb longestText room ≡ t → length (pick (t && u) (short piece) []) ≤ room
+      go : (t u : Bool) → leb longestText room ≡ t → length (cond (t && u) (short piece) []) ≤ room
       go true true e = omega (arith, is-short (leb (length piece) longestText) refl, leb-true longestText room e)
       go true false e = omega arith
       go false u e = omega arith
