@@ -1,6 +1,6 @@
--- Each sheet is computed, the files of the two long texts once they are written.
+-- Each sheet is computed, the files of the two long texts once they are written, each in a declaration of its own.
 -- Assumes nothing.
-use mathlib.Core.Path.{refl, ap}
+use mathlib.Core.Path.{_≡_, refl, ap}
 use mathlib.Core.List.{List}
 use Prim.Native.Nat.{ℕ}
 use lib.ListN.{length}
@@ -16,10 +16,19 @@ use Rattle.taylor.specs.Expansion.{times}
 use Rattle.taylor.specs.Expand.{expandBelow}
 use Rattle.sheet_text.specs.Line.{digitsFrom, decimalOf, pointOf, fields, parse}
 use Rattle.sheet_text.specs.Sheet.{empty, coefficients, linesFrom, sheet}
-use Rattle.limits.specs.Lent.{text65535, text65536}
+use Rattle.limits.specs.Lent.{lent, text65535, text65536}
+use Rattle.limits.specs.Calls.{file}
 use Rattle.limits.specs.Written.{bytes}
 use Rattle.limits_texts.specs.Sheets.{Sheets}
 use Rattle.limits.proofs.Called.{file-on}
+
+taken-65535 : length (sheet (file 148 15 (lent text65535)) (bytes "1 0\n")) ≡ 65548
+unfolding sheet parse fields decimalOf digitsFrom pointOf coefficients empty readFile isSized areNodes areInOrder isInOrder entryIn appendFirst order.walk order.numbered order.written fileOf writtenFile mayStandAt each append calls build mulLits mulExps mulLeft mulPows mulLast nodeIn decode display signedDecimal decimal digitsWithin times expandBelow linesFrom foldNodes foldNodesWithin under
+taken-65535 = ap (λ (f : List ℕ). length (sheet f (bytes "1 0\n"))) (file-on text65535 refl 148 15)
+
+refused-65536 : sheet (file 283 30 (lent text65536)) (bytes "1 0\n") ≡ bytes "refused 19\n"
+unfolding sheet parse fields decimalOf digitsFrom pointOf coefficients empty readFile isSized areNodes areInOrder isInOrder entryIn appendFirst order.walk order.numbered order.written fileOf writtenFile mayStandAt each append calls build mulLits mulExps mulLeft mulPows mulLast nodeIn decode display signedDecimal decimal digitsWithin times expandBelow linesFrom foldNodes foldNodesWithin under
+refused-65536 = ap (λ (f : List ℕ). sheet f (bytes "1 0\n")) (file-on text65536 refl 283 30)
 
 pub sheets : Sheets
 unfolding sheet parse fields decimalOf digitsFrom pointOf coefficients empty readFile isSized areNodes areInOrder isInOrder entryIn appendFirst order.walk order.numbered order.written fileOf writtenFile mayStandAt each append calls build mulLits mulExps mulLeft mulPows mulLast nodeIn decode display signedDecimal decimal digitsWithin times expandBelow linesFrom foldNodes foldNodesWithin under
@@ -38,6 +47,6 @@ sheets =
       line-order-24 = refl;
       line-order-25 = refl;
       no-file = refl;
-      coefficient-65535 = ap (λ (f : List ℕ). length (sheet f (bytes "1 0\n"))) (file-on text65535 refl 148 15);
-      coefficient-65536 = ap (λ (f : List ℕ). sheet f (bytes "1 0\n")) (file-on text65536 refl 283 30);
+      coefficient-65535 = taken-65535;
+      coefficient-65536 = refused-65536;
     }
