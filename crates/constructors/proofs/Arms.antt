@@ -19,6 +19,8 @@ add-arms =
       sums = refl;
       sum-left = refl;
       sum-right = refl;
+      two-zeros = refl;
+      plain-sums = refl;
       plain = refl;
     }
 
@@ -31,6 +33,7 @@ mul-arms =
       one-and-zero = refl;
       one-left = refl;
       one-right = refl;
+      two-ones = refl;
       exps = refl;
       literals = refl;
       literal-left = refl;
@@ -48,6 +51,10 @@ mul-arms =
       same-factor = refl;
       factor-and-power = refl;
       powers = refl;
+      literal-and-product = refl;
+      exp-and-product = refl;
+      left-literal-alone = refl;
+      right-literal-alone = refl;
       literal-last = refl;
       plain = refl;
       no-power = refl;
