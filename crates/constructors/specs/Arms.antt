@@ -25,8 +25,8 @@ nodes =
     ∷ node.Mul 13 1 ∷ node.Mul 1 13 ∷ node.Mul 14 0 ∷ node.Mul 0 14
     -- 19 to 21: x^2, x^3, y × x^2
     ∷ node.Pow 0 2 ∷ node.Pow 0 3 ∷ node.Mul 1 19
-    -- 22, 23: another 0 and another 1
-    ∷ node.Lit (pos 0) ∷ node.Lit (pos 1) ∷ []
+    -- 22 to 24: another 0 and another 1, exp x × exp y
+    ∷ node.Lit (pos 0) ∷ node.Lit (pos 1) ∷ node.Mul 13 14 ∷ []
 
 abbrev pub at : ℕ → Node
 at i = getD nodes i node.Empty
@@ -86,6 +86,10 @@ pub record MulArms : Type 0 where
   pub same-factor : mulTable at 12 0 ≡ mul (# 1) (pow (# 0) 2)
   pub factor-and-power : mulTable at 12 20 ≡ mul (# 1) (pow (# 0) 4)
   pub powers : mulTable at 21 20 ≡ mul (# 1) (pow (# 0) 5)
+  -- where two arms or two parts fit: (exp x × exp y) × exp x takes the second part, (exp x × exp y) × (exp x × exp y) the first parts, (y × x^2) × x^2 the same factor
+  pub second-part-first : mulTable at 24 13 ≡ mul (# 13) (exp (add (# 1) (# 0)))
+  pub first-pair-first : mulTable at 24 24 ≡ mul (mul (# 14) (# 14)) (exp (add (# 0) (# 0)))
+  pub same-factor-first : mulTable at 21 19 ≡ mul (# 1) (pow (# 19) 2)
   -- 2 × (y × x), exp x × (y × x), (2 × x) × (y × x), (y × x) × (2 × x): the arms for such nodes are entered and left
   pub literal-and-product : mulTable at 4 12 ≡ Mul (# 4) (# 12)
   pub exp-and-product : mulTable at 13 12 ≡ Mul (# 13) (# 12)
