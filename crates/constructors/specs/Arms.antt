@@ -1,4 +1,4 @@
--- Each arm of the tables of `add` and `mul`, met by two nodes, and what it returns. One statement, so that no arm can be changed unseen.
+-- Each arm of the tables of `add` and `mul`, met by two nodes, and what it returns, so that what an arm returns cannot be changed unseen; and nodes that enter an arm and leave it, or meet two.
 -- Assumes nothing.
 use mathlib.Core.Path.{_≡_}
 use mathlib.Core.List.{List, [], _∷_}
@@ -24,7 +24,9 @@ nodes =
     -- 15 to 18: exp x × y, y × exp x, exp y × x, x × exp y
     ∷ node.Mul 13 1 ∷ node.Mul 1 13 ∷ node.Mul 14 0 ∷ node.Mul 0 14
     -- 19 to 21: x^2, x^3, y × x^2
-    ∷ node.Pow 0 2 ∷ node.Pow 0 3 ∷ node.Mul 1 19 ∷ []
+    ∷ node.Pow 0 2 ∷ node.Pow 0 3 ∷ node.Mul 1 19
+    -- 22 to 24: another 0 and another 1, exp x × exp y
+    ∷ node.Lit (pos 0) ∷ node.Lit (pos 1) ∷ node.Mul 13 14 ∷ []
 
 abbrev pub at : ℕ → Node
 at i = getD nodes i node.Empty
@@ -45,6 +47,9 @@ pub record AddArms : Type 0 where
   pub sums : addTable at 7 8 ≡ add (add (# 0) (# 1)) (lit (pos 5))
   pub sum-left : addTable at 7 6 ≡ add (add (# 0) (# 6)) (# 4)
   pub sum-right : addTable at 6 8 ≡ add (add (# 6) (# 1)) (# 5)
+  -- 0 + 0 is the right one; (x + y) + (x + y) has no literal to move
+  pub two-zeros : addTable at 2 22 ≡ # 22
+  pub plain-sums : addTable at 6 6 ≡ Add (# 6) (# 6)
   -- x + y
   pub plain : addTable at 0 1 ≡ Add (# 0) (# 1)
 
@@ -56,6 +61,8 @@ pub record MulArms : Type 0 where
   -- 1 × x, x × 1
   pub one-left : mulTable at 3 0 ≡ # 0
   pub one-right : mulTable at 0 3 ≡ # 0
+  -- 1 × 1 is the right one
+  pub two-ones : mulTable at 3 23 ≡ # 23
   -- exp x × exp y, 2 × 3
   pub exps : mulTable at 13 14 ≡ exp (add (# 0) (# 1))
   pub literals : mulTable at 4 5 ≡ lit (pos 6)
@@ -79,6 +86,15 @@ pub record MulArms : Type 0 where
   pub same-factor : mulTable at 12 0 ≡ mul (# 1) (pow (# 0) 2)
   pub factor-and-power : mulTable at 12 20 ≡ mul (# 1) (pow (# 0) 4)
   pub powers : mulTable at 21 20 ≡ mul (# 1) (pow (# 0) 5)
+  -- where two arms or two parts fit: (exp x × exp y) × exp x takes the second part, (exp x × exp y) × (exp x × exp y) the first parts, (y × x^2) × x^2 the same factor
+  pub second-part-first : mulTable at 24 13 ≡ mul (# 13) (exp (add (# 1) (# 0)))
+  pub first-pair-first : mulTable at 24 24 ≡ mul (mul (# 14) (# 14)) (exp (add (# 0) (# 0)))
+  pub same-factor-first : mulTable at 21 19 ≡ mul (# 1) (pow (# 19) 2)
+  -- 2 × (y × x), exp x × (y × x), (2 × x) × (y × x), (y × x) × (2 × x): the arms for such nodes are entered and left
+  pub literal-and-product : mulTable at 4 12 ≡ Mul (# 4) (# 12)
+  pub exp-and-product : mulTable at 13 12 ≡ Mul (# 13) (# 12)
+  pub left-literal-alone : mulTable at 10 12 ≡ Mul (# 10) (# 12)
+  pub right-literal-alone : mulTable at 12 10 ≡ Mul (# 12) (# 10)
   -- x × 2, x × y, and x × x, which is no power
   pub literal-last : mulTable at 0 4 ≡ Mul (# 4) (# 0)
   pub plain : mulTable at 0 1 ≡ Mul (# 0) (# 1)
