@@ -50,7 +50,8 @@ extern "C" {
 #define BUNLAYOG_VERSION_MINOR 1
 #define BUNLAYOG_VERSION_PATCH 0
 
-/* What a call answers. 1 to 9 are checked first, smallest number first; then the work runs, and its first step to meet one of 10 to 18
+/* What a call answers. Behind each function below stand the refusals that it can be given: those that are checked first, and behind the
+ * semicolon those of its work. 1 to 9 are checked first, smallest number first; then the work runs, and its first step to meet one of 10 to 18
  * decides; 19 comes last. bunlayog_text.h has a text for each. */
 enum bunlayog_refusal {
     BUNLAYOG_OK = 0,
@@ -148,92 +149,89 @@ struct bunlayog_pool {
 
 /* BUNLAYOG_OK where the tables and the count are a pool that keeps the rules, else 1. The rules: each table has BUNLAYOG_LIMIT entries, the
  * count is at most that, each entry below the count is a node whose parts have smaller numbers, and every later entry is 0 in both. */
-BUNLAYOG_CHECKED uint32_t bunlayog_check(BUNLAYOG_POOL_READ);
+BUNLAYOG_CHECKED uint32_t bunlayog_check(BUNLAYOG_POOL_READ); /* 1 */
 
-/* A new literal, from BUNLAYOG_LITERAL_MIN to BUNLAYOG_LITERAL_MAX, or a new variable, 0 to BUNLAYOG_VARIABLE_MAX; *node is its number.
- * Refusals: 1; 4 (lit), 3 (var); 18. */
-BUNLAYOG_CHECKED uint32_t bunlayog_lit(BUNLAYOG_POOL, int64_t value, uint64_t *node);
-BUNLAYOG_CHECKED uint32_t bunlayog_var(BUNLAYOG_POOL, uint64_t number, uint64_t *node);
+/* A new literal, from BUNLAYOG_LITERAL_MIN to BUNLAYOG_LITERAL_MAX, or a new variable, 0 to BUNLAYOG_VARIABLE_MAX; *node is its number. */
+BUNLAYOG_CHECKED uint32_t bunlayog_lit(BUNLAYOG_POOL, int64_t value, uint64_t *node); /* 1, 4; 18 */
+BUNLAYOG_CHECKED uint32_t bunlayog_var(BUNLAYOG_POOL, uint64_t number, uint64_t *node); /* 1, 3; 18 */
 
 /* The constructors. *node is the answer's number; nodes are appended as the rules need them, and the answer may be a node that was there.
- * Refusals: 1, 2 first; then by the first step that meets one: 11 (exp or log of a literal that has none), 12 (a folded literal leaves the
- * range), 13 (an exponent sum above BUNLAYOG_EXPONENT_MAX), 14 (a constructor at depth 201), 18 (the pool is full). */
-BUNLAYOG_CHECKED uint32_t bunlayog_add(BUNLAYOG_POOL, uint64_t lhs, uint64_t rhs, uint64_t *node);
-BUNLAYOG_CHECKED uint32_t bunlayog_mul(BUNLAYOG_POOL, uint64_t lhs, uint64_t rhs, uint64_t *node);
-BUNLAYOG_CHECKED uint32_t bunlayog_div(BUNLAYOG_POOL, uint64_t lhs, uint64_t rhs, uint64_t *node);
-BUNLAYOG_CHECKED uint32_t bunlayog_max(BUNLAYOG_POOL, uint64_t lhs, uint64_t rhs, uint64_t *node);
-BUNLAYOG_CHECKED uint32_t bunlayog_neg(BUNLAYOG_POOL, uint64_t arg, uint64_t *node);
-BUNLAYOG_CHECKED uint32_t bunlayog_exp(BUNLAYOG_POOL, uint64_t arg, uint64_t *node);
-BUNLAYOG_CHECKED uint32_t bunlayog_log(BUNLAYOG_POOL, uint64_t arg, uint64_t *node);
-BUNLAYOG_CHECKED uint32_t bunlayog_pow(BUNLAYOG_POOL, uint64_t base, uint32_t exp, uint64_t *node);
+ * The first step that meets a refusal decides: 11 (exp or log of a literal that has none), 12 (a folded literal leaves the range), 13 (an
+ * exponent sum above BUNLAYOG_EXPONENT_MAX), 14 (a constructor at depth 201), 18 (the pool is full). */
+BUNLAYOG_CHECKED uint32_t bunlayog_add(BUNLAYOG_POOL, uint64_t lhs, uint64_t rhs, uint64_t *node); /* 1, 2; 12, 14, 18 */
+BUNLAYOG_CHECKED uint32_t bunlayog_mul(BUNLAYOG_POOL, uint64_t lhs, uint64_t rhs, uint64_t *node); /* 1, 2; 11, 12, 13, 14, 18 */
+BUNLAYOG_CHECKED uint32_t bunlayog_div(BUNLAYOG_POOL, uint64_t lhs, uint64_t rhs, uint64_t *node); /* 1, 2; 18 */
+BUNLAYOG_CHECKED uint32_t bunlayog_max(BUNLAYOG_POOL, uint64_t lhs, uint64_t rhs, uint64_t *node); /* 1, 2; 18 */
+BUNLAYOG_CHECKED uint32_t bunlayog_neg(BUNLAYOG_POOL, uint64_t arg, uint64_t *node); /* 1, 2; 18 */
+BUNLAYOG_CHECKED uint32_t bunlayog_exp(BUNLAYOG_POOL, uint64_t arg, uint64_t *node); /* 1, 2; 11, 14, 18 */
+BUNLAYOG_CHECKED uint32_t bunlayog_log(BUNLAYOG_POOL, uint64_t arg, uint64_t *node); /* 1, 2; 11, 14, 18 */
+BUNLAYOG_CHECKED uint32_t bunlayog_pow(BUNLAYOG_POOL, uint64_t base, uint32_t exp, uint64_t *node); /* 1, 2; 18 */
 
 /* The expression at root with each variable of number var replaced by the node value. A node whose parts stay the same is kept, the others
- * are built by the constructors, left before right and each once; *node is the new root. Refusals: 1, 2, 3; then 11, 12, 13, 14, 18. */
-BUNLAYOG_CHECKED uint32_t bunlayog_substitute_var(BUNLAYOG_POOL, uint64_t root, uint64_t var, uint64_t value, uint64_t *node);
+ * are built by the constructors, left before right and each once; *node is the new root. */
+BUNLAYOG_CHECKED uint32_t bunlayog_substitute_var(BUNLAYOG_POOL, uint64_t root, uint64_t var, uint64_t value, uint64_t *node); /* 1, 2, 3; 11, 12, 13, 14, 18 */
 
 /* The derivative of the expression at root by a variable; *node is its root. A quotient a/b gives (a * db - b * da) / b^2, which has the other
- * sign than the calculus. Refusals: 1, 2, 3; then 10, 11, 12, 13, 14, 18. */
-BUNLAYOG_CHECKED uint32_t bunlayog_derive(BUNLAYOG_POOL, uint64_t root, uint64_t var, uint64_t *node);
+ * sign than the calculus. */
+BUNLAYOG_CHECKED uint32_t bunlayog_derive(BUNLAYOG_POOL, uint64_t root, uint64_t var, uint64_t *node); /* 1, 2, 3; 10, 11, 12, 13, 14, 18 */
 
 /* The value of the expression at root as a double, from a table in which entry v is the value of variable v; *bits are its 64 bits, of a NaN
- * always 7FF8000000000000 (hexadecimal). Each operation rounds once. Refusals: 1, 2, 6; then 15, 16. */
-BUNLAYOG_CHECKED uint32_t bunlayog_evaluate(BUNLAYOG_POOL_READ, uint64_t root, const double *values, size_t values_len, uint64_t *bits);
+ * always 7FF8000000000000 (hexadecimal). Each operation rounds once. */
+BUNLAYOG_CHECKED uint32_t bunlayog_evaluate(BUNLAYOG_POOL_READ, uint64_t root, const double *values, size_t values_len, uint64_t *bits); /* 1, 2, 6; 15, 16 */
 
-/* The same by residues of the modulus BUNLAYOG_MODULUS. Refusals: 1, 2, 6; then 15, 16, 17. */
-BUNLAYOG_CHECKED uint32_t bunlayog_evaluate_residue(BUNLAYOG_POOL_READ, uint64_t root, const uint32_t *values, size_t values_len, uint32_t *residue);
+/* The same by residues of the modulus BUNLAYOG_MODULUS. */
+BUNLAYOG_CHECKED uint32_t bunlayog_evaluate_residue(BUNLAYOG_POOL_READ, uint64_t root, const uint32_t *values, size_t values_len, uint32_t *residue); /* 1, 2, 6; 15, 16, 17 */
 
 /* The text of the expression at root. *written is how many bytes of the output it takes; those past it stay as they were, and no 0 is put
- * after it. BUNLAYOG_TEXT_MAX bytes take every text. Refusals: 1, 2; then 10 where a Max is reachable; then 19. */
-BUNLAYOG_CHECKED uint32_t bunlayog_print(BUNLAYOG_POOL_READ, uint64_t root, uint8_t *out, size_t out_len, uint64_t *written);
+ * after it. BUNLAYOG_TEXT_MAX bytes take every text. 10 where a Max is reachable. */
+BUNLAYOG_CHECKED uint32_t bunlayog_print(BUNLAYOG_POOL_READ, uint64_t root, uint8_t *out, size_t out_len, uint64_t *written); /* 1, 2; 10, 19 */
 
 /* The node file of the expression at root: n (32 bits, low byte first), n kinds, n words of 8 bytes (low byte first), of the reachable nodes in
- * the writing order. *written is how many bytes it has; BUNLAYOG_FILE_MAX take every file. Refusals: 1, 2, 19. */
-BUNLAYOG_CHECKED uint32_t bunlayog_write(BUNLAYOG_POOL_READ, uint64_t root, uint8_t *out, size_t out_len, uint64_t *written);
+ * the writing order. *written is how many bytes it has; BUNLAYOG_FILE_MAX take every file. */
+BUNLAYOG_CHECKED uint32_t bunlayog_write(BUNLAYOG_POOL_READ, uint64_t root, uint8_t *out, size_t out_len, uint64_t *written); /* 1, 2; 19 */
 
-/* Appends the nodes of a node file, their parts shifted by the count; *root is its root. Refusals: 1, 7, 8, 9; then 18. */
-BUNLAYOG_CHECKED uint32_t bunlayog_read(BUNLAYOG_POOL, const uint8_t *file, size_t file_len, uint64_t *root);
+/* Appends the nodes of a node file, their parts shifted by the count; *root is its root. */
+BUNLAYOG_CHECKED uint32_t bunlayog_read(BUNLAYOG_POOL, const uint8_t *file, size_t file_len, uint64_t *root); /* 1, 7, 8, 9; 18 */
 
 /* Expansions. An expansion is a length and an array of BUNLAYOG_TERMS node numbers, coefficient 0 first. The length is how many entries its
  * list has, 1 to BUNLAYOG_TERMS, one more than its order; or it is BUNLAYOG_CONSTANT, and entry 0 is the constant's node. Entries past the end
  * are not read in arguments and are 0 in answers. Where two lists are given, the answer has the length of the shorter. Coefficients are not
- * simplified beyond the constructors' rules. Each call is refused by 1, 2 and 5 first (2 where an entry that is read is no node), then, where
- * it works on the pool, by 11, 12, 13, 14 and 18. */
+ * simplified beyond the constructors' rules. 2 is given where an entry that is read is no node. */
 #define BUNLAYOG_ONE uint64_t length, const uint64_t coeffs[BUNLAYOG_TERMS]
 #define BUNLAYOG_TWO uint64_t lhs_length, const uint64_t lhs[BUNLAYOG_TERMS], uint64_t rhs_length, const uint64_t rhs[BUNLAYOG_TERMS]
 #define BUNLAYOG_OUT uint64_t *length_out, uint64_t coeffs_out[BUNLAYOG_TERMS]
 
 /* The expansion of a variable at the node x to an order: order + 1 entries, x, 1, 0, 0, .. */
-BUNLAYOG_CHECKED uint32_t bunlayog_taylor_var(BUNLAYOG_POOL, uint64_t x, uint64_t order, BUNLAYOG_OUT);
+BUNLAYOG_CHECKED uint32_t bunlayog_taylor_var(BUNLAYOG_POOL, uint64_t x, uint64_t order, BUNLAYOG_OUT); /* 1, 2, 5; 18 */
 
 /* The expansion of given coefficients: the same one, with 0 past its end. */
-BUNLAYOG_CHECKED uint32_t bunlayog_taylor_from_coefficients(BUNLAYOG_POOL_READ, BUNLAYOG_ONE, BUNLAYOG_OUT);
+BUNLAYOG_CHECKED uint32_t bunlayog_taylor_from_coefficients(BUNLAYOG_POOL_READ, BUNLAYOG_ONE, BUNLAYOG_OUT); /* 1, 2, 5 */
 
 /* How many coefficients there are, which is the length given once it is found to be one: BUNLAYOG_CONSTANT of a constant. */
-BUNLAYOG_CHECKED uint32_t bunlayog_taylor_order(BUNLAYOG_POOL_READ, BUNLAYOG_ONE, uint64_t *length_out);
+BUNLAYOG_CHECKED uint32_t bunlayog_taylor_order(BUNLAYOG_POOL_READ, BUNLAYOG_ONE, uint64_t *length_out); /* 1, 2, 5 */
 
 /* Coefficient index, and the derivative of order index, which is that coefficient times a factorial (12 from 19! on). A positive index of a
  * constant gives a new literal 0. */
-BUNLAYOG_CHECKED uint32_t bunlayog_taylor_coeff(BUNLAYOG_POOL, BUNLAYOG_ONE, uint64_t index, uint64_t *node);
-BUNLAYOG_CHECKED uint32_t bunlayog_taylor_derivative(BUNLAYOG_POOL, BUNLAYOG_ONE, uint64_t index, uint64_t *node);
+BUNLAYOG_CHECKED uint32_t bunlayog_taylor_coeff(BUNLAYOG_POOL, BUNLAYOG_ONE, uint64_t index, uint64_t *node); /* 1, 2, 5; 18 */
+BUNLAYOG_CHECKED uint32_t bunlayog_taylor_derivative(BUNLAYOG_POOL, BUNLAYOG_ONE, uint64_t index, uint64_t *node); /* 1, 2, 5; 12, 18 */
 
 /* exp, log and the negative of an expansion, and a power of it. */
-BUNLAYOG_CHECKED uint32_t bunlayog_taylor_exp(BUNLAYOG_POOL, BUNLAYOG_ONE, BUNLAYOG_OUT);
-BUNLAYOG_CHECKED uint32_t bunlayog_taylor_log(BUNLAYOG_POOL, BUNLAYOG_ONE, BUNLAYOG_OUT);
-BUNLAYOG_CHECKED uint32_t bunlayog_taylor_neg(BUNLAYOG_POOL, BUNLAYOG_ONE, BUNLAYOG_OUT);
-BUNLAYOG_CHECKED uint32_t bunlayog_taylor_pow(BUNLAYOG_POOL, BUNLAYOG_ONE, uint32_t exp, BUNLAYOG_OUT);
+BUNLAYOG_CHECKED uint32_t bunlayog_taylor_exp(BUNLAYOG_POOL, BUNLAYOG_ONE, BUNLAYOG_OUT); /* 1, 2, 5; 11, 12, 13, 14, 18 */
+BUNLAYOG_CHECKED uint32_t bunlayog_taylor_log(BUNLAYOG_POOL, BUNLAYOG_ONE, BUNLAYOG_OUT); /* 1, 2, 5; 11, 12, 13, 14, 18 */
+BUNLAYOG_CHECKED uint32_t bunlayog_taylor_neg(BUNLAYOG_POOL, BUNLAYOG_ONE, BUNLAYOG_OUT); /* 1, 2, 5; 18 */
+BUNLAYOG_CHECKED uint32_t bunlayog_taylor_pow(BUNLAYOG_POOL, BUNLAYOG_ONE, uint32_t exp, BUNLAYOG_OUT); /* 1, 2, 5; 11, 12, 13, 14, 18 */
 
 /* The four operations; a Max node of two constants (10 where one is a list); and the expansion lhs with rhs put for its variable. */
-BUNLAYOG_CHECKED uint32_t bunlayog_taylor_add(BUNLAYOG_POOL, BUNLAYOG_TWO, BUNLAYOG_OUT);
-BUNLAYOG_CHECKED uint32_t bunlayog_taylor_sub(BUNLAYOG_POOL, BUNLAYOG_TWO, BUNLAYOG_OUT);
-BUNLAYOG_CHECKED uint32_t bunlayog_taylor_mul(BUNLAYOG_POOL, BUNLAYOG_TWO, BUNLAYOG_OUT);
-BUNLAYOG_CHECKED uint32_t bunlayog_taylor_div(BUNLAYOG_POOL, BUNLAYOG_TWO, BUNLAYOG_OUT);
-BUNLAYOG_CHECKED uint32_t bunlayog_taylor_max(BUNLAYOG_POOL, BUNLAYOG_TWO, BUNLAYOG_OUT);
-BUNLAYOG_CHECKED uint32_t bunlayog_taylor_subst(BUNLAYOG_POOL, BUNLAYOG_TWO, BUNLAYOG_OUT);
+BUNLAYOG_CHECKED uint32_t bunlayog_taylor_add(BUNLAYOG_POOL, BUNLAYOG_TWO, BUNLAYOG_OUT); /* 1, 2, 5; 12, 14, 18 */
+BUNLAYOG_CHECKED uint32_t bunlayog_taylor_sub(BUNLAYOG_POOL, BUNLAYOG_TWO, BUNLAYOG_OUT); /* 1, 2, 5; 12, 14, 18 */
+BUNLAYOG_CHECKED uint32_t bunlayog_taylor_mul(BUNLAYOG_POOL, BUNLAYOG_TWO, BUNLAYOG_OUT); /* 1, 2, 5; 11, 12, 13, 14, 18 */
+BUNLAYOG_CHECKED uint32_t bunlayog_taylor_div(BUNLAYOG_POOL, BUNLAYOG_TWO, BUNLAYOG_OUT); /* 1, 2, 5; 11, 12, 13, 14, 18 */
+BUNLAYOG_CHECKED uint32_t bunlayog_taylor_max(BUNLAYOG_POOL, BUNLAYOG_TWO, BUNLAYOG_OUT); /* 1, 2, 5; 10, 18 */
+BUNLAYOG_CHECKED uint32_t bunlayog_taylor_subst(BUNLAYOG_POOL, BUNLAYOG_TWO, BUNLAYOG_OUT); /* 1, 2, 5; 11, 12, 13, 14, 18 */
 
-/* The expansion of the expression at root by a variable to an order, at the variable itself or at a whole number x. Refusals: 1, 2, 3, 4, 5;
- * then 10, 11, 12, 13, 14, 18. */
-BUNLAYOG_CHECKED uint32_t bunlayog_taylor_coeffs(BUNLAYOG_POOL, uint64_t root, uint64_t var, uint64_t order, BUNLAYOG_OUT);
-BUNLAYOG_CHECKED uint32_t bunlayog_taylor_coeffs_at(BUNLAYOG_POOL, uint64_t root, uint64_t var, int64_t x, uint64_t order, BUNLAYOG_OUT);
+/* The expansion of the expression at root by a variable to an order, at the variable itself or at a whole number x. */
+BUNLAYOG_CHECKED uint32_t bunlayog_taylor_coeffs(BUNLAYOG_POOL, uint64_t root, uint64_t var, uint64_t order, BUNLAYOG_OUT); /* 1, 2, 3, 5; 10, 11, 12, 13, 14, 18 */
+BUNLAYOG_CHECKED uint32_t bunlayog_taylor_coeffs_at(BUNLAYOG_POOL, uint64_t root, uint64_t var, int64_t x, uint64_t order, BUNLAYOG_OUT); /* 1, 2, 3, 4, 5; 10, 11, 12, 13, 14, 18 */
 
 #undef BUNLAYOG_ONE
 #undef BUNLAYOG_TWO

@@ -1,5 +1,6 @@
 #!/usr/bin/env bash
-# The table of refusals in docs/SPECIFICATION.md is the one that is proved of the calls (crates/situation_calls/specs/Table.antt).
+# The table of refusals in docs/SPECIFICATION.md is the one that is proved of the calls (crates/situation_calls/specs/Table.antt), and so are the lists behind the
+# functions of include/bunlayog.h.
 set -u
 cd "$(dirname "$0")/.." || exit 1
 export LC_ALL=C
@@ -26,7 +27,13 @@ written() {
   sed -n 's/^| `bunlayog_\([a-z_]*\)` | \([0-9, ]*\) | \([0-9, ]*\)|$/\1: \2; \3/p' docs/SPECIFICATION.md | sed 's/ *$//; s/;$/; /' | grep -v '^check:' | sort
 }
 
+# the same of the header
+declared() {
+  sed -n 's|^BUNLAYOG_CHECKED uint32_t bunlayog_\([a-z_]*\)(.*); /\* \(.*\) \*/$|\1: \2|p' include/bunlayog.h | sed 's/^\([a-z_]*: [0-9, ]*\)$/\1;/' | grep -v '^check:' | sort
+}
+
 calls=$(proved | wc -l)
 [ "$calls" -eq 34 ] || { echo "refusals: the proved table has $calls calls, not 34"; exit 1; }
 diff <(proved | sed 's/ *$//') <(written | sed 's/ *$//') || { echo "refusals: docs/SPECIFICATION.md has another table than the one that is proved"; exit 1; }
-echo "refusals: the table of $calls calls in docs/SPECIFICATION.md is the one that is proved"
+diff <(proved | sed 's/ *$//') <(declared | sed 's/ *$//') || { echo "refusals: include/bunlayog.h has other lists than the table that is proved"; exit 1; }
+echo "refusals: the table of $calls calls in docs/SPECIFICATION.md and in the header is the one that is proved"
