@@ -9,50 +9,50 @@ static uint64_t before_count;
 static uint64_t root, node, order, coeffs[BUNLAYOG_TERMS], list[BUNLAYOG_TERMS];
 static uint8_t out[BUNLAYOG_TEXT_MAX], file[BUNLAYOG_FILE_MAX];
 static uint64_t file_len;
-static uint32_t residue;
+static uint32_t residue, refused; /* what a call answers does not matter here: its work is counted */
 static const double doubles[1] = {1.5};
 static const uint32_t residues[1] = {3};
 
 #define TAYLOR(name, ...) bunlayog_taylor_##name(POOL, __VA_ARGS__, &order, coeffs)
 
-static void check(void) { bunlayog_check(POOL_READ); }
-static void lit(void) { bunlayog_lit(POOL, 5, &node); }
-static void var(void) { bunlayog_var(POOL, 0, &node); }
-static void add(void) { bunlayog_add(POOL, root, root, &node); }
-static void mul(void) { bunlayog_mul(POOL, root, root, &node); }
-static void divide(void) { bunlayog_div(POOL, root, root, &node); }
-static void max(void) { bunlayog_max(POOL, root, root, &node); }
-static void neg(void) { bunlayog_neg(POOL, root, &node); }
-static void exponential(void) { bunlayog_exp(POOL, root, &node); }
-static void logarithm(void) { bunlayog_log(POOL, root, &node); }
-static void power(void) { bunlayog_pow(POOL, root, 3, &node); }
-static void substitute(void) { bunlayog_substitute_var(POOL, root, 0, root, &node); }
-static void substitute_other(void) { bunlayog_substitute_var(POOL, root, 1, 0, &node); }
-static void derive(void) { bunlayog_derive(POOL, root, 0, &node); }
-static void derive_other(void) { bunlayog_derive(POOL, root, 1, &node); }
-static void evaluate(void) { bunlayog_evaluate(POOL_READ, root, doubles, 1, &node); }
-static void evaluate_residue(void) { bunlayog_evaluate_residue(POOL_READ, root, residues, 1, &residue); }
-static void print(void) { bunlayog_print(POOL_READ, root, out, sizeof out, &node); }
-static void write_file(void) { bunlayog_write(POOL_READ, root, out, sizeof out, &node); }
-static void read_file(void) { bunlayog_read(POOL, file, file_len, &node); }
-static void taylor_var(void) { TAYLOR(var, root, 24); }
-static void taylor_from_coefficients(void) { bunlayog_taylor_from_coefficients(POOL_READ, BUNLAYOG_TERMS, list, &order, coeffs); }
-static void taylor_order(void) { bunlayog_taylor_order(POOL_READ, BUNLAYOG_TERMS, list, &order); }
-static void taylor_coeff(void) { bunlayog_taylor_coeff(POOL, BUNLAYOG_TERMS, list, 24, &node); }
-static void taylor_derivative(void) { bunlayog_taylor_derivative(POOL, BUNLAYOG_TERMS, list, 18, &node); }
-static void taylor_exp(void) { TAYLOR(exp, BUNLAYOG_TERMS, list); }
-static void taylor_log(void) { TAYLOR(log, BUNLAYOG_TERMS, list); }
-static void taylor_neg(void) { TAYLOR(neg, BUNLAYOG_TERMS, list); }
-static void taylor_pow(void) { TAYLOR(pow, BUNLAYOG_TERMS, list, UINT32_MAX); }
-static void taylor_add(void) { TAYLOR(add, BUNLAYOG_TERMS, list, BUNLAYOG_TERMS, list); }
-static void taylor_sub(void) { TAYLOR(sub, BUNLAYOG_TERMS, list, BUNLAYOG_TERMS, list); }
-static void taylor_mul(void) { TAYLOR(mul, BUNLAYOG_TERMS, list, BUNLAYOG_TERMS, list); }
-static void taylor_div(void) { TAYLOR(div, BUNLAYOG_TERMS, list, BUNLAYOG_TERMS, list); }
-static void taylor_max(void) { TAYLOR(max, BUNLAYOG_CONSTANT, list, BUNLAYOG_CONSTANT, list); }
-static void taylor_subst(void) { TAYLOR(subst, BUNLAYOG_TERMS, list, BUNLAYOG_TERMS, list); }
-static void taylor_coeffs(void) { TAYLOR(coeffs, root, 0, 2); }
-static void taylor_coeffs_other(void) { TAYLOR(coeffs, root, 1, 24); }
-static void taylor_coeffs_at(void) { TAYLOR(coeffs_at, root, 0, 1, 2); }
+static void check(void) { refused = bunlayog_check(POOL_READ); }
+static void lit(void) { refused = bunlayog_lit(POOL, 5, &node); }
+static void var(void) { refused = bunlayog_var(POOL, 0, &node); }
+static void add(void) { refused = bunlayog_add(POOL, root, root, &node); }
+static void mul(void) { refused = bunlayog_mul(POOL, root, root, &node); }
+static void divide(void) { refused = bunlayog_div(POOL, root, root, &node); }
+static void max(void) { refused = bunlayog_max(POOL, root, root, &node); }
+static void neg(void) { refused = bunlayog_neg(POOL, root, &node); }
+static void exponential(void) { refused = bunlayog_exp(POOL, root, &node); }
+static void logarithm(void) { refused = bunlayog_log(POOL, root, &node); }
+static void power(void) { refused = bunlayog_pow(POOL, root, 3, &node); }
+static void substitute(void) { refused = bunlayog_substitute_var(POOL, root, 0, root, &node); }
+static void substitute_other(void) { refused = bunlayog_substitute_var(POOL, root, 1, 0, &node); }
+static void derive(void) { refused = bunlayog_derive(POOL, root, 0, &node); }
+static void derive_other(void) { refused = bunlayog_derive(POOL, root, 1, &node); }
+static void evaluate(void) { refused = bunlayog_evaluate(POOL_READ, root, doubles, 1, &node); }
+static void evaluate_residue(void) { refused = bunlayog_evaluate_residue(POOL_READ, root, residues, 1, &residue); }
+static void print(void) { refused = bunlayog_print(POOL_READ, root, out, sizeof out, &node); }
+static void write_file(void) { refused = bunlayog_write(POOL_READ, root, out, sizeof out, &node); }
+static void read_file(void) { refused = bunlayog_read(POOL, file, file_len, &node); }
+static void taylor_var(void) { refused = TAYLOR(var, root, 24); }
+static void taylor_from_coefficients(void) { refused = bunlayog_taylor_from_coefficients(POOL_READ, BUNLAYOG_TERMS, list, &order, coeffs); }
+static void taylor_order(void) { refused = bunlayog_taylor_order(POOL_READ, BUNLAYOG_TERMS, list, &order); }
+static void taylor_coeff(void) { refused = bunlayog_taylor_coeff(POOL, BUNLAYOG_TERMS, list, 24, &node); }
+static void taylor_derivative(void) { refused = bunlayog_taylor_derivative(POOL, BUNLAYOG_TERMS, list, 18, &node); }
+static void taylor_exp(void) { refused = TAYLOR(exp, BUNLAYOG_TERMS, list); }
+static void taylor_log(void) { refused = TAYLOR(log, BUNLAYOG_TERMS, list); }
+static void taylor_neg(void) { refused = TAYLOR(neg, BUNLAYOG_TERMS, list); }
+static void taylor_pow(void) { refused = TAYLOR(pow, BUNLAYOG_TERMS, list, UINT32_MAX); }
+static void taylor_add(void) { refused = TAYLOR(add, BUNLAYOG_TERMS, list, BUNLAYOG_TERMS, list); }
+static void taylor_sub(void) { refused = TAYLOR(sub, BUNLAYOG_TERMS, list, BUNLAYOG_TERMS, list); }
+static void taylor_mul(void) { refused = TAYLOR(mul, BUNLAYOG_TERMS, list, BUNLAYOG_TERMS, list); }
+static void taylor_div(void) { refused = TAYLOR(div, BUNLAYOG_TERMS, list, BUNLAYOG_TERMS, list); }
+static void taylor_max(void) { refused = TAYLOR(max, BUNLAYOG_CONSTANT, list, BUNLAYOG_CONSTANT, list); }
+static void taylor_subst(void) { refused = TAYLOR(subst, BUNLAYOG_TERMS, list, BUNLAYOG_TERMS, list); }
+static void taylor_coeffs(void) { refused = TAYLOR(coeffs, root, 0, 2); }
+static void taylor_coeffs_other(void) { refused = TAYLOR(coeffs, root, 1, 24); }
+static void taylor_coeffs_at(void) { refused = TAYLOR(coeffs_at, root, 0, 1, 2); }
 
 static const struct {
     const char *name;
