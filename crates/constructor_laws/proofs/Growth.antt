@@ -19,7 +19,7 @@ use Rattle.pool.specs.Nodes.{kindOf, wordOf, greatestExponent}
 use Rattle.pool.specs.Pool.{Pool, pool, Out, Result, done, refused, Work, Run, bind, yield, refuse, append, limit, nodeAt, nodeIn}
 use Rattle.constructors.specs.Terms.{Term, #, lit, lit-exp, lit-log, add, mul, exp, log, pow, Add, Mul, Div, Max, Exp, Log, Pow}
 use Rattle.constructors.specs.Tables.{addTable, mulTable, divTable, negTable, expTable, logTable, powTable, maxTable}
-use Rattle.constructors.specs.Build.{Calls, literal, exponent, build, noCalls, deeper, calls}
+use Rattle.constructors.specs.Build.{Calls, literal, ifExponentFits, build, noCalls, deeper, calls}
 use Rattle.constructor_laws.specs.Grown.{SameBut, Grown, Grows}
 use Rattle.constructor_laws.proofs.Going.{Going, Ways, goes-from, bind-goes, then-goes, yield-goes, refuse-goes}
 
@@ -146,7 +146,7 @@ pub literal-grows : (f : Folded) → Growing (literal f)
 literal-grows (Value z) = append-grows (node.Lit z)
 literal-grows (Refused k) = refuse-grows k
 
-pub exponent-grows : (fits : Bool) {run : Run} → Growing run → Growing (exponent fits run)
+pub exponent-grows : (fits : Bool) {run : Run} → Growing run → Growing (ifExponentFits fits run)
 exponent-grows true g = g
 exponent-grows false g = refuse-grows exponentTooLarge
 

@@ -17,7 +17,7 @@ use Rattle.pool.specs.Nodes.{greatestVariable, greatestExponent}
 use Rattle.pool.specs.Pool.{Pool, Out, done, refused, Run, bind, yield, refuse, append, nodeAt}
 use Rattle.constructors.specs.Terms.{Term, #, lit, lit-exp, lit-log, add, mul, exp, log, pow, Add, Mul, Div, Max, Exp, Log, Pow}
 use Rattle.constructors.specs.Tables.{addTable, mulTable, divTable, negTable, expTable, logTable, powTable, maxTable}
-use Rattle.constructors.specs.Build.{Calls, literal, exponent, build, noCalls, deeper, calls}
+use Rattle.constructors.specs.Build.{Calls, literal, ifExponentFits, build, noCalls, deeper, calls}
 use Rattle.constructor_laws.specs.Grown.{Grown}
 use Rattle.constructor_laws.specs.Keeps.{Keeps, Kept, KeptBy}
 use Rattle.constructor_laws.proofs.Growth.{grown-by-nothing, grown-by-both}
@@ -73,7 +73,7 @@ pub append-keeps : {n : ℕ} {x : Node} → Fine n x → Keeping n (append x)
 append-keeps {n} {x} fine = record { kept = λ P k more. append-kept x P k (fine-with-more more fine) }
 
 -- 13. an exponent that is too large is refused before it is used
-pub exponent-keeps : {n : ℕ} (fits : Bool) {run : Run} → Keeping n run → Keeping n (exponent fits run)
+pub exponent-keeps : {n : ℕ} (fits : Bool) {run : Run} → Keeping n run → Keeping n (ifExponentFits fits run)
 exponent-keeps true work = work
 exponent-keeps false work = refuse-keeps exponentTooLarge
 

@@ -31,9 +31,9 @@ literal (Value z) = append (node.Lit z)
 literal (Refused k) = refuse k
 
 -- 13. "An exponent sum is above 4,294,967,295"
-abbrev pub exponent : Bool → Run → Run
-exponent true run = run
-exponent false run = refuse exponentTooLarge
+abbrev pub ifExponentFits : Bool → Run → Run
+ifExponentFits true run = run
+ifExponentFits false run = refuse exponentTooLarge
 
 unfoldable pub build : Calls → Term → Run
 build c (# a) = yield a
@@ -56,7 +56,7 @@ build c (log t) = do
   c .log-at a
 build c (pow t e) = do
   a ← build c t
-  exponent (leb e greatestExponent) (c .pow-at a e)
+  ifExponentFits (leb e greatestExponent) (c .pow-at a e)
 build c (Add s t) = do
   a ← build c s
   b ← build c t

@@ -6,7 +6,6 @@ use lent::Answer;
 use lent::is_variable;
 use pool::LIMIT;
 use pool::Node;
-use pool::Room;
 
 // 1, then the leaf's own refusal if it is not allowed, then the node.
 fn on_leaf(
@@ -28,9 +27,7 @@ fn on_leaf(
     if !allowed {
         return Answer::Refused(refusal);
     }
-    let room = Room {
-        word: pool::EMPTY_ROOM + n,
-    };
+    let room = pool::room_between(n as u32, LIMIT as u32);
     let made = pool::append(&mut k, &mut w, room, node);
     lent::finish(kinds, words, count, &k, &w, made)
 }

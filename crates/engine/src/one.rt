@@ -8,7 +8,6 @@ use constructor_calls::One;
 use constructor_calls::one_in;
 use lent::Answer;
 use pool::LIMIT;
-use pool::Room;
 
 // 1 and 2, then the work.
 fn on_one(kinds: &mut [u8], words: &mut [u64], count: &mut u64, op: One, arg: u64) -> Answer
@@ -23,9 +22,7 @@ fn on_one(kinds: &mut [u8], words: &mut [u64], count: &mut u64, op: One, arg: u6
     if !lent::one_given(n, arg) {
         return Answer::Refused(refusals::UNKNOWN_NODE);
     }
-    let room = Room {
-        word: pool::EMPTY_ROOM + n,
-    };
+    let room = pool::room_between(n as u32, LIMIT as u32);
     let result = one_in(&mut k, &mut w, room, op, arg as u32);
     lent::finish(kinds, words, count, &k, &w, result)
 }

@@ -8,7 +8,6 @@ use constructor_calls::Two;
 use constructor_calls::two_in;
 use lent::Answer;
 use pool::LIMIT;
-use pool::Room;
 
 // 1 and 2, then the work.
 fn on_two(
@@ -30,9 +29,7 @@ fn on_two(
     if !lent::both_given(n, lhs, rhs) {
         return Answer::Refused(refusals::UNKNOWN_NODE);
     }
-    let room = Room {
-        word: pool::EMPTY_ROOM + n,
-    };
+    let room = pool::room_between(n as u32, LIMIT as u32);
     let result = two_in(&mut k, &mut w, room, op, lhs as u32, rhs as u32);
     lent::finish(kinds, words, count, &k, &w, result)
 }

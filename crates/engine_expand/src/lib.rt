@@ -9,7 +9,6 @@ use expand::is_point;
 use lent::is_variable;
 use lent_series::Outcome;
 use pool::LIMIT;
-use pool::Room;
 use taylor_base::TERMS;
 
 // 1 to 5, then the walk.
@@ -42,9 +41,7 @@ fn on_expression(
     if order >= TERMS as u64 {
         return lent_series::refused(refusals::WRONG_ORDER);
     }
-    let room = Room {
-        word: pool::EMPTY_ROOM + n,
-    };
+    let room = pool::room_between(n as u32, LIMIT as u32);
     let result = expand::expand_in(
         &mut k,
         &mut w,

@@ -6,9 +6,10 @@ use mathlib.Core.List.{List}
 use Prim.Native.Nat.{ℕ, _+_, _≤_}
 use native.Mathlib.Omega.{arith}
 use lib.ListN.{length}
+use Rattle.low_bytes.specs.LowBytes.{AreBytes}
 use Rattle.pool.specs.Pool.{limit, Pool, pool, Out, done, refused}
 use Rattle.shape.specs.File.{fileFrom, sizeOf, readFile}
-use Rattle.shape.specs.Demand.{KeepsRules, Room, SameShape, IsNodeFile, AreBytes, Leaves}
+use Rattle.shape.specs.Demand.{KeepsRules, HasRoom, SameShape, IsNodeFile, Leaves}
 use Rattle.shape.proofs.Demand3.{same-file-for-one-shape, accepts-node-files, accepted-leaves-the-rules, reads-back}
 use Rattle.lent.specs.Call.{leaves}
 use Rattle.lent.specs.declared.Answer.{Answer}
@@ -77,11 +78,11 @@ module _ (bs : List ℕ) (are : AreBytes bs) (P : Pool) (k : KeepsRules P) (whol
 
 -- "A node file reads back to the expression it came from": what an accepted `write` has written, `read` accepts into any pool with room, and the shape is the same
 pub written-reads-back :
-    (P Q : Pool) → KeepsRules P → KeepsRules Q → (r : ℕ) → Q .end ≡ limit → (old : List ℕ) → Accepted (writtenFrom P r old) → Room (sizeOf (fileIn (writtenFrom P r old))) Q
+    (P Q : Pool) → KeepsRules P → KeepsRules Q → (r : ℕ) → Q .end ≡ limit → (old : List ℕ) → Accepted (writtenFrom P r old) → HasRoom (sizeOf (fileIn (writtenFrom P r old))) Q
     → (s : ℕ) × Gives (readInto Q (fileIn (writtenFrom P r old))) s × SameShape P r (poolLeft (readInto Q (fileIn (writtenFrom P r old)))) s
 written-reads-back P Q k m r whole old a room =
     let there = file-is-there P r old a in
-    let (s, R, e, shape, left) = reads-back P Q k m r (accepted-writes P r old a .given) (subst (λ bs. Room (sizeOf bs) Q) there room) in
+    let (s, R, e, shape, left) = reads-back P Q k m r (accepted-writes P r old a .given) (subst (λ bs. HasRoom (sizeOf bs) Q) there room) in
     let same = left-pool-is Q m whole (fileFrom P r) e (left .end-kept) in
     subst⁻¹ (λ bs. (s : ℕ) × Gives (readInto Q bs) s × SameShape P r (poolLeft (readInto Q bs)) s) there
     (s, accepted-gives Q m whole (fileFrom P r) e, subst⁻¹ (λ T. SameShape P r T s) same shape)

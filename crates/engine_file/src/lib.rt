@@ -8,7 +8,6 @@ use lent::Answer;
 use lent::Written;
 use node_write::FileLength;
 use pool::LIMIT;
-use pool::Room;
 
 // The node file of a root, written into the lent output.
 pub fn write(kinds: &[u8], words: &[u64], count: u64, root: u64, out: &mut [u8]) -> Written
@@ -38,9 +37,7 @@ pub fn read(kinds: &mut [u8], words: &mut [u64], count: &mut u64, file: &[u8]) -
     if !lent::take_in(kinds, words, n, &mut k, &mut w) {
         return Answer::Refused(refusals::BROKEN_POOL);
     }
-    let room = Room {
-        word: pool::EMPTY_ROOM + n,
-    };
+    let room = pool::room_between(n as u32, LIMIT as u32);
     let made = node_read::read_file(file, &mut k, &mut w, room);
     lent::finish(kinds, words, count, &k, &w, made)
 }

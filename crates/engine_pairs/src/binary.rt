@@ -113,9 +113,7 @@ fn on_two(
     if !have_lengths(op, s, t) {
         return lent_series::refused(refusals::WRONG_ORDER);
     }
-    let room = Room {
-        word: pool::EMPTY_ROOM + n,
-    };
+    let room = pool::room_between(n as u32, LIMIT as u32);
     let lhs = lent_series::expansion_of(s);
     let rhs = lent_series::expansion_of(t);
     let result = binary_in(&mut k, &mut w, room, op, lhs, rhs);

@@ -7,10 +7,11 @@ use Prim.Native.Nat.{ℕ, _≤_, _<_}
 use native.Mathlib.Omega.{arith}
 use lib.ListN.{length}
 use borrow.Author.Tests.{le-leb, lt-leb}
+use Rattle.low_bytes.specs.Output.{longestText}
 use Rattle.refusals.specs.Refusals.{brokenPool, unknownNode, maxReached, noRoom}
 use Rattle.pool.specs.Nodes.{allBelow}
 use Rattle.pool.specs.Pool.{nodeIn, isPool}
-use Rattle.walks.specs.Print.{textOf, hasMax, longestText}
+use Rattle.walks.specs.Print.{textOf, hasMax}
 use Rattle.print.specs.Output.{Printed}
 use Rattle.engine_print.specs.Printing.{printCall}
 use Rattle.lent.specs.Writing.{put}

@@ -5,10 +5,11 @@ use mathlib.Core.List.{List, [], _∷_}
 use Prim.Native.Nat.{ℕ}
 use lib.Dec.{leb}
 use lib.ListN.{length}
+use Rattle.low_bytes.specs.Output.{longestText}
 use Rattle.refusals.specs.Refusals.{brokenPool, unknownNode, maxReached, noRoom}
 use Rattle.pool.specs.Nodes.{allBelow}
 use Rattle.pool.specs.Pool.{nodeIn, isPool}
-use Rattle.walks.specs.Print.{textOf, hasMax, longestText}
+use Rattle.walks.specs.Print.{textOf, hasMax}
 use Rattle.lent.specs.Call.{demand}
 use Rattle.lent.specs.Writing.{Put, unwritten, writes}
 

@@ -4,6 +4,7 @@ ghost use Rattle.engine_print.specs.Printing.{printCall};
 ghost use Rattle.lent.specs.Writing.{put};
 use lent::Written;
 use pool::LIMIT;
+use reached::Test;
 
 // The text of an expression, into a lent output; `print_into` leaves the output as it is where the text is too long or has no room there.
 pub fn print(kinds: &[u8], words: &[u64], count: u64, root: u64, out: &mut [u8]) -> Written
@@ -18,11 +19,11 @@ pub fn print(kinds: &[u8], words: &[u64], count: u64, root: u64, out: &mut [u8])
         return Written::Refused(refusals::UNKNOWN_NODE);
     }
     let node = root as u32;
-    if print::has_max(&k, &w, node) {
+    if reached::reaches(&k, &w, node, Test::Max) {
         return Written::Refused(refusals::MAX_REACHED);
     }
     let length = print::print_into(&k, &w, node, out) as usize;
-    if print::TEXT_MAX < length {
+    if low_bytes::TEXT_MAX < length {
         return Written::Refused(refusals::NO_ROOM);
     }
     if out.len() < length {

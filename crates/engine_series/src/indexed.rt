@@ -76,9 +76,7 @@ fn on_index(
     if !index_fits(s, index) {
         return Answer::Refused(refusals::WRONG_ORDER);
     }
-    let room = Room {
-        word: pool::EMPTY_ROOM + n,
-    };
+    let room = pool::room_between(n as u32, LIMIT as u32);
     let e = lent_series::expansion_of(s);
     let made = indexed_in(&mut k, &mut w, room, op, e, index);
     lent::finish(kinds, words, count, &k, &w, made)

@@ -52,9 +52,7 @@ fn on_one(kinds: &mut [u8], words: &mut [u64], count: &mut u64, op: Unary, s: Se
     if !lent_series::has_length(s) {
         return lent_series::refused(refusals::WRONG_ORDER);
     }
-    let room = Room {
-        word: pool::EMPTY_ROOM + n,
-    };
+    let room = pool::room_between(n as u32, LIMIT as u32);
     let e = lent_series::expansion_of(s);
     let result = unary_in(&mut k, &mut w, room, op, e);
     lent_series::finish(kinds, words, count, &k, &w, result)

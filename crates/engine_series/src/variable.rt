@@ -4,7 +4,6 @@ ghost use Rattle.lent_series.specs.Call.{left, onPool};
 ghost use Rattle.engine_series.specs.Operations.{varWork};
 use lent_series::Outcome;
 use pool::LIMIT;
-use pool::Room;
 use taylor_base::TERMS;
 
 // `TaylorExpansion::var` at a node: 1, 2 and 5, then the work.
@@ -23,9 +22,7 @@ pub fn var(kinds: &mut [u8], words: &mut [u64], count: &mut u64, x: u64, order: 
     if order >= TERMS as u64 {
         return lent_series::refused(refusals::WRONG_ORDER);
     }
-    let room = Room {
-        word: pool::EMPTY_ROOM + n,
-    };
+    let room = pool::room_between(n as u32, LIMIT as u32);
     let result = taylor_base::var_in(&mut k, &mut w, room, x as u32, order as u32);
     lent_series::finish(kinds, words, count, &k, &w, result)
 }

@@ -5,7 +5,6 @@ ghost use Rattle.engine_walk.specs.Walks.{substituteWork, deriveWork};
 use lent::Answer;
 use lent::is_variable;
 use pool::LIMIT;
-use pool::Room;
 
 // `substitute_var`: the variable is replaced by a node.
 pub fn substitute_var(
@@ -30,9 +29,7 @@ pub fn substitute_var(
     if !is_variable(var) {
         return Answer::Refused(refusals::UNKNOWN_VARIABLE);
     }
-    let room = Room {
-        word: pool::EMPTY_ROOM + n,
-    };
+    let room = pool::room_between(n as u32, LIMIT as u32);
     let made = substitute::substitute_in(
         &mut k,
         &mut w,
@@ -60,9 +57,7 @@ pub fn derive(kinds: &mut [u8], words: &mut [u64], count: &mut u64, root: u64, v
     if !is_variable(var) {
         return Answer::Refused(refusals::UNKNOWN_VARIABLE);
     }
-    let room = Room {
-        word: pool::EMPTY_ROOM + n,
-    };
+    let room = pool::room_between(n as u32, LIMIT as u32);
     let made = derive::derive_in(&mut k, &mut w, room, root as u32, var as u32);
     lent::finish(kinds, words, count, &k, &w, made)
 }

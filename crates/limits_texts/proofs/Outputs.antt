@@ -6,6 +6,7 @@ use mathlib.Core.List.{List, _++_}
 use Prim.Native.Nat.{ℕ}
 use lib.Dec.{leb}
 use lib.ListN.{length, drop, length-replicate}
+use Rattle.low_bytes.specs.Output.{longestText}
 use Rattle.text.specs.Text.{digitsWithin, decimal, signedDecimal, display}
 use Rattle.pool.specs.Nodes.{decode, mayStandAt}
 use Rattle.pool.specs.Fold.{under, foldNodesWithin, foldNodes}
@@ -13,7 +14,7 @@ use Rattle.pool.specs.Pool.{nodeIn, each}
 use Rattle.shape.specs.Order as order
 use Rattle.shape.specs.File.{fileOf, writtenFile}
 use Rattle.refusals.specs.Refusals.{maxReached, noRoom}
-use Rattle.walks.specs.Print.{textOf, hasMax, longestText}
+use Rattle.walks.specs.Print.{textOf, hasMax}
 use Rattle.lent.specs.Call.{demand}
 use Rattle.lent.specs.declared.Written.the-variants.{Length}
 use Rattle.lent.specs.Writing.{put, unwritten, writes}

@@ -16,7 +16,7 @@ use Rattle.pool.specs.declared.node.Node.the-variants as node
 use Rattle.pool.specs.Nodes.{parts, kindOf, wordOf, greatestExponent}
 use Rattle.pool.specs.Pool.{Pool, Out, done, refused, Run, bind, append, nodeAt, nodeIn, limit}
 use Rattle.constructors.specs.Terms.{Term, #, lit, lit-exp, lit-log, add, mul, exp, log, pow, Add, Mul, Div, Max, Exp, Log, Pow}
-use Rattle.constructors.specs.Build.{Calls, literal, exponent, build, noCalls, deeper, calls}
+use Rattle.constructors.specs.Build.{Calls, literal, ifExponentFits, build, noCalls, deeper, calls}
 use Rattle.constructor_laws.specs.Grown.{Grown}
 use Rattle.constructor_laws.specs.Keeps.{Keeps, Kept, KeptBy}
 use Rattle.constructor_laws.proofs.Growth.{grown-by-nothing, grown-by-both, appended, append-comes-to}
@@ -200,7 +200,7 @@ module _ {A : Algebra} (M : Model A) (env : Values A) where
       after-next (first P k h) (λ a Q ka (runs, ea). after-weaker (λ y e. (runs, e ∙ ap op ea)) (last Q (ka .keeps) a (ka .there)))
 
   -- 13. an exponent that is too large is refused
-  exponent-means : (fits : Bool) {make : ℕ → Run} (op : carrier → carrier) → OneMeans make op → OneMeans (λ a. exponent fits (make a)) op
+  exponent-means : (fits : Bool) {make : ℕ → Run} (op : carrier → carrier) → OneMeans make op → OneMeans (λ a. ifExponentFits fits (make a)) op
   exponent-means true op h = h
   exponent-means false op h = λ P k a l. ended
 

@@ -11,11 +11,12 @@ use lib.Dec.{ltb}
 use lib.ListN.{length, getD, set, length-set, replicate}
 use lib.Seq.{getD-set-same, getD-set-other}
 use borrow.Author.Tests.{lt-ltb, le-ltb}
+use Rattle.low_bytes.specs.LowBytes.{numberAt}
 use Rattle.pool.specs.Nodes.{decode, mayStandAt}
 use Rattle.pool.specs.Pool.{limit, nodeIn, each}
 use Rattle.pool.specs.declared.node.Node.{Node}
 use Rattle.pool.specs.declared.node.Node.the-variants.{Empty}
-use Rattle.shape.specs.File.{numberAt, entryIn, entryOf, areNodes}
+use Rattle.shape.specs.File.{entryIn, entryOf, areNodes}
 use Rattle.shape.proofs.Lists.{same-or-not, below-or-not}
 use Rattle.shape.proofs.Pools.{Rules, node-free, node-falls}
 use Rattle.node_walk.proofs.Visiting.{zeros-are-fresh}

@@ -1,5 +1,4 @@
 pub mod Testing
-pub mod LowFirst
 pub mod Sizes
 pub mod Entering
 pub mod Places

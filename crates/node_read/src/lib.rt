@@ -4,32 +4,18 @@ ghost use mathlib.Core.List.{[], _∷_};
 ghost use Prim.Native.Nat.{_+_, _-_, _<_, _≤_};
 ghost use lib.Dec.{eqb};
 ghost use lib.ListN.{length, getD};
+ghost use Rattle.low_bytes.specs.LowBytes.{numberAt};
 ghost use Rattle.pool.specs.Pool.{limit, nodeIn, each};
 ghost use Rattle.pool.specs.Made.{nextOf, made, poolOf};
 ghost use Rattle.shape.specs.Shape.{rename};
-ghost use Rattle.shape.specs.File.{numberAt, areInOrder, appendShifted, readFile};
+ghost use Rattle.shape.specs.File.{areInOrder, appendShifted, readFile};
 ghost use Rattle.shape.specs.Walked.{Falls};
 ghost use Rattle.node_read.specs.Reads.{acceptedSize, SizeIs, Zeros, Entered, PartsBelow};
-use node_walk::Parts;
 use pool::LIMIT;
 use pool::Made;
 use pool::Node;
+use pool::Parts;
 use pool::Room;
-
-// The number whose k bytes, low byte first, stand from a place on.
-fn number_at(bytes: &[u8], at: usize, k: usize) -> u64
-    requires { ⌜ (k ≤ 8) × (at + k ≤ length (now bytes)) ⌝ }
-    ensures { λ r. ⌜ r ≡ numberAt k (now (bytes .entry)) at ⌝ }
-{
-    let mut number: u64 = 0;
-    let mut left = k;
-    while 0 < left {
-        left -= 1;
-        let byte = bytes[at + left];
-        number = (byte as u64) + 256 * number;
-    }
-    number
-}
 
 // A file's n, or 0 where its length is wrong.
 fn size_of(bytes: &[u8]) -> usize
@@ -39,7 +25,7 @@ fn size_of(bytes: &[u8]) -> usize
     if length < 4 {
         return 0;
     }
-    let n = number_at(bytes, 0, 4);
+    let n = low_bytes::number_at(bytes, 0, 4);
     if (LIMIT as u64) < n {
         return 0;
     }
@@ -59,7 +45,7 @@ fn entries_in(bytes: &[u8], n: usize, k: &mut [u8; LIMIT], w: &mut [u64; LIMIT])
     let mut i = 0;
     while i < n {
         let kind = bytes[4 + i];
-        let word = number_at(bytes, 4 + n + 8 * i, 8);
+        let word = low_bytes::number_at(bytes, 4 + n + 8 * i, 8);
         if !pool::may_stand_at(i as u32, pool::decode(kind, word)) {
             return false;
         }
@@ -104,10 +90,10 @@ fn shifted(node: Node, by: u32) -> Node
     requires { ⌜ (by ≤ limit) × PartsBelow limit node ⌝ }
     ensures { λ r. ⌜ r ≡ rename (λ j. by + j) node ⌝ }
 {
-    match node_walk::parts_of(node) {
+    match pool::parts_of(node) {
         Parts::None => node,
-        Parts::One(a) => node_walk::with_parts(node, by + a, 0),
-        Parts::Two(a, b) => node_walk::with_parts(node, by + a, by + b),
+        Parts::One(a) => pool::with_parts(node, by + a, 0),
+        Parts::Two(a, b) => pool::with_parts(node, by + a, by + b),
     }
 }
 

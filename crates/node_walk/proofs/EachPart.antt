@@ -6,8 +6,8 @@ use Prim.Native.Nat.{ℕ}
 use Rattle.pool.specs.Nodes.{parts}
 use Rattle.pool.specs.declared.node.Node.{Node}
 use Rattle.shape.proofs.Lists.{All, all-first, all-rest}
-use Rattle.node_walk.specs.Visits.{partsIn}
-use Rattle.node_walk.specs.declared.Parts.{Parts}
+use Rattle.pool.specs.Parts.{partsIn}
+use Rattle.pool.specs.declared.parts.Parts.{Parts}
 
 module _ (H : ℕ → Type 0) {is : List ℕ} {a : ℕ} where
   pub of-left : {more : List ℕ} → is ≡ a ∷ more → All H is → H a

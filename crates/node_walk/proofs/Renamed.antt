@@ -10,7 +10,7 @@ use Rattle.pool.specs.declared.node.Node.the-variants.{Empty, Variable, Lit, Ad
 use Rattle.shape.specs.Shape.{rename}
 use Rattle.shape.proofs.Lists.{All, all-none}
 use Rattle.shape.proofs.Renaming.{rename-same}
-use Rattle.node_walk.specs.Visits.{withParts}
+use Rattle.pool.specs.Parts.{withParts}
 
 by-parts : (f : ℕ → ℕ) (n : Node) → withParts n (getD (map f (parts n)) 0 0) (getD (map f (parts n)) 1 0) ≡ rename f n
 by-parts f Empty = refl

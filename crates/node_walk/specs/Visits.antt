@@ -1,34 +1,13 @@
--- What the code that walks promises: a node's parts as a value, and what a visit does to the two tables that stand for the nodes done.
+-- What the code that walks promises: what a visit does to the two tables that stand for the nodes done.
 -- Assumes nothing.
 use mathlib.Core.Path.{_≡_}
-use mathlib.Core.List.{List, [], _∷_}
+use mathlib.Core.List.{List}
 use Prim.Native.Nat.{ℕ, _+_}
 use lib.ListN.{length, getD, set}
 use Rattle.pool.specs.Pool.{limit}
 use Rattle.pool.specs.declared.node.Node.{Node}
-use Rattle.pool.specs.declared.node.Node.the-variants.{Empty, Variable, Lit, Add, Mul, Div, Exp, Log, Pow, Max}
 use Rattle.shape.specs.Order.{walk}
 use Rattle.shape.specs.Walked.{Walked}
-use Rattle.node_walk.specs.declared.Parts.{Parts}
-use Rattle.node_walk.specs.declared.Parts.the-variants.{None, One, Two}
-
-abbrev pub partsIn : Parts → List ℕ
-partsIn None = []
-partsIn (One a) = a ∷ []
-partsIn (Two a b) = a ∷ b ∷ []
-
--- a node with other parts; all else is kept
-abbrev pub withParts : Node → ℕ → ℕ → Node
-withParts Empty a b = Empty
-withParts (Variable v) a b = Variable v
-withParts (Lit z) a b = Lit z
-withParts (Add x y) a b = Add a b
-withParts (Mul x y) a b = Mul a b
-withParts (Div x y) a b = Div a b
-withParts (Exp x) a b = Exp a
-withParts (Log x) a b = Log a
-withParts (Pow x n) a b = Pow a n
-withParts (Max x y) a b = Max a b
 
 -- the tables stand for some nodes done
 abbrev pub Stands : (ℕ → Node) → List ℕ → List ℕ → ℕ → Type 0

@@ -1,56 +1,13 @@
-// The writing order of nodes.bin: a node's parts, and the walk that numbers the nodes reachable from a root.
+// The writing order of nodes.bin: the walk that numbers the nodes reachable from a root.
 ghost use mathlib.Core.Path.{_≡_};
 ghost use mathlib.Core.List.{[], _∷_};
 ghost use Prim.Native.Nat.{_+_, _<_};
-ghost use Rattle.pool.specs.Nodes.{parts};
 ghost use Rattle.pool.specs.Pool.{limit, nodeIn};
 ghost use Rattle.shape.specs.Order.{numbered};
 ghost use Rattle.shape.specs.Walked.{Falls, Walked};
-ghost use Rattle.node_walk.specs.Visits.{partsIn, withParts, Stands, Visits, Fresh, Stored};
+ghost use Rattle.node_walk.specs.Visits.{Stands, Visits, Fresh, Stored};
 use pool::LIMIT;
-use pool::Node;
-
-// A node's parts, the left or only part first.
-pub enum Parts {
-    None,
-    One(u32),
-    Two(u32, u32),
-}
-
-pub fn parts_of(node: Node) -> Parts
-    ensures { λ r. ⌜ partsIn r ≡ parts node ⌝ }
-{
-    match node {
-        Node::Empty => Parts::None,
-        Node::Variable(_) => Parts::None,
-        Node::Lit(_) => Parts::None,
-        Node::Add(a, b) => Parts::Two(a, b),
-        Node::Mul(a, b) => Parts::Two(a, b),
-        Node::Div(a, b) => Parts::Two(a, b),
-        Node::Exp(a) => Parts::One(a),
-        Node::Log(a) => Parts::One(a),
-        Node::Pow(a, _) => Parts::One(a),
-        Node::Max(a, b) => Parts::Two(a, b),
-    }
-}
-
-// The node with other parts; a node with one part takes the left one.
-pub fn with_parts(node: Node, left: u32, right: u32) -> Node
-    ensures { λ r. ⌜ r ≡ withParts node left right ⌝ }
-{
-    match node {
-        Node::Empty => node,
-        Node::Variable(_) => node,
-        Node::Lit(_) => node,
-        Node::Add(_, _) => Node::Add(left, right),
-        Node::Mul(_, _) => Node::Mul(left, right),
-        Node::Div(_, _) => Node::Div(left, right),
-        Node::Exp(_) => Node::Exp(left),
-        Node::Log(_) => Node::Log(left),
-        Node::Pow(_, n) => Node::Pow(left, n),
-        Node::Max(_, _) => Node::Max(left, right),
-    }
-}
+use pool::Parts;
 
 // Node i gets the next number: number[j] is 0 or j's number + 1, order[m] is the node with number m.
 fn number_next(number: &mut [u32; LIMIT], order: &mut [u32; LIMIT], i: u32, done: u32) -> u32
@@ -80,7 +37,7 @@ pub fn visit(
     if mark != 0 {
         return done;
     }
-    match parts_of(pool::node_at(kinds, words, i)) {
+    match pool::parts_of(pool::node_at(kinds, words, i)) {
         Parts::None => number_next(number, order, i, done),
         Parts::One(a) => {
             let after = visit(kinds, words, a, number, order, done);

@@ -1,4 +1,4 @@
--- Bytes put over an output one after the other: a number's bytes, and entry after entry.
+-- Bytes put over an output, entry after entry.
 -- Assumes nothing.
 use mathlib.Core.Path.{_≡_, refl, sym, ap, ap₂, _∙_}
 use mathlib.Core.List.{List, [], _∷_, _++_, map, append-assoc}
@@ -9,60 +9,12 @@ use lib.ListN.{length, set, length-set, length-append}
 use lib.Seq.{sets, length-sets}
 use Rattle.pool.specs.Nodes.{kindOf, wordOf}
 use Rattle.pool.specs.declared.node.Node.{Node}
-use Rattle.shape.specs.File.{bytes, wordBytes}
-use Rattle.shape.proofs.Bytes.{length-bytes}
+use Rattle.low_bytes.specs.LowBytes.{lowBytes}
+use Rattle.low_bytes.proofs.Bytes.{length-bytes}
+use Rattle.low_bytes.proofs.Writing.{sets-joined}
+use Rattle.shape.specs.File.{wordBytes}
 use Rattle.shape.proofs.Lists.{map-append}
 use Rattle.node_write.specs.Entries.{firstOf}
-
-pub sets-append : (old : List ℕ) (i : ℕ) (xs ys : List ℕ) → sets old i (xs ++ ys) ≡ sets (sets old i xs) (i + length xs) ys
-sets-append old i [] ys = ap (λ j. sets old j ys) (same i)
-  where
-    same : (i : ℕ) → i ≡ i + 0
-    same i = omega arith
-sets-append old i (x ∷ xs) ys = sets-append (set old i x) (suc i) xs ys ∙ ap (λ j. sets (sets (set old i x) (suc i) xs) j ys) (same i (length xs))
-  where
-    same : (i n : ℕ) → suc i + n ≡ i + suc n
-    same i n = omega arith
-
--- the bytes of a number: i of k are put, and what is left to put makes the whole
-pub record BytesPut (old : List ℕ) (at k x : ℕ) (out : List ℕ) (rest i : ℕ) : Type 0 where
-  pub few : i ≤ k
-  pub long : length out ≡ length old
-  pub whole : sets out (at + i) (bytes (k - i) rest) ≡ sets old at (bytes k x)
-
-pub no-bytes-put : (old : List ℕ) (at k x : ℕ) → BytesPut old at k x old x 0
-no-bytes-put old at k x =
-    record {
-      few = omega arith;
-      long = refl;
-      whole = ap₂ (λ i j. sets old i (bytes j x)) (same at) (all k);
-    }
-  where
-    same : (n : ℕ) → n + 0 ≡ n
-    same n = omega arith
-
-    all : (n : ℕ) → n - 0 ≡ n
-    all n = omega arith
-
-pub byte-put : {old : List ℕ} {at k x : ℕ} {out : List ℕ} {rest i : ℕ} → BytesPut old at k x out rest i → i < k → BytesPut old at k x (set out (at + i) (rest % 256)) (rest / 256) (i + 1)
-byte-put {old} {at} {k} {x} {out} {rest} {i} b l =
-    record {
-      few = omega arith;
-      long = length-set out (at + i) (rest % 256) ∙ b .long;
-      whole = ap (λ j. sets (set out (at + i) (rest % 256)) j (bytes (k - (i + 1)) (rest / 256))) (next at i) ∙ sym (ap (λ j. sets out (at + i) (bytes j rest)) (one-less k i l)) ∙ b .whole;
-    }
-  where
-    next : (at i : ℕ) → at + (i + 1) ≡ suc (at + i)
-    next at i = omega arith
-
-    one-less : (k i : ℕ) → i < k → k - i ≡ suc (k - (i + 1))
-    one-less k i l = omega arith
-
-pub all-bytes-put : {old : List ℕ} {at k x : ℕ} {out : List ℕ} {rest i : ℕ} → BytesPut old at k x out rest i → k ≤ i → out ≡ sets old at (bytes k x)
-all-bytes-put {at = at} {k} {x} {out} {rest} {i} b l = sym (ap (λ j. sets out (at + i) (bytes j rest)) (none k i l)) ∙ b .whole
-  where
-    none : (k i : ℕ) → k ≤ i → k - i ≡ 0
-    none k i l = omega arith
 
 -- the first n of a table
 pub length-first : (n : ℕ) (q : ℕ → Node) → length (firstOf n q) ≡ n
@@ -96,7 +48,7 @@ module _ {f : List Node → List ℕ} {g : Node → List ℕ} {width : ℕ} (p :
         is =
             e
             ∙ ap₂ (λ o i. sets o (at + i) (g (q m))) (h .is) (sym (p .long (firstOf m q) ∙ ap (λ k. width * k) (length-first m q)))
-            ∙ sym (sets-append old at (f (firstOf m q)) (g (q m)))
+            ∙ sym (sets-joined (f (firstOf m q)) (g (q m)) old at)
             ∙ sym (ap (sets old at) (p .more (firstOf m q) (q m)))
             ∙ ap (λ k. sets old at (f (firstOf k q))) (sym (add-one m));
       }

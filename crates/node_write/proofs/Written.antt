@@ -10,26 +10,28 @@ use native.Mathlib.Omega.{arith}
 use lib.ListN.{length, getD, drop, List·getD-append}
 use lib.Seq.{sets, sets-eq, ext-getD, getD-at}
 use borrow.Author.Tests.{le-leb, lt-leb}
+use Rattle.low_bytes.specs.LowBytes.{lowBytes}
 use Rattle.pool.specs.Nodes.{kindOf, parts}
 use Rattle.pool.specs.Pool.{limit, nodeIn}
 use Rattle.pool.specs.declared.node.Node.{Node}
 use Rattle.pool.specs.declared.node.Node.the-variants.{Empty}
 use Rattle.shape.specs.Shape.{rename, has}
 use Rattle.shape.specs.Order.{numbered, num, entries, written}
-use Rattle.shape.specs.File.{bytes, wordBytes, fileOf, writtenFile}
+use Rattle.shape.specs.File.{wordBytes, fileOf, writtenFile}
 use Rattle.shape.specs.Walked.{Falls, nodeNumbered, Walked}
 use Rattle.shape.proofs.Lists.{All, same-or-not}
 use Rattle.shape.proofs.Renaming.{rename-alike}
 use Rattle.shape.proofs.Numbers.{built-distinct, built-closed, num-of-node, length-entries, entry-numbered}
 use Rattle.shape.proofs.Pigeonhole.{distinct-fit}
-use Rattle.shape.proofs.Bytes.{length-bytes}
+use Rattle.low_bytes.proofs.Bytes.{length-bytes}
+use Rattle.low_bytes.proofs.Writing.{sets-joined}
 use Rattle.shape.proofs.Files.{length-file}
 use Rattle.shape.proofs.Pools.{rules-of-test, node-falls}
 use Rattle.shape.proofs.Walked.{walked-number}
 use Rattle.node_write.specs.Entries.{numberIn, entryBy, Listed, firstOf}
 use Rattle.node_write.specs.Output.{HasRoot, wrote, puts}
 use Rattle.node_write.specs.declared.FileLength.the-variants.{Bytes, NoRoom}
-use Rattle.node_write.proofs.Putting.{sets-append, length-first, kinds-put}
+use Rattle.node_write.proofs.Putting.{length-first, kinds-put}
 
 first-at : (n : ℕ) (q : ℕ → Node) (m : ℕ) → m < n → getD (firstOf n q) m Empty ≡ q m
 unfolding firstOf
@@ -84,8 +86,8 @@ three-runs : (old xs ys zs : List ℕ) (i j : ℕ) → i ≡ length xs → j ≡
     → sets (sets (sets old 0 xs) i ys) j zs ≡ (xs ++ (ys ++ zs)) ++ drop (length (xs ++ (ys ++ zs))) old
 three-runs old xs ys zs i j e f l =
     ap₂ (λ a b. sets (sets (sets old 0 xs) a ys) b zs) (e ∙ sym (from-zero (length xs))) (f ∙ ap (λ k. k + length ys) (sym (from-zero (length xs))))
-    ∙ sym (sets-append (sets old 0 xs) (0 + length xs) ys zs)
-    ∙ sym (sets-append old 0 xs (ys ++ zs))
+    ∙ sym (sets-joined ys zs (sets old 0 xs) (0 + length xs))
+    ∙ sym (sets-joined xs (ys ++ zs) old 0)
     ∙ sets-eq (xs ++ (ys ++ zs)) old 0 (subst⁻¹ (λ k. k ≤ length old) (from-zero (length (xs ++ (ys ++ zs)))) l)
     ∙ ap (λ k. (xs ++ (ys ++ zs)) ++ drop k old) (from-zero (length (xs ++ (ys ++ zs))))
   where
@@ -107,7 +109,7 @@ module _ (ks ws : List ℕ) (root : ℕ) {number order : List ℕ} {n : ℕ} (w 
   has-no-room old l = rw (lt-leb (length (writtenFile ks ws root)) (length old) (subst⁻¹ (λ k. length old < k) file-long l))
 
   pub is-written : (old : List ℕ) {out₁ out₂ out₃ : List ℕ} → 4 + 9 * n ≤ length old
-      → out₁ ≡ sets old 0 (bytes 4 n) → out₂ ≡ sets out₁ 4 (map kindOf (firstOf n (entryBy (nodeIn ks ws) number order)))
+      → out₁ ≡ sets old 0 (lowBytes 4 n) → out₂ ≡ sets out₁ 4 (map kindOf (firstOf n (entryBy (nodeIn ks ws) number order)))
       → out₃ ≡ sets out₂ (4 + n) (wordBytes (firstOf n (entryBy (nodeIn ks ws) number order)))
       → wrote (Bytes (4 + 9 * n)) out₃ ≡ puts (writtenFile ks ws root) old
   unfolding puts fileOf
@@ -117,8 +119,8 @@ module _ (ks ws : List ℕ) (root : ℕ) {number order : List ℕ} {n : ℕ} (w 
       let long-enough : length f ≤ length old = subst⁻¹ (λ k. k ≤ length old) file-long l in
       let many : length es ≡ n = length-first n (entryBy (nodeIn ks ws) number order) in
       let e : out₃ ≡ fileOf es ++ drop (length (fileOf es)) old =
-      c ∙ ap (λ x. sets x (4 + n) (wordBytes es)) (b ∙ ap (λ x. sets x 4 (map kindOf es)) (a ∙ ap (λ k. sets old 0 (bytes 4 k)) (sym many)))
-      ∙ three-runs old (bytes 4 (length es)) (map kindOf es) (wordBytes es) 4 (4 + n) (sym (length-bytes 4 (length es)))
+      c ∙ ap (λ x. sets x (4 + n) (wordBytes es)) (b ∙ ap (λ x. sets x 4 (map kindOf es)) (a ∙ ap (λ k. sets old 0 (lowBytes 4 k)) (sym many)))
+      ∙ three-runs old (lowBytes 4 (length es)) (map kindOf es) (wordBytes es) 4 (4 + n) (sym (length-bytes 4 (length es)))
       (sym (ap₂ _+_ (length-bytes 4 (length es)) (kinds-put .long es ∙ ap (λ k. 1 * k) many ∙ once n))) (subst (λ x. length x ≤ length old) file-is long-enough) in
       rw (le-leb (length f) (length old) long-enough) (ap₂ (λ k x. wrote (Bytes k) x) (sym file-long) (e ∙ ap (λ x. x ++ drop (length x) old) (sym file-is)))
     where

@@ -4,15 +4,16 @@ ghost use mathlib.Core.List.{map};
 ghost use Prim.Native.Nat.{_+_, _*_, _<_, _≤_};
 ghost use lib.ListN.{length, getD};
 ghost use lib.Seq.{sets};
+ghost use Rattle.low_bytes.specs.LowBytes.{lowBytes};
 ghost use Rattle.pool.specs.Nodes.{kindOf, parts};
 ghost use Rattle.pool.specs.Pool.{limit, nodeIn};
 ghost use Rattle.shape.specs.Shape.{rename};
-ghost use Rattle.shape.specs.File.{bytes, wordBytes, writtenFile};
+ghost use Rattle.shape.specs.File.{wordBytes, writtenFile};
 ghost use Rattle.node_write.specs.Entries.{numberIn, Marked, AllMarked, entryBy, Listed, firstOf};
 ghost use Rattle.node_write.specs.Output.{HasRoot, wrote, puts};
-use node_walk::Parts;
 use pool::LIMIT;
 use pool::Node;
+use pool::Parts;
 
 // What writing gives: how many bytes the file has, or that the output is too short.
 pub enum FileLength {
@@ -34,16 +35,16 @@ fn renumbered(number: &[u32; LIMIT], node: Node) -> Node
     requires { ⌜ AllMarked (now number) (parts node) ⌝ }
     ensures { λ r. ⌜ r ≡ rename (numberIn (now (number .entry))) node ⌝ }
 {
-    match node_walk::parts_of(node) {
+    match pool::parts_of(node) {
         Parts::None => node,
         Parts::One(a) => {
             let only = number_of(number, a);
-            node_walk::with_parts(node, only, 0)
+            pool::with_parts(node, only, 0)
         }
         Parts::Two(a, b) => {
             let left = number_of(number, a);
             let right = number_of(number, b);
-            node_walk::with_parts(node, left, right)
+            pool::with_parts(node, left, right)
         }
     }
 }
@@ -62,20 +63,6 @@ fn entry(
 {
     let node = pool::node_at(kinds, words, order[m]);
     renumbered(number, node)
-}
-
-// The k lowest bytes of a number, low byte first.
-fn put_bytes(out: &mut [u8], at: usize, k: usize, x: u64)
-    requires { ⌜ at + k ≤ length (now out) ⌝ }
-    ensures { λ _. ⌜ now (out .exit) ≡ sets (now (out .entry)) at (bytes k x) ⌝ }
-{
-    let mut rest = x;
-    let mut i = 0;
-    while i < k {
-        out[at + i] = (rest % 256) as u8;
-        rest = rest / 256;
-        i += 1;
-    }
 }
 
 // The kinds of the first n entries, from place 4 on.
@@ -114,7 +101,7 @@ fn put_words(
     let mut m = 0;
     while m < n {
         let word = pool::word_of(entry(kinds, words, number, order, m));
-        put_bytes(out, 4 + n + 8 * m, 8, word);
+        low_bytes::put_bytes(out, 4 + n + 8 * m, 8, word);
         m += 1;
     }
 }
@@ -136,7 +123,7 @@ pub fn write_file(
     if out.len() < length {
         return FileLength::NoRoom;
     }
-    put_bytes(out, 0, 4, n as u64);
+    low_bytes::put_bytes(out, 0, 4, n as u64);
     put_kinds(kinds, words, &number, &order, n, out);
     put_words(kinds, words, &number, &order, n, out);
     FileLength::Bytes(length as u64)

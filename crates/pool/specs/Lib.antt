@@ -1,5 +1,7 @@
 pub mod Nodes
 pub mod Fold
+pub mod Reaches
+pub mod Parts
 pub mod Work
 pub mod Pool
 pub mod Made

@@ -2,8 +2,8 @@
 -- Assumes nothing.
 use mathlib.Core.List.{List}
 use Prim.Native.Nat.{ℕ}
-use Rattle.pool.specs.Nodes.{pair, lowOf, highOf}
-use Rattle.pool.specs.Pool.{Pool, pool, limit, Out, done, refused}
+use Rattle.pool.specs.Nodes.{lowOf, highOf}
+use Rattle.pool.specs.Pool.{Pool, pool, Out, done, refused}
 use Rattle.pool.specs.declared.table.Made.{Made}
 use Rattle.pool.specs.declared.table.Made.the-variants.{Node, Refused}
 use Rattle.pool.specs.declared.table.Room.{Room}
@@ -14,10 +14,6 @@ nextOf room = lowOf (room .word)
 
 abbrev pub endOf : Room → ℕ
 endOf room = highOf (room .word)
-
--- the word of the room in an empty pool: a count is added to it
-abbrev pub emptyRoom : ℕ
-emptyRoom = pair 0 limit
 
 -- the pool that two tables and the room in them are
 abbrev pub poolOf : List ℕ → List ℕ → Room → Pool

@@ -1,5 +1,6 @@
 // The pool of expressions: nodes, and the two tables that hold them.
 mod node;
+mod parts;
 mod table;
 
 pub use node::EXPONENT_MIN;
@@ -10,10 +11,13 @@ pub use node::decode;
 pub use node::kind_of;
 pub use node::may_stand_at;
 pub use node::word_of;
-pub use table::EMPTY_ROOM;
+pub use parts::Parts;
+pub use parts::parts_of;
+pub use parts::with_parts;
 pub use table::LIMIT;
 pub use table::Made;
 pub use table::Room;
 pub use table::append;
 pub use table::next_of;
 pub use table::node_at;
+pub use table::room_between;

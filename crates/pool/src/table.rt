@@ -1,7 +1,7 @@
 // The two tables: reading a node, appending one.
 ghost use mathlib.Core.Path.{_≡_};
 ghost use Rattle.pool.specs.Pool.{nodeIn, append};
-ghost use Rattle.pool.specs.Made.{nextOf, made, poolOf};
+ghost use Rattle.pool.specs.Made.{nextOf, endOf, made, poolOf};
 use crate::node::HALF;
 use crate::node::Node;
 
@@ -14,8 +14,14 @@ pub struct Room {
     pub word: u64,
 }
 
-// The word of the room in an empty pool; a count is added to it.
-pub const EMPTY_ROOM: u64 = LIMIT as u64 * HALF;
+// The room from the next number up to the number at which there is none.
+pub fn room_between(next: u32, end: u32) -> Room
+    ensures { λ r. ⌜ (nextOf r ≡ next) × (endOf r ≡ end) ⌝ }
+{
+    Room {
+        word: next as u64 + HALF * end as u64,
+    }
+}
 
 // The number of the next node.
 pub fn next_of(room: Room) -> u32

@@ -5,10 +5,10 @@ use mathlib.Core.List.{List, []}
 use Prim.Native.Nat.{ℕ, _+_, _<_, _≤_}
 use native.Mathlib.Omega.{arith}
 use borrow.Author.Tests.{lt-ltb, le-ltb}
+use Rattle.low_bytes.proofs.Writing.{three-written, none-written, written-as}
+use Rattle.low_bytes.specs.Output.{Wrote, pastLongest}
 use Rattle.pool.specs.declared.node.Node.{Node}
 use Rattle.walks.specs.Print.{precedence, nodeText, textBelow, textOf, opening, closing}
-use Rattle.print.specs.Output.{Wrote, pastLongest}
-use Rattle.print.proofs.Writing.{three-written, written-as, none-written}
 use Rattle.print.proofs.Bounded.{text-is, text-below, no-text-above}
 
 pub for-node : (down : ℕ → ℕ → List ℕ) {at to : ℕ} {l l′ : List ℕ} {n m : Node} → n ≡ m → Wrote at l (nodeText down m) to l′ → Wrote at l (nodeText down n) to l′

@@ -1,6 +1,5 @@
 pub mod Writing
 pub mod Bounded
 pub mod Fmt
-pub mod Found
 pub mod Theorems
 pub mod Examples

@@ -1,12 +1,8 @@
-// Printing: whether a Max is reached, how long the text is, and the text itself.
-mod max;
+// Printing: how long the text is, and the text itself.
 mod output;
 mod walk;
 mod whole;
 
-pub use max::has_max;
-pub use output::TEXT_MAX;
-pub use output::write;
 pub use output::write_exponent;
 pub use output::write_literal;
 pub use whole::print_into;

@@ -2,16 +2,16 @@
 ghost use mathlib.Core.Path.{_≡_};
 ghost use mathlib.Core.List.{_++_};
 ghost use Prim.Native.Nat.{_≤_};
+ghost use Rattle.low_bytes.specs.Output.{Wrote, pastLongest};
 ghost use Rattle.pool.specs.Pool.{nodeIn};
 ghost use Rattle.text.specs.Text.{decimal};
 ghost use Rattle.walks.specs.Print.{precedence, nodeText, textBelow, textOf, hat, closing};
-ghost use Rattle.print.specs.Output.{Wrote, pastLongest};
-use crate::output::TEXT_MAX;
-use crate::output::put;
-use crate::output::write;
 use crate::output::write_exponent;
 use crate::output::write_literal;
 use crate::output::write_variable;
+use low_bytes::TEXT_MAX;
+use low_bytes::put;
+use low_bytes::write;
 use pool::LIMIT;
 use pool::Node;
 

@@ -2,11 +2,12 @@
 ghost use mathlib.Core.Path.{_≡_};
 ghost use Prim.Native.Nat.{_+_, min};
 ghost use lib.ListN.{length};
+ghost use Rattle.low_bytes.specs.Output.{longestText};
 ghost use Rattle.pool.specs.Pool.{nodeIn};
-ghost use Rattle.walks.specs.Print.{textOf, longestText};
+ghost use Rattle.walks.specs.Print.{textOf};
 ghost use Rattle.print.specs.Output.{Printed};
-use crate::output::TEXT_MAX;
 use crate::walk::text_in;
+use low_bytes::TEXT_MAX;
 use pool::LIMIT;
 
 // How many bytes of a text are kept while its length is found. It decides nothing but the time that printing takes.

@@ -16,7 +16,7 @@ use Rattle.pool.specs.Pool.{limit, Pool, pool, nodeIn, nodeAt, done, refused, h
 use Rattle.pool.specs.declared.node.Node.{Node}
 use Rattle.pool.specs.declared.node.Node.the-variants.{Empty}
 use Rattle.shape.specs.File.{appendFirst}
-use Rattle.shape.specs.Demand.{KeepsRules, Room}
+use Rattle.shape.specs.Demand.{KeepsRules, HasRoom}
 use Rattle.shape.proofs.Lists.{All, same-or-not, below-or-not, not-true-false}
 use Rattle.shape.proofs.Tests.{and-left, and-right, and-both, below-all}
 use Rattle.shape.proofs.TableOfKinds.{Valid, decode-own, word-fits, valid-is-node}
@@ -107,7 +107,7 @@ pub record Appended (n : ℕ) (q : ℕ → Node) (P Q : Pool) : Type 0 where
   pub counted : Q .count ≡ P .count + n
   pub ended : Q .end ≡ P .end
 
-next-answers : (n : ℕ) (q : ℕ → Node) (P Q : Pool) → Room (suc n) P → Appended n q P Q → Appended (suc n) q P (grown (q n) Q)
+next-answers : (n : ℕ) (q : ℕ → Node) (P Q : Pool) → HasRoom (suc n) P → Appended n q P Q → Appended (suc n) q P (grown (q n) Q)
 unfolding appendFirst
 next-answers n q P Q room a =
     let counted : Q .count ≡ P .count + n = a .counted in
@@ -120,10 +120,10 @@ next-answers n q P Q room a =
       ended = ended;
     }
 
-room-before : (n : ℕ) (P : Pool) → Room (suc n) P → Room n P
+room-before : (n : ℕ) (P : Pool) → HasRoom (suc n) P → HasRoom n P
 room-before n P room = let some : P .count + suc n ≤ P .end = room .0 in let few : P .count + suc n ≤ limit = room .1 in (omega arith, omega arith)
 
-pub append-fits : (n : ℕ) (q : ℕ → Node) (P : Pool) → Room n P → (Q : Pool) × Appended n q P Q
+pub append-fits : (n : ℕ) (q : ℕ → Node) (P : Pool) → HasRoom n P → (Q : Pool) × Appended n q P Q
 unfolding appendFirst
 append-fits zero q P room = (P, record { answers = refl; counted = omega arith; ended = refl })
 append-fits (suc n) q P room = let (Q, a) = append-fits n q P (room-before n P room) in (grown (q n) Q, next-answers n q P Q room a)
@@ -132,20 +132,20 @@ append-fits (suc n) q P room = let (Q, a) = append-fits n q P (room-before n P r
 over : {a b : ℕ} → b < a → a ≤ b → ⊥
 over l m = omega arith
 
-pub room-or-none : (n : ℕ) (P : Pool) → Room n P ⊎ (Room n P → ⊥)
+pub room-or-none : (n : ℕ) (P : Pool) → HasRoom n P ⊎ (HasRoom n P → ⊥)
 room-or-none n P =
     ⊎-elim
     (λ a. inr (λ room. over a (room .0)))
     (λ a. ⊎-elim (λ b. inr (λ room. over b (room .1))) (λ b. inl (a, b)) (below-or-not limit (P .count + n)))
     (below-or-not (P .end) (P .count + n))
 
-next-refused : (n : ℕ) (q : ℕ → Node) (P Q : Pool) → (Room (suc n) P → ⊥) → Appended n q P Q → appendFirst (suc n) q P ≡ refused poolFull
+next-refused : (n : ℕ) (q : ℕ → Node) (P Q : Pool) → (HasRoom (suc n) P → ⊥) → Appended n q P Q → appendFirst (suc n) q P ≡ refused poolFull
 unfolding appendFirst
 next-refused n q P Q none a =
     ap (λ o. bind o (λ before. append (q n))) (a .answers)
     ∙ append-full (q n) Q (not-true-false (hasRoom Q) (λ h. none (room (and-left (ltb (Q .count) (Q .end)) (ltb (Q .count) limit) h) (and-right (ltb (Q .count) (Q .end)) (ltb (Q .count) limit) h))))
   where
-    room : ltb (Q .count) (Q .end) ≡ true → ltb (Q .count) limit ≡ true → Room (suc n) P
+    room : ltb (Q .count) (Q .end) ≡ true → ltb (Q .count) limit ≡ true → HasRoom (suc n) P
     room h m =
         let counted : Q .count ≡ P .count + n = a .counted in
         let ended : Q .end ≡ P .end = a .ended in
@@ -153,7 +153,7 @@ next-refused n q P Q none a =
         let few : Q .count < limit = ltb-true (Q .count) limit m in
         (omega arith, omega arith)
 
-pub append-refused : (n : ℕ) (q : ℕ → Node) (P : Pool) → (Room (suc n) P → ⊥) → appendFirst (suc n) q P ≡ refused poolFull
+pub append-refused : (n : ℕ) (q : ℕ → Node) (P : Pool) → (HasRoom (suc n) P → ⊥) → appendFirst (suc n) q P ≡ refused poolFull
 unfolding appendFirst
 append-refused zero q P none = next-refused zero q P P none (record { answers = refl; counted = omega arith; ended = refl })
 append-refused (suc n) q P none =
@@ -173,7 +173,7 @@ pub record Appendable (n : ℕ) (q : ℕ → Node) (P : Pool) : Type 0 where
   pub valid : (i : ℕ) → i < n → Valid (q i)
   pub lower : (i : ℕ) → i < n → All (λ j. j < P .count + i) (parts (q i))
 
-next-holds : (n : ℕ) (q : ℕ → Node) (P Q : Pool) → Room (suc n) P → Appendable (suc n) q P → Appended n q P Q → Holds n q P Q → Holds (suc n) q P (grown (q n) Q)
+next-holds : (n : ℕ) (q : ℕ → Node) (P Q : Pool) → HasRoom (suc n) P → Appendable (suc n) q P → Appended n q P Q → Holds n q P Q → Holds (suc n) q P (grown (q n) Q)
 next-holds n q P Q room ok a h =
     record {
       kept = grown-keeps-rules (q n) Q (h .kept) valid lower fits;
@@ -197,7 +197,7 @@ next-holds n q P Q room ok a h =
     lower : All (λ j. j < Q .count) (parts (q n))
     lower = subst⁻¹ (λ c. All (λ j. j < c) (parts (q n))) counted (ok .lower n (omega arith))
 
-pub append-holds : (n : ℕ) (q : ℕ → Node) (P : Pool) → KeepsRules P → Appendable n q P → Room n P → (Q : Pool) × Appended n q P Q × Holds n q P Q
+pub append-holds : (n : ℕ) (q : ℕ → Node) (P : Pool) → KeepsRules P → Appendable n q P → HasRoom n P → (Q : Pool) × Appended n q P Q × Holds n q P Q
 unfolding appendFirst
 append-holds zero q P k ok room =
     (P, record { answers = refl; counted = omega arith; ended = refl }, record { kept = k; olds = λ i l. refl; news = λ i l. absurd (not-suc-le-zero l) })

@@ -7,12 +7,13 @@ use mathlib.Core.List.{List, [], _∷_}
 use Prim.Native.Nat.{ℕ, _+_, _-_, _*_, _<_, _≤_}
 use native.Mathlib.Omega.{arith}
 use lib.ListN.{length}
+use Rattle.low_bytes.specs.LowBytes.{AreBytes}
 use Rattle.refusals.specs.Refusals.{poolFull}
 use Rattle.pool.specs.Pool.{limit, Pool, empty, nodeAt, done, refused}
 use Rattle.shape.specs.Shape.{has, Reach, OneShape}
 use Rattle.shape.specs.Order.{numbered, written, writtenRoots}
 use Rattle.shape.specs.File.{fileOf, fileFrom, writtenFile, readFile, sizeOf}
-use Rattle.shape.specs.Demand.{KeepsRules, Room, SameShape, IsNodeFile, AreBytes, Accepts, Leaves, Below, Distinct}
+use Rattle.shape.specs.Demand.{KeepsRules, HasRoom, SameShape, IsNodeFile, Accepts, Leaves, Below, Distinct}
 use Rattle.shape.proofs.Entries.{only, one-shape-is-same-entries, one-shape-is-same-entries-of-one, length-written, numbered-distinct, numbered-reached, reached-numbered}
 use Rattle.shape.proofs.Files.{same-file-same-entries, file-is-bytes, length-file}
 use Rattle.shape.proofs.Pools.{rules-of, falls-in, empty-keeps-rules}
@@ -64,7 +65,7 @@ numbered-are-the-reachable P k r l =
 
 -- (b) "Whatever bytes are handed in, reading into an empty pool that keeps these rules accepts them exactly when they are the node file of some root in some such pool."
 -- into any pool that keeps the rules: exactly the node files that it has room for
-pub accepts-node-files-with-room : (bs : List ℕ) → AreBytes bs → (P : Pool) → KeepsRules P → Accepts bs P ↔ (IsNodeFile bs × Room (sizeOf bs) P)
+pub accepts-node-files-with-room : (bs : List ℕ) → AreBytes bs → (P : Pool) → KeepsRules P → Accepts bs P ↔ (IsNodeFile bs × HasRoom (sizeOf bs) P)
 accepts-node-files-with-room bs are P k = (
   λ accepted.
       let t = accepted-passes bs P (accepted .0) (accepted .1) (accepted .2) in
@@ -81,7 +82,7 @@ accepts-node-files bs are P k none whole =
     let both = accepts-node-files-with-room bs are P k in
     (λ accepted. both .0 accepted .0, λ file. both .1 (file, room file))
   where
-    room : IsNodeFile bs → Room (sizeOf bs) P
+    room : IsNodeFile bs → HasRoom (sizeOf bs) P
     room file =
         let (Q, m, r, l, e) = file in
         let few : sizeOf bs ≤ limit = sized-facts bs (subst Passes e (written-passes Q m r l) .sized) .few in
@@ -97,7 +98,7 @@ pub accepted-leaves-the-rules : (bs : List ℕ) → AreBytes bs → (P : Pool) �
 accepted-leaves-the-rules = accepted-leaves
 
 -- "A node file reads back to the expression it came from, and written again gives the same bytes."
-pub reads-back : (P Q : Pool) → KeepsRules P → KeepsRules Q → (r : ℕ) → r < P .count → Room (sizeOf (fileFrom P r)) Q
+pub reads-back : (P Q : Pool) → KeepsRules P → KeepsRules Q → (r : ℕ) → r < P .count → HasRoom (sizeOf (fileFrom P r)) Q
     → (s : ℕ) × (R : Pool) × (readFile (fileFrom P r) Q ≡ done s R) × SameShape P r R s × Leaves (fileFrom P r) Q s R
 unfolding writtenFile
 reads-back P Q k m r l room =
@@ -109,5 +110,5 @@ reads-back P Q k m r l room =
     (s, R, e, same-file-for-one-shape P R k (left .keeps-rules) r s l (omega arith) .0 (sym (left .same-bytes)), left)
 
 -- without room, 18
-pub reads-into-no-full-pool : (P Q : Pool) → KeepsRules P → (r : ℕ) → r < P .count → (Room (sizeOf (fileFrom P r)) Q → ⊥) → readFile (fileFrom P r) Q ≡ refused poolFull
+pub reads-into-no-full-pool : (P Q : Pool) → KeepsRules P → (r : ℕ) → r < P .count → (HasRoom (sizeOf (fileFrom P r)) Q → ⊥) → readFile (fileFrom P r) Q ≡ refused poolFull
 reads-into-no-full-pool P Q k r l none = read-full (fileFrom P r) (written-passes P k r l) Q none

@@ -11,16 +11,16 @@ use lib.Dec.{ltb}
 use lib.ListN.{length, getD, take, drop, length-append, length-map, List·getD-append, List·getD-map, List·getD-eq-default, take-append-drop, length-reverse, length-drop}
 use lib.Seq.{getD-append-add, ext-getD, take-suc, take-add, drop-drop, getD-drop, take-all}
 use borrow.Author.Tests.{lt-ltb, le-ltb}
+use Rattle.low_bytes.specs.LowBytes.{lowBytes, numberAt, AreBytes}
 use Rattle.pool.specs.Nodes.{decode, kindOf, wordOf, isNode}
 use Rattle.pool.specs.declared.node.Node.{Node}
 use Rattle.pool.specs.declared.node.Node.the-variants.{Empty}
-use Rattle.shape.specs.File.{bytes, wordBytes, fileOf, numberAt, sizeOf, entryIn, entryOf}
-use Rattle.shape.specs.Demand.{AreBytes}
+use Rattle.shape.specs.File.{wordBytes, fileOf, sizeOf, entryIn, entryOf}
 use Rattle.shape.proofs.Lists.{map-append, below-or-not}
 use Rattle.shape.proofs.Numbers.{firsts, down, length-down}
 use Rattle.shape.proofs.Entries.{tableOf}
 use Rattle.shape.proofs.TableOfKinds.{Valid, decoded, decode-own, word-fits, kind-fits}
-use Rattle.shape.proofs.Bytes.{number-after, number-of-bytes, number-fits, bytes-of-number, bytes-append, bytes-are-bytes}
+use Rattle.low_bytes.proofs.Bytes.{number-after, number-of-bytes, number-fits, bytes-of-number, bytes-append, bytes-are-bytes}
 
 -- "its length is .. 4 + 9 × n"
 length-words : (es : List Node) → length (wordBytes es) ≡ 8 * length es
@@ -42,12 +42,12 @@ kinds-are-bytes (e ∷ es) (suc i) = kinds-are-bytes es i
 
 words-are-bytes : (es : List Node) → AreBytes (wordBytes es)
 words-are-bytes [] i = omega arith
-words-are-bytes (e ∷ es) i = bytes-append (bytes 8 (wordOf e)) (wordBytes es) (bytes-are-bytes 8 (wordOf e)) (words-are-bytes es) i
+words-are-bytes (e ∷ es) i = bytes-append (lowBytes 8 (wordOf e)) (wordBytes es) (bytes-are-bytes 8 (wordOf e)) (words-are-bytes es) i
 
 pub file-is-bytes : (es : List Node) → AreBytes (fileOf es)
 unfolding fileOf
 file-is-bytes es =
-    bytes-append (bytes 4 (length es)) (map kindOf es ++ wordBytes es) (bytes-are-bytes 4 (length es)) (bytes-append (map kindOf es) (wordBytes es) (kinds-are-bytes es) (words-are-bytes es))
+    bytes-append (lowBytes 4 (length es)) (map kindOf es ++ wordBytes es) (bytes-are-bytes 4 (length es)) (bytes-append (map kindOf es) (wordBytes es) (kinds-are-bytes es) (words-are-bytes es))
 
 -- entries that the table of kinds has, few enough for 32 bits
 pub record Entries (es : List Node) : Type 0 where
@@ -61,7 +61,7 @@ size-of-file es few = number-of-bytes 4 (length es) (map kindOf es ++ wordBytes 
 kind-in-file : (es : List Node) (i : ℕ) → i < length es → getD (fileOf es) (4 + i) 0 ≡ kindOf (tableOf es i)
 unfolding fileOf
 kind-in-file es i l =
-    getD-append-add (bytes 4 (length es)) (map kindOf es ++ wordBytes es) i 0
+    getD-append-add (lowBytes 4 (length es)) (map kindOf es ++ wordBytes es) i 0
     ∙ List·getD-append (map kindOf es) (wordBytes es) 0 i (rw (length-map es kindOf) l)
     ∙ List·getD-map kindOf es i Empty
 
@@ -69,7 +69,7 @@ word-in-words : (es : List Node) (i : ℕ) → i < length es → Valid (tableOf 
 word-in-words [] i l v = absurd (not-suc-le-zero l)
 word-in-words (e ∷ es) zero l v = number-of-bytes 8 (wordOf e) (wordBytes es) (word-fits e v)
 word-in-words (e ∷ es) (suc i) l v =
-    ap (numberAt 8 (wordBytes (e ∷ es))) (next i) ∙ number-after 8 (bytes 8 (wordOf e)) (wordBytes es) (8 * i) ∙ word-in-words es i (omega arith) v
+    ap (numberAt 8 (wordBytes (e ∷ es))) (next i) ∙ number-after 8 (lowBytes 8 (wordOf e)) (wordBytes es) (8 * i) ∙ word-in-words es i (omega arith) v
   where
     next : (i : ℕ) → 8 * suc i ≡ 8 + 8 * i
     next i = omega arith
@@ -77,8 +77,8 @@ word-in-words (e ∷ es) (suc i) l v =
 word-in-file : (es : List Node) (i : ℕ) → i < length es → Valid (tableOf es i) → numberAt 8 (fileOf es) (4 + length es + 8 * i) ≡ wordOf (tableOf es i)
 unfolding fileOf
 word-in-file es i l v =
-    ap (numberAt 8 (bytes 4 (length es) ++ (map kindOf es ++ wordBytes es))) (place (length es) (length (map kindOf es)) i (length-map es kindOf))
-    ∙ number-after 8 (bytes 4 (length es)) (map kindOf es ++ wordBytes es) (length (map kindOf es) + 8 * i)
+    ap (numberAt 8 (lowBytes 4 (length es) ++ (map kindOf es ++ wordBytes es))) (place (length es) (length (map kindOf es)) i (length-map es kindOf))
+    ∙ number-after 8 (lowBytes 4 (length es)) (map kindOf es ++ wordBytes es) (length (map kindOf es) + 8 * i)
     ∙ number-after 8 (map kindOf es) (wordBytes es) (8 * i)
     ∙ word-in-words es i l v
   where
@@ -117,9 +117,9 @@ one-more q m = ap (map q) (reverse-cons m (down m)) ∙ map-append q (firsts m) 
 pub length-firsts : (q : ℕ → Node) (m : ℕ) → length (map q (firsts m)) ≡ m
 length-firsts q m = length-map (firsts m) q ∙ length-reverse (down m) ∙ length-down m
 
-words-append : (es : List Node) (e : Node) → wordBytes (es ++ (e ∷ [])) ≡ wordBytes es ++ bytes 8 (wordOf e)
-words-append [] e = append-nil (bytes 8 (wordOf e))
-words-append (x ∷ es) e = ap (λ r. bytes 8 (wordOf x) ++ r) (words-append es e) ∙ sym (append-assoc (bytes 8 (wordOf x)) (wordBytes es) (bytes 8 (wordOf e)))
+words-append : (es : List Node) (e : Node) → wordBytes (es ++ (e ∷ [])) ≡ wordBytes es ++ lowBytes 8 (wordOf e)
+words-append [] e = append-nil (lowBytes 8 (wordOf e))
+words-append (x ∷ es) e = ap (λ r. lowBytes 8 (wordOf x) ++ r) (words-append es e) ∙ sym (append-assoc (lowBytes 8 (wordOf x)) (wordBytes es) (lowBytes 8 (wordOf e)))
 
 -- bytes of the right length whose entries are nodes are those of their entries
 module _ (bs : List ℕ) (are : AreBytes bs) (long : length bs ≡ 4 + 9 * sizeOf bs) (nodes : (i : ℕ) → i < sizeOf bs → isNode (entryOf bs i) ≡ true) where
@@ -155,7 +155,7 @@ module _ (bs : List ℕ) (are : AreBytes bs) (long : length bs ≡ 4 + 9 * sizeO
       ap wordBytes (one-more (entryOf bs) m)
       ∙ words-append (map (entryOf bs) (firsts m)) (entryOf bs m)
       ∙ ap₂ (λ xs ys. xs ++ ys) (words-read m (omega arith))
-      (ap (bytes 8) (read m l .2) ∙ bytes-of-number 8 bs are (4 + sizeOf bs + 8 * m) (omega arith) ∙ ap (take 8) (sym (drop-drop (8 * m) (4 + sizeOf bs) bs)))
+      (ap (lowBytes 8) (read m l .2) ∙ bytes-of-number 8 bs are (4 + sizeOf bs + 8 * m) (omega arith) ∙ ap (take 8) (sym (drop-drop (8 * m) (4 + sizeOf bs) bs)))
       ∙ sym (take-add (8 * m) 8 (drop (4 + sizeOf bs) bs))
       ∙ ap (λ k. take k (drop (4 + sizeOf bs) bs)) (next m)
     where
@@ -166,7 +166,7 @@ module _ (bs : List ℕ) (are : AreBytes bs) (long : length bs ≡ 4 + 9 * sizeO
   unfolding fileOf
   file-of-read =
       ap₂ (λ xs ys. xs ++ ys)
-      (ap (bytes 4) (length-firsts (entryOf bs) (sizeOf bs)) ∙ bytes-of-number 4 bs are 0 (omega arith))
+      (ap (lowBytes 4) (length-firsts (entryOf bs) (sizeOf bs)) ∙ bytes-of-number 4 bs are 0 (omega arith))
       (ap₂ (λ xs ys. xs ++ ys)
       (kinds-read (sizeOf bs) (omega arith))
       (words-read (sizeOf bs) (omega arith) ∙ take-all (8 * sizeOf bs) (drop (4 + sizeOf bs) bs) (rw (length-drop (4 + sizeOf bs) bs) (omega arith)) ∙ sym (drop-drop (sizeOf bs) 4 bs))

@@ -9,7 +9,6 @@ pub mod Entries
 pub mod Tests
 pub mod InOrder
 pub mod TableOfKinds
-pub mod Bytes
 pub mod Files
 pub mod Pools
 pub mod Appends

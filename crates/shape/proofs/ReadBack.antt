@@ -4,10 +4,11 @@ use mathlib.Core.Path.{_≡_, sym, ap, _∙_, subst}
 use mathlib.Core.List.{List, [], _∷_}
 use Prim.Native.Nat.{ℕ, _+_, _-_, _<_, _≤_}
 use native.Mathlib.Omega.{arith}
+use Rattle.low_bytes.specs.LowBytes.{AreBytes}
 use Rattle.pool.specs.Pool.{limit, Pool, empty, nodeAt, Out, done, refused}
 use Rattle.shape.specs.Shape.{OneShape}
 use Rattle.shape.specs.File.{fileOf, fileFrom, writtenFile, readFile, sizeOf, entryOf}
-use Rattle.shape.specs.Demand.{KeepsRules, Room, AreBytes, IsNodeFile, Leaves}
+use Rattle.shape.specs.Demand.{KeepsRules, HasRoom, IsNodeFile, Leaves}
 use Rattle.shape.proofs.Entries.{only, same-written}
 use Rattle.shape.proofs.Pools.{rules-of, falls-in, empty-keeps-rules}
 use Rattle.shape.proofs.Reading.{Passes, ReadInto, sized-facts, accepted-passes, accepted-room, entries-fall, last-below, passes-written, read-into, new-shape, old-shape}
@@ -76,5 +77,5 @@ passes-is-node-file bs are t =
     let last : 0 + (sizeOf bs - 1) + 1 ≡ Q .count = left .root-last in
     (Q, left .keeps-rules, 0 + (sizeOf bs - 1), omega arith, left .same-bytes)
   where
-    room : Room (sizeOf bs) empty
+    room : HasRoom (sizeOf bs) empty
     room = let l : sizeOf bs ≤ limit = sized-facts bs (t .sized) .few in (omega arith, omega arith)

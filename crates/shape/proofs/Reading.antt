@@ -10,6 +10,7 @@ use native.Mathlib.Omega.{arith}
 use lib.Dec.{leb}
 use lib.ListN.{length}
 use borrow.Author.Tests.{le-ltb, le-leb, leb-true, eq-eqb, eqb-true}
+use Rattle.low_bytes.specs.LowBytes.{AreBytes}
 use Rattle.refusals.specs.Refusals.{poolFull, wrongLength, wrongEntry, wrongSequence}
 use Rattle.pool.specs.Nodes.{parts, isNode, allBelow, mayStandAt, half}
 use Rattle.pool.specs.Pool.{limit, Pool, nodeAt, Out, done, refused, bind}
@@ -18,7 +19,7 @@ use Rattle.pool.specs.declared.node.Node.the-variants.{Empty}
 use Rattle.shape.specs.Shape.{rename, Reach, root, part, OneShape}
 use Rattle.shape.specs.Order.{written}
 use Rattle.shape.specs.File.{appendShifted, passes, readFile, isSized, areNodes, isInOrder, sizeOf, entryIn, entryOf, fileOf}
-use Rattle.shape.specs.Demand.{KeepsRules, Room, AreBytes, Below}
+use Rattle.shape.specs.Demand.{KeepsRules, HasRoom, Below}
 use Rattle.shape.specs.Walked.{Falls}
 use Rattle.shape.proofs.Lists.{All, all-none, all-map, below-or-not, map-same}
 use Rattle.shape.proofs.Tests.{and-left, and-right, and-both, each-holds, all-below}
@@ -138,7 +139,7 @@ module _ (bs : List ℕ) (t : Passes bs) where
         ap fileOf (in-order-written (entryOf bs) ((sizeOf bs - 1) ∷ []) (sizeOf bs) entries-fall (size .few) last-below (t .ordered))
         ∙ file-of-read bs are (size .long) node
 
-    appendable : (P : Pool) → Room (sizeOf bs) P → Appendable (sizeOf bs) (shifted (P .count) (entryOf bs)) P
+    appendable : (P : Pool) → HasRoom (sizeOf bs) P → Appendable (sizeOf bs) (shifted (P .count) (entryOf bs)) P
     appendable P room =
         record {
           valid = λ i l. valid-rename (λ j. P .count + j) (entryOf bs i) (entry-valid bs are (size .long) node i l) (λ j h. small (P .count) i j (sizeOf bs) l (entries-fall i j h) (room .1));
@@ -160,7 +161,7 @@ module _ (bs : List ℕ) (t : Passes bs) where
         less : (n : ℕ) → n ≡ suc n - 1
         less n = omega arith
 
-    pub read-into : (P : Pool) → KeepsRules P → Room (sizeOf bs) P → (Q : Pool) × ReadInto bs P Q
+    pub read-into : (P : Pool) → KeepsRules P → HasRoom (sizeOf bs) P → (Q : Pool) × ReadInto bs P Q
     read-into P k room =
         let (Q, a, h) = append-holds (sizeOf bs) (shifted (P .count) (entryOf bs)) P k (appendable P room) room in (
           Q,
@@ -173,14 +174,14 @@ module _ (bs : List ℕ) (t : Passes bs) where
         )
 
   -- without room, 18
-  pub read-full : (P : Pool) → (Room (sizeOf bs) P → ⊥) → readFile bs P ≡ refused poolFull
+  pub read-full : (P : Pool) → (HasRoom (sizeOf bs) P → ⊥) → readFile bs P ≡ refused poolFull
   read-full P none = read-passes bs P t ∙ go (sizeOf bs) (size .some) none
     where
-      go : (n : ℕ) → 1 ≤ n → (Room n P → ⊥) → appendShifted n (entryOf bs) P ≡ refused poolFull
+      go : (n : ℕ) → 1 ≤ n → (HasRoom n P → ⊥) → appendShifted n (entryOf bs) P ≡ refused poolFull
       go zero l none = absurd (not-suc-le-zero l)
       go (suc n) l none = append-refused n (shifted (P .count) (entryOf bs)) P none
 
-  pub accepted-room : (P : Pool) (i : ℕ) (Q : Pool) → readFile bs P ≡ done i Q → Room (sizeOf bs) P
+  pub accepted-room : (P : Pool) (i : ℕ) (Q : Pool) → readFile bs P ≡ done i Q → HasRoom (sizeOf bs) P
   accepted-room P i Q e = ⊎-elim (λ room. room) (λ none. absurd (subst IsDone (sym e ∙ read-full P none) tt)) (room-or-none (sizeOf bs) P)
 
   -- the file's expressions, and the old ones, in the pool that was read into

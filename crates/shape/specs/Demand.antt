@@ -15,8 +15,8 @@ pub record KeepsRules (P : Pool) : Type 0 where
   pub words-fit : (i : ℕ) → getD (P .words) i 0 < 2 ^ 64
 
 -- there is room for n more nodes
-abbrev pub Room : ℕ → Pool → Type 0
-Room n P = (P .count + n ≤ P .end) × (P .count + n ≤ limit)
+abbrev pub HasRoom : ℕ → Pool → Type 0
+HasRoom n P = (P .count + n ≤ P .end) × (P .count + n ≤ limit)
 
 -- roots below a bound, as "A node number given" has to be below the count
 abbrev pub Below : ℕ → List ℕ → Type 0
@@ -34,10 +34,6 @@ SameShape P r Q s = OneShape (nodeAt P) (r ∷ []) (nodeAt Q) (s ∷ [])
 -- "the node file of some root in some such pool"
 abbrev pub IsNodeFile : List ℕ → Type 0
 IsNodeFile bs = (P : Pool) × KeepsRules P × (r : ℕ) × (r < P .count) × (fileFrom P r ≡ bs)
-
--- "Whatever bytes are handed in"
-abbrev pub AreBytes : List ℕ → Type 0
-AreBytes bs = (i : ℕ) → getD bs i 0 < 256
 
 -- "reading .. accepts them"
 abbrev pub Accepts : List ℕ → Pool → Type 0

@@ -2,10 +2,11 @@
 -- Assumes nothing.
 use mathlib.Core.Bool.{Bool, true, false, _&&_, cond}
 use mathlib.Core.List.{List, [], _∷_, _++_, map}
-use Prim.Native.Nat.{ℕ, zero, suc, _+_, _-_, _*_, _/_, _%_}
+use Prim.Native.Nat.{ℕ, zero, suc, _+_, _-_, _*_}
 use lib.Dec.{leb, ltb, eqb}
 use lib.ListN.{length, getD}
 use Rattle.refusals.specs.Refusals.{wrongLength, wrongEntry, wrongSequence}
+use Rattle.low_bytes.specs.LowBytes.{lowBytes, numberAt}
 use Rattle.pool.specs.Nodes.{decode, kindOf, wordOf, mayStandAt}
 use Rattle.pool.specs.Pool.{limit, Pool, nodeIn, Run, done, yield, refuse, append, each, _>>=_}
 use Rattle.pool.specs.declared.node.Node.{Node}
@@ -13,19 +14,14 @@ use Rattle.pool.specs.declared.node.Node.the-variants.{Empty}
 use Rattle.shape.specs.Shape.{rename, has}
 use Rattle.shape.specs.Order.{numbered, num, written}
 
--- the k lowest bytes of a number, "low byte first"
-abbrev pub bytes : ℕ → ℕ → List ℕ
-bytes zero x = []
-bytes (suc k) x = x % 256 ∷ bytes k (x / 256)
-
 -- "n words of 8 bytes"
 abbrev pub wordBytes : List Node → List ℕ
 wordBytes [] = []
-wordBytes (e ∷ more) = bytes 8 (wordOf e) ++ wordBytes more
+wordBytes (e ∷ more) = lowBytes 8 (wordOf e) ++ wordBytes more
 
 -- "The size n comes first (32 bits, low byte first), then two parallel arrays: n kind bytes, then n words of 8 bytes, low byte first."
 unfoldable pub fileOf : List Node → List ℕ
-fileOf es = bytes 4 (length es) ++ (map kindOf es ++ wordBytes es)
+fileOf es = lowBytes 4 (length es) ++ (map kindOf es ++ wordBytes es)
 
 -- the node file of a root in a pool with these tables
 unfoldable pub writtenFile : List ℕ → List ℕ → ℕ → List ℕ
@@ -33,11 +29,6 @@ writtenFile ks ws root = fileOf (written (nodeIn ks ws) (root ∷ []))
 
 abbrev pub fileFrom : Pool → ℕ → List ℕ
 fileFrom P root = writtenFile (P .kinds) (P .words) root
-
--- the number whose k bytes, low byte first, stand from place i on
-abbrev pub numberAt : ℕ → List ℕ → ℕ → ℕ
-numberAt zero bs i = 0
-numberAt (suc k) bs i = getD bs i 0 + 256 * numberAt k bs (suc i)
 
 -- a file's n
 abbrev pub sizeOf : List ℕ → ℕ

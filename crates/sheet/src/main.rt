@@ -67,7 +67,7 @@ fn print_line(
 
 // The first line and those of the coefficients.
 fn print_page(page: Page, kinds: &[u8; LIMIT], words: &[u64; LIMIT]) {
-    let mut out = [0u8; print::TEXT_MAX];
+    let mut out = [0u8; low_bytes::TEXT_MAX];
     let lines = page.lines as u64;
     let mut line: u64 = 0;
     while line <= lines {

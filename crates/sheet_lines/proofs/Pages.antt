@@ -11,6 +11,7 @@ use lib.Dec.{leb}
 use lib.ListN.{length, take, drop, getD}
 use lib.Seq.{drop-cons, getD-take, length-take-le}
 use borrow.Author.Tests.{le-leb, lt-leb, leb-true}
+use Rattle.low_bytes.specs.Output.{longestText}
 use Rattle.refusals.specs.Refusals.{unknownVariable, notLiteral, wrongOrder, noRoom}
 use Rattle.pool.specs.declared.node.Node.{Node}
 use Rattle.pool.specs.Pool.{Pool, Out, done, refused, nodeIn, nodeAt}
@@ -21,7 +22,7 @@ use Rattle.pool.specs.declared.table.Made.the-variants as made-as
 use Rattle.pool.specs.declared.table.Room.{Room}
 use Rattle.shape.specs.File.{readFile}
 use Rattle.lent.proofs.Finishing.{and-left, and-right}
-use Rattle.walks.specs.Print.{textOf, longestText}
+use Rattle.walks.specs.Print.{textOf}
 use Rattle.taylor.specs.Work.{at}
 use Rattle.taylor.specs.Expansion.{Expansion, greatestOrder}
 use Rattle.taylor.specs.Expand.{Point, expand, isPoint}

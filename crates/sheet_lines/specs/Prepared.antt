@@ -6,9 +6,10 @@ use mathlib.Core.List.{List, [], _∷_}
 use Prim.Native.Nat.{ℕ}
 use lib.Dec.{leb}
 use lib.ListN.{length, replicate}
+use Rattle.low_bytes.specs.Output.{longestText}
 use Rattle.pool.specs.declared.node.Node.{Node}
 use Rattle.pool.specs.Pool.{Out, done, refused, limit}
-use Rattle.walks.specs.Print.{textOf, longestText}
+use Rattle.walks.specs.Print.{textOf}
 use Rattle.taylor.specs.Work.{Result}
 use Rattle.taylor.specs.Expansion.{Expansion}
 use Rattle.taylor.specs.Expand.{Point, expand}

@@ -11,7 +11,6 @@ use expand::Point;
 use expand::is_point;
 use pool::LIMIT;
 use pool::Made;
-use pool::Room;
 use sheet_page::Page;
 use sheet_page::Verdict;
 use taylor_base::Expanded;
@@ -44,7 +43,7 @@ fn all_short(kinds: &[u8; LIMIT], words: &[u64; LIMIT], e: Expansion) -> bool
     while i < end {
         let node = e.coeffs[i];
         let length = print::text_length(kinds, words, node);
-        if (length as usize) > print::TEXT_MAX {
+        if (length as usize) > low_bytes::TEXT_MAX {
             return false;
         }
         i += 1;
@@ -65,9 +64,7 @@ fn expand_file(
     requires { ⌜ Blank (now kinds) (now words) ⌝ }
     ensures { λ r. ⌜ Answers r (now (kinds .exit)) (now (words .exit)) (expandFile (now (file .entry)) var (pointOf point) order) ⌝ }
 {
-    let room = Room {
-        word: pool::EMPTY_ROOM,
-    };
+    let room = pool::room_between(0, LIMIT as u32);
     let made = node_read::read_file(file, kinds, words, room);
     let Made::Node { node, room: rest } = made else {
         return taylor_base::answer_of(made);

@@ -11,11 +11,11 @@ use lib.IntN.{ℤ, pos, negsuc}
 use lib.ListN.{length, length-append}
 use lib.Dec.{leb, ltb}
 use borrow.Author.Tests.{lt-ltb, le-ltb, ltb-true, le-leb, lt-leb, leb-true}
+use Rattle.low_bytes.proofs.Writing.{counted, in-place}
 use Rattle.text.specs.Text.{mostDigits, decimal, signedDecimal}
 use Rattle.text.proofs.Digits.{decimal-is-short}
-use Rattle.walks.specs.Print.{longestText}
-use Rattle.print.specs.Output.{Wrote, Printed}
-use Rattle.print.proofs.Writing.{counted, in-place}
+use Rattle.low_bytes.specs.Output.{longestText, Wrote}
+use Rattle.print.specs.Output.{Printed}
 use Rattle.taylor.specs.Expand.{Point, none, point}
 use Rattle.taylor_base.specs.Answers.{terms}
 use Rattle.expand.specs.Points.{pointOf}

@@ -6,9 +6,10 @@ use mathlib.Core.List.{List, [], _∷_, _++_}
 use Prim.Native.Nat.{ℕ, zero, suc, _≤_, _<_}
 use lib.Dec.{leb, ltb}
 use lib.ListN.{length, drop}
+use Rattle.low_bytes.specs.Output.{longestText}
 use Rattle.text.specs.Text.{decimal}
 use Rattle.pool.specs.Pool.{nodeIn}
-use Rattle.walks.specs.Print.{textOf, longestText}
+use Rattle.walks.specs.Print.{textOf}
 use Rattle.taylor.specs.Work.{at}
 use Rattle.taylor.specs.Expand.{Point}
 use Rattle.taylor_base.specs.Answers.{terms}

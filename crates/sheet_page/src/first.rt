@@ -1,8 +1,8 @@
 // The first line of a sheet.
 ghost use mathlib.Core.List.{_++_};
 ghost use Prim.Native.Nat.{_≤_};
+ghost use Rattle.low_bytes.specs.Output.{Wrote, pastLongest};
 ghost use Rattle.text.specs.Text.{decimal};
-ghost use Rattle.print.specs.Output.{pastLongest, Wrote};
 ghost use Rattle.expand.specs.Points.{pointOf};
 ghost use Rattle.sheet_text.specs.Sheet.{pointText, colon};
 ghost use Rattle.sheet_page.specs.Pages.{refusedLine, firstLine, headOf};
@@ -30,9 +30,9 @@ pub struct Page {
 fn refused_line(out: &mut [u8], number: u32) -> usize
     ensures { λ r. ⌜ Wrote 0 (now (out .entry)) (refusedLine number) r (now (out .exit)) ⌝ }
 {
-    let a = print::write(out, 0, b"refused ");
+    let a = low_bytes::write(out, 0, b"refused ");
     let b = print::write_exponent(out, a, number);
-    print::write(out, b, b"\n")
+    low_bytes::write(out, b, b"\n")
 }
 
 // The point, or `none`.
@@ -41,7 +41,7 @@ fn point_text(out: &mut [u8], at: usize, point: Point) -> usize
     ensures { λ r. ⌜ Wrote at (now (out .entry)) (pointText (pointOf point)) r (now (out .exit)) ⌝ }
 {
     match point {
-        Point::None => print::write(out, at, b"none"),
+        Point::None => low_bytes::write(out, at, b"none"),
         Point::At(z) => print::write_literal(out, at, z),
     }
 }
@@ -51,11 +51,11 @@ fn first_line(out: &mut [u8], var: u32, order: u32, point: Point) -> usize
     ensures { λ r. ⌜ Wrote 0 (now (out .entry)) (firstLine var order (pointOf point)) r (now (out .exit)) ⌝ }
 {
     let a = print::write_exponent(out, 0, var);
-    let b = print::write(out, a, b" ");
+    let b = low_bytes::write(out, a, b" ");
     let c = print::write_exponent(out, b, order);
-    let d = print::write(out, c, b" ");
+    let d = low_bytes::write(out, c, b" ");
     let e = point_text(out, d, point);
-    print::write(out, e, b"\n")
+    low_bytes::write(out, e, b"\n")
 }
 
 // The first line, or the only one.
@@ -64,7 +64,7 @@ pub fn head(out: &mut [u8], page: Page) -> usize
 {
     let verdict = page.verdict;
     match verdict {
-        Verdict::Usage => print::write(out, 0, b"usage\n"),
+        Verdict::Usage => low_bytes::write(out, 0, b"usage\n"),
         Verdict::Refused(number) => refused_line(out, number),
         Verdict::Lines => {
             let point = page.point;
@@ -78,5 +78,5 @@ pub fn label(out: &mut [u8], index: u32) -> usize
     ensures { λ r. ⌜ Wrote 0 (now (out .entry)) (decimal index ++ colon) r (now (out .exit)) ⌝ }
 {
     let a = print::write_exponent(out, 0, index);
-    print::write(out, a, b": ")
+    low_bytes::write(out, a, b": ")
 }

@@ -1,8 +1,9 @@
 // The pieces of a sheet: the first line, then an index, a text and a line end for each coefficient.
 ghost use Prim.Native.Nat.{_≤_};
 ghost use lib.ListN.{length};
+ghost use Rattle.low_bytes.specs.Output.{longestText};
 ghost use Rattle.pool.specs.Pool.{nodeIn};
-ghost use Rattle.walks.specs.Print.{longestText, textOf};
+ghost use Rattle.walks.specs.Print.{textOf};
 ghost use Rattle.taylor_base.specs.Answers.{terms};
 ghost use Rattle.sheet_page.specs.Pages.{pieceOf, short, putOf, Put};
 use crate::first::Page;
@@ -20,7 +21,7 @@ fn text_of(kinds: &[u8; LIMIT], words: &[u64; LIMIT], node: u32, out: &mut [u8])
     ensures { λ r. ⌜ Put (short (textOf (nodeIn (now (kinds .entry)) (now (words .entry))) node)) (now (out .entry)) r (now (out .exit)) ⌝ }
 {
     let n = print::print_into(kinds, words, node, out) as usize;
-    if n > print::TEXT_MAX {
+    if n > low_bytes::TEXT_MAX {
         return 0;
     }
     n
@@ -58,7 +59,7 @@ fn piece_of(
         return text_of(kinds, words, node, out);
     }
     if part == 2 {
-        return print::write(out, 0, b"\n");
+        return low_bytes::write(out, 0, b"\n");
     }
     0
 }
@@ -74,7 +75,7 @@ pub fn piece(
 ) -> usize
     ensures { λ r. ⌜ Put (putOf page (now (kinds .entry)) (now (words .entry)) line part (length (now (out .entry)))) (now (out .entry)) r (now (out .exit)) ⌝ }
 {
-    if out.len() < print::TEXT_MAX {
+    if out.len() < low_bytes::TEXT_MAX {
         return 0;
     }
     if (page.lines as usize) > TERMS {

@@ -6,13 +6,14 @@ use Prim.Native.Nat.{ℕ, suc}
 use lib.Dec.{leb}
 use lib.IntN.{ℤ}
 use lib.ListN.{length}
+use Rattle.low_bytes.specs.Output.{longestText}
 use Rattle.refusals.specs.Refusals.{unknownVariable, notLiteral, wrongOrder, noRoom}
 use Rattle.text.specs.Text.{decimal, signedDecimal}
 use Rattle.pool.specs.Nodes.{greatestVariable}
 use Rattle.pool.specs.Pool.{Pool, Out, done, refused, nodeAt}
 unfoldable pub use Rattle.pool.specs.Pool.{empty}
 use Rattle.shape.specs.File.{readFile}
-use Rattle.walks.specs.Print.{textOf, longestText}
+use Rattle.walks.specs.Print.{textOf}
 use Rattle.taylor.specs.Work.{Result}
 use Rattle.taylor.specs.Expansion.{Expansion, Constant, Polynomial, greatestOrder}
 use Rattle.taylor.specs.Expand.{Point, none, point, isPoint, expand}

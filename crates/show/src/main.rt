@@ -29,7 +29,7 @@ fn put_text(text: &[u8], n: u64) -> bool {
 
 // The text of a root.
 fn show_root(kinds: &[u8], words: &[u64], count: u64, root: u64) -> bool {
-    let mut text = [0u8; print::TEXT_MAX];
+    let mut text = [0u8; low_bytes::TEXT_MAX];
     match engine_print::print(kinds, words, count, root, &mut text) {
         Written::Length(n) => put_text(&text, n),
         Written::Refused(number) => put_refused(number),

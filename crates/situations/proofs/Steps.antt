@@ -11,7 +11,7 @@ use Rattle.literal.specs.declared.Folded.the-variants.{Value, Refused}
 use Rattle.pool.specs.declared.node.Node.{Node}
 use Rattle.pool.specs.declared.node.Node.the-variants as node
 use Rattle.pool.specs.Pool.{Pool, Out, done, refused, Run, bind, yield, refuse, append}
-use Rattle.constructors.specs.Build.{literal, exponent}
+use Rattle.constructors.specs.Build.{literal, ifExponentFits}
 use Rattle.constructor_laws.proofs.Growth.{append-comes-to}
 use Rattle.situations.specs.Refusal.{OneOf, Among, ofOut}
 
@@ -36,7 +36,7 @@ module _ {ks : List ℕ} where
   refuse-refuses k h = record { refuses = λ P. h }
 
   -- 13. an exponent that is too large is refused before it is used
-  pub exponent-refuses : OneOf ks exponentTooLarge → (fits : Bool) {run : Run} → Refusing ks run → Refusing ks (exponent fits run)
+  pub exponent-refuses : OneOf ks exponentTooLarge → (fits : Bool) {run : Run} → Refusing ks run → Refusing ks (ifExponentFits fits run)
   exponent-refuses large true g = g
   exponent-refuses large false g = refuse-refuses exponentTooLarge large
 

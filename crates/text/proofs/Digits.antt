@@ -11,7 +11,7 @@ use lib.ListN.{length, drop, set, length-append, length-set}
 use borrow.Author.Tests.{lt-ltb, le-ltb}
 use mir.Syntax.{w64}
 use mir.Val.{bits}
-use Rattle.text.specs.Text.{digit, digitsWithin, mostDigits, decimal, Written, room}
+use Rattle.text.specs.Text.{digit, digitsWithin, mostDigits, decimal, Contains, room}
 use Rattle.text.proofs.Fronts.{one-more-in-front, one-byte}
 
 pub one-digit : (k n : ℕ) → n < 10 → digitsWithin (suc k) n ≡ digit n ∷ []
@@ -83,7 +83,7 @@ module _ (n : ℕ) (bytes : List ℕ) (start rest : ℕ) where
   pub after-a-turn : Remains n bytes start rest → 10 ≤ rest → Remains n (set bytes (start - 1) (digit (rest / 10 % 10))) (start - 1) (rest / 10)
   after-a-turn r h = turn r (r .more) refl h
 
-  pub at-last : Remains n bytes start rest → rest < 10 → Written (record { bytes = bytes; start = start }) (decimal n)
+  pub at-last : Remains n bytes start rest → rest < 10 → Contains (record { bytes = bytes; start = start }) (decimal n)
   at-last r h =
       record {
         text =

@@ -6,7 +6,7 @@ use Prim.Native.Nat.{ℕ, suc, _-_, _<_, _≤_}
 use native.Mathlib.Omega.{arith}
 use lib.ListN.{length, drop, set, length-set, length-drop, drop-of-length-le}
 use lib.Seq.{drop-cons, drop-set-lt, getD-set-same, lt-length-set}
-use Rattle.text.specs.Text.{Written, content, room}
+use Rattle.text.specs.Text.{Contains, content, room}
 use Rattle.text.specs.declared.Text.{Text}
 
 pub front-of : (l : List ℕ) (i a : ℕ) → i < length l → drop i (set l i a) ≡ a ∷ drop (suc i) l
@@ -18,7 +18,7 @@ one-more-in-front l start a some h =
     let e : suc (start - 1) ≡ start = omega arith in
     front-of l (start - 1) a (omega arith) ∙ ap (λ (i : ℕ). a ∷ drop i l) e
 
-pub written-in-front : (t : Text) (a : ℕ) → 0 < t .start → Written t (content t) → Written (record { bytes = set (t .bytes) (t .start - 1) a; start = t .start - 1 }) (a ∷ content t)
+pub written-in-front : (t : Text) (a : ℕ) → 0 < t .start → Contains t (content t) → Contains (record { bytes = set (t .bytes) (t .start - 1) a; start = t .start - 1 }) (a ∷ content t)
 written-in-front t a some w =
     record {
       text = one-more-in-front (t .bytes) (t .start) a some (omega arith);
@@ -27,7 +27,7 @@ written-in-front t a some w =
     }
 
 -- a text of one byte
-pub one-byte : (bytes : List ℕ) (a : ℕ) → length bytes ≡ room → Written (record { bytes = set bytes (room - 1) a; start = room - 1 }) (a ∷ [])
+pub one-byte : (bytes : List ℕ) (a : ℕ) → length bytes ≡ room → Contains (record { bytes = set bytes (room - 1) a; start = room - 1 }) (a ∷ [])
 one-byte bytes a e =
     record {
       text =
@@ -37,15 +37,15 @@ one-byte bytes a e =
       whole = length-set bytes (room - 1) a ∙ e;
     }
 
-pub written-length : (t : Text) (bytes : List ℕ) → Written t bytes → length bytes ≡ room - t .start
+pub written-length : (t : Text) (bytes : List ℕ) → Contains t bytes → length bytes ≡ room - t .start
 written-length t bytes w =
     let e : length (content t) ≡ length bytes = ap length (w .text) in
     omega (arith, e, length-drop (t .start) (t .bytes), w .whole)
 
 -- what `prefixed` asks
-pub may-grow : (t : Text) (bytes : List ℕ) → Written t bytes → length bytes < room → (0 < t .start) × Written t (content t)
+pub may-grow : (t : Text) (bytes : List ℕ) → Contains t bytes → length bytes < room → (0 < t .start) × Contains t (content t)
 may-grow t bytes w h =
     (omega (arith, written-length t bytes w), record { text = refl; within = w .within; whole = w .whole })
 
-pub written-as : (t : Text) (a b : List ℕ) → Written t a → a ≡ b → Written t b
+pub written-as : (t : Text) (a b : List ℕ) → Contains t a → a ≡ b → Contains t b
 written-as t a b w e = rw e at w

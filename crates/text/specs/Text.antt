@@ -69,7 +69,7 @@ abbrev pub content : Text → List ℕ
 content t = drop (t .start) (t .bytes)
 
 -- a short text holds these bytes
-pub record Written (t : Text) (bytes : List ℕ) : Type 0 where
+pub record Contains (t : Text) (bytes : List ℕ) : Type 0 where
   pub text : content t ≡ bytes
   pub within : t .start ≤ room
   pub whole : length (t .bytes) ≡ room

@@ -2,7 +2,7 @@
 ghost use mathlib.Core.Path.{_≡_};
 ghost use mathlib.Core.List.{_∷_};
 ghost use Prim.Native.Nat.{_+_, _<_};
-ghost use Rattle.text.specs.Text.{Written, content, decimal, signedDecimal, display, letters, letterA};
+ghost use Rattle.text.specs.Text.{Contains, content, decimal, signedDecimal, display, letters, letterA};
 
 // Room for every text: the longest, `x_` and 20 digits, has 22 bytes.
 pub const ROOM: usize = 24;
@@ -18,7 +18,7 @@ pub struct Text {
 
 // The decimal digits, written from the last to the first.
 pub fn decimal_text(n: u64) -> Text
-    ensures { λ r. ⌜ Written r (decimal n) ⌝ }
+    ensures { λ r. ⌜ Contains r (decimal n) ⌝ }
 {
     let mut bytes = [0u8; ROOM];
     let mut start = ROOM - 1;
@@ -34,8 +34,8 @@ pub fn decimal_text(n: u64) -> Text
 
 // One byte more in front.
 fn prefixed(byte: u8, text: Text) -> Text
-    requires { ⌜ (0 < text .start) × Written text (content text) ⌝ }
-    ensures { λ r. ⌜ Written r (byte ∷ content text) ⌝ }
+    requires { ⌜ (0 < text .start) × Contains text (content text) ⌝ }
+    ensures { λ r. ⌜ Contains r (byte ∷ content text) ⌝ }
 {
     let mut out = text;
     let at = out.start - 1;
@@ -45,7 +45,7 @@ fn prefixed(byte: u8, text: Text) -> Text
 }
 
 pub fn signed_text(z: i64) -> Text
-    ensures { λ r. ⌜ Written r (signedDecimal z) ⌝ }
+    ensures { λ r. ⌜ Contains r (signedDecimal z) ⌝ }
 {
     if z < 0 {
         return prefixed(b'-', decimal_text(literal::size(z)));
@@ -63,7 +63,7 @@ pub fn letter(v: u64) -> u8
 
 // `Var`'s Display.
 pub fn variable_text(v: u64) -> Text
-    ensures { λ r. ⌜ Written r (display v) ⌝ }
+    ensures { λ r. ⌜ Contains r (display v) ⌝ }
 {
     if v < LETTERS {
         let mut bytes = [0u8; ROOM];

@@ -1,6 +1,6 @@
 -- Printing: `precedence` and `node_fmt` of src/symbolic.rs, as bytes.
 -- Assumes nothing.
-use mathlib.Core.Bool.{Bool, true, false, _||_}
+use mathlib.Core.Bool.{Bool, true, false}
 use mathlib.Core.List.{List, [], _∷_, _++_}
 use Prim.Native.Nat.{ℕ, _+_}
 use lib.Dec.{ltb}
@@ -8,6 +8,7 @@ use Rattle.text.specs.Text.{bytes, decimal, signedDecimal, display}
 use Rattle.pool.specs.declared.node.Node.{Node}
 use Rattle.pool.specs.declared.node.Node.the-variants.{Empty, Variable, Lit, Add, Mul, Div, Exp, Log, Pow, Max}
 use Rattle.pool.specs.Fold.{under, foldNodes}
+use Rattle.pool.specs.Reaches.{reaches, isMax}
 
 -- fn precedence(&self): Variable | Lit | Exp | Log | Max => 10, Add => 0, Mul | Div => 1, Pow => 2
 abbrev pub precedence : Node → ℕ
@@ -78,24 +79,5 @@ abbrev pub textOf : (ℕ → Node) → ℕ → List ℕ
 textOf at root = foldNodes (λ around. []) textNode at root 0
 
 -- 10. "Printing meets 10 if any reachable node is Max."
-abbrev pub nodeHasMax : (ℕ → Bool) → Node → Bool
-nodeHasMax down Empty = false
-nodeHasMax down (Variable v) = false
-nodeHasMax down (Lit z) = false
-nodeHasMax down (Add a b) = down a || down b
-nodeHasMax down (Mul a b) = down a || down b
-nodeHasMax down (Div a b) = down a || down b
-nodeHasMax down (Exp a) = down a
-nodeHasMax down (Log a) = down a
-nodeHasMax down (Pow a e) = down a
-nodeHasMax down (Max a b) = true
-
 abbrev pub hasMax : (ℕ → Node) → ℕ → Bool
-hasMax at = foldNodes false nodeHasMax at
-
-abbrev pub hasMaxBelow : (ℕ → Node) → ℕ → ℕ → Bool
-hasMaxBelow at = under false (hasMax at)
-
--- 19. "a text has more than 65,535 bytes"
-abbrev pub longestText : ℕ
-longestText = 65535
+hasMax at root = reaches isMax at root

@@ -5,11 +5,12 @@ use mathlib.Core.List.{List, [], _∷_, _++_, map}
 use Prim.Native.Nat.{ℕ}
 use lib.IntN.{pos, negsuc}
 use lib.ListN.{replicate}
+use Rattle.low_bytes.specs.LowBytes.{lowBytes}
 use Rattle.pool.specs.Nodes.{decode}
 use Rattle.pool.specs.Pool.{nodeIn}
 use Rattle.pool.specs.declared.node.Node.the-variants.{Variable, Lit, Add, Mul, Div, Exp, Log, Pow, Max}
 use Rattle.shape.specs.Order.{walk, numbered, written}
-use Rattle.shape.specs.File.{bytes, fileOf, writtenFile}
+use Rattle.shape.specs.File.{fileOf, writtenFile}
 
 -- ---- the table of kinds
 
@@ -30,12 +31,12 @@ minus-two = refl
 -- ---- bytes
 
 -- "32 bits, low byte first" and "8 bytes, low byte first"
-pub low-byte-first : (bytes 4 0x0403_0201 ≡ 1 ∷ 2 ∷ 3 ∷ 4 ∷ []) × (bytes 8 0x0807_0605_0403_0201 ≡ 1 ∷ 2 ∷ 3 ∷ 4 ∷ 5 ∷ 6 ∷ 7 ∷ 8 ∷ [])
+pub low-byte-first : (lowBytes 4 0x0403_0201 ≡ 1 ∷ 2 ∷ 3 ∷ 4 ∷ []) × (lowBytes 8 0x0807_0605_0403_0201 ≡ 1 ∷ 2 ∷ 3 ∷ 4 ∷ 5 ∷ 6 ∷ 7 ∷ 8 ∷ [])
 low-byte-first = (refl, refl)
 
 -- x258 and a node of this kind over it: x258 is entry 0
 abbrev overOnly : ℕ → ℕ → List ℕ
-overOnly kind w = 2 ∷ 0 ∷ 0 ∷ 0 ∷ 1 ∷ kind ∷ (2 ∷ 1 ∷ replicate 6 0) ++ bytes 8 w
+overOnly kind w = 2 ∷ 0 ∷ 0 ∷ 0 ∷ 1 ∷ kind ∷ (2 ∷ 1 ∷ replicate 6 0) ++ lowBytes 8 w
 
 -- an Exp and a Log, whose word is the argument, and a fifth power
 pub exp-and-log-files : map (λ kind. writtenFile (2 ∷ 1 ∷ kind ∷ []) (0 ∷ 258 ∷ 1 ∷ []) 2) (6 ∷ 7 ∷ []) ≡ overOnly 6 0 ∷ overOnly 7 0 ∷ []

@@ -5,7 +5,7 @@ use native.Mathlib.Omega.{arith}
 use mathlib.Core.Path.{_≡_, refl, _∙_}
 use Prim.Native.Nat.{_+_, _-_}
 use lib.ListN.{length}
-use Rattle.walks.specs.Print.{longestText}
+use Rattle.low_bytes.specs.Output.{longestText}
 use Rattle.sheet.proofs.print_page.Statement.{statement}
 use Rattle.sheet.proofs.print_page.Tie as tie
 use Rattle.sheet.proofs.print_page.Reads as reads

@@ -1,7 +1,7 @@
 -- `print::output::write_exponent` meets its contract: the short text is the definition's.
 -- Assumes nothing.
 use borrow.Author.Needs.{needs}
-use Rattle.print.proofs.Writing.{written-as}
+use Rattle.low_bytes.proofs.Writing.{written-as}
 use Rattle.print.proofs.output.write_exponent.Statement.{statement}
 use Rattle.print.proofs.output.write_exponent.Tie as tie
 

@@ -4,7 +4,7 @@ use borrow.Author.Needs.{needs}
 use mathlib.Core.Path.{ap, _∙_}
 use mir.Syntax.{w64}
 use mir.ValLaws.{toZ-ofZ}
-use Rattle.print.proofs.Writing.{written-as}
+use Rattle.low_bytes.proofs.Writing.{written-as}
 use Rattle.text.specs.Text.{signedDecimal}
 use Rattle.print.proofs.output.write_literal.Statement.{statement}
 use Rattle.print.proofs.output.write_literal.Tie as tie

@@ -4,8 +4,8 @@ use mathlib.Core.Path.{ap, _∙_}
 use mathlib.Core.List.{[], _∷_}
 use Prim.Native.Nat.{ℕ}
 use borrow.Author.Needs.{needs}
+use Rattle.low_bytes.proofs.Writing.{written-as}
 use Rattle.text.proofs.Forms.{a-letter}
-use Rattle.print.proofs.Writing.{written-as}
 use Rattle.print.proofs.output.write_variable.Statement.{statement}
 use Rattle.print.proofs.output.write_variable.Tie as tie
 

@@ -7,7 +7,7 @@ use mir.Syntax.{w64}
 use mir.ValLaws.{toZ-ofZ}
 use mir.Val.{toZ, ofZ}
 use Prim.Native.Nat.{ℕ, _+_, _*_, _<_}
-use Rattle.print.proofs.Writing.{three-written, none-written, past-longest, stays-countable}
+use Rattle.low_bytes.proofs.Writing.{three-written, none-written, past-longest, stays-countable}
 use Rattle.print.proofs.Fmt.{for-node, not-smaller, with-brackets, without-brackets}
 use borrow.Fn.Kinds.{In}
 use borrow.Fn.PlainCycle.{Measures, is, falls, and}

@@ -1,7 +1,7 @@
 -- `print::whole::text_length` meets its contract: it is the position after the text, written from 0 on.
 -- Assumes nothing.
 use borrow.Author.Needs.{needs}
-use Rattle.print.proofs.Writing.{counted}
+use Rattle.low_bytes.proofs.Writing.{counted}
 use Rattle.print.proofs.whole.text_length.Statement.{statement}
 use Rattle.print.proofs.whole.text_length.Tie as tie
 

@@ -5,8 +5,9 @@ use native.Mathlib.Omega.{arith}
 use mathlib.Core.Path.{_≡_}
 use Prim.Native.Nat.{ℕ, _-_, _≤_, _<_}
 use lib.ListN.{length, getD}
+use Rattle.low_bytes.specs.Output.{longestText}
 use Rattle.pool.specs.Pool.{nodeIn}
-use Rattle.walks.specs.Print.{textOf, longestText}
+use Rattle.walks.specs.Print.{textOf}
 use Rattle.taylor_base.specs.Answers.{terms}
 use Rattle.sheet_page.proofs.Whole.{is-long, is-short}
 use Rattle.sheet_lines.proofs.Pages.{all-are-short, one-is-long, one-more-short}

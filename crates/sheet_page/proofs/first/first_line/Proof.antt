@@ -1,7 +1,7 @@
 -- `sheet_page::first::first_line` meets its contract: one text after the other.
 -- Assumes nothing.
 use borrow.Author.Needs.{needs}
-use Rattle.print.proofs.Writing.{written-after}
+use Rattle.low_bytes.proofs.Writing.{written-after}
 use Rattle.sheet_page.proofs.first.first_line.Statement.{statement}
 use Rattle.sheet_page.proofs.first.first_line.Tie as tie
 

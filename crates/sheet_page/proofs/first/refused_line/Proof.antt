@@ -1,7 +1,7 @@
 -- `sheet_page::first::refused_line` meets its contract: one text after the other.
 -- Assumes nothing.
 use borrow.Author.Needs.{needs}
-use Rattle.print.proofs.Writing.{written-after}
+use Rattle.low_bytes.proofs.Writing.{written-after}
 use Rattle.sheet_page.proofs.first.refused_line.Statement.{statement}
 use Rattle.sheet_page.proofs.first.refused_line.Tie as tie
 

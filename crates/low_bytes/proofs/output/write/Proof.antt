@@ -1,13 +1,13 @@
--- `print::output::write` meets its contract: after each turn the bytes that were passed are written.
+-- `low_bytes::output::write` meets its contract: after each turn the bytes that were passed are written.
 -- Assumes nothing.
 use native.Mathlib.Omega.{arith}
 use mathlib.Core.Path.{_≡_, refl, _∙_}
 use Prim.Native.Nat.{_≤_, _-_}
 use lib.ListN.{length, take}
-use Rattle.print.specs.Output.{Wrote}
-use Rattle.print.proofs.Writing.{none-written, one-byte-more, all-bytes, stays-countable}
-use Rattle.print.proofs.output.write.Statement.{statement}
-use Rattle.print.proofs.output.write.Tie as tie
+use Rattle.low_bytes.specs.Output.{Wrote}
+use Rattle.low_bytes.proofs.Writing.{none-written, one-byte-more, all-bytes, stays-countable}
+use Rattle.low_bytes.proofs.output.write.Statement.{statement}
+use Rattle.low_bytes.proofs.output.write.Tie as tie
 
 abbrev Inv-loop : tie.InvT-loop
 Inv-loop out₀ at bytes to₀ i₀ out to i = (i ≤ length bytes) × ((length out ≡ length out₀) × Wrote at out₀ (take i bytes) to out)

@@ -1,10 +1,10 @@
--- `node_read::number_at` meets its contract: each turn takes one more byte in front, and eight of them fit.
+-- `low_bytes::number::number_at` meets its contract: each turn takes one more byte in front, and eight of them fit.
 -- Assumes nothing.
 use Prim.Native.Nat.{_+_, _-_}
 use native.Mathlib.Omega.{arith}
-use Rattle.node_read.proofs.LowFirst.{NumberRead, nothing-read, byte-read, room-for-a-byte, all-read}
-use Rattle.node_read.proofs.number_at.Statement.{statement}
-use Rattle.node_read.proofs.number_at.Tie as tie
+use Rattle.low_bytes.proofs.LowFirst.{NumberRead, nothing-read, byte-read, room-for-a-byte, all-read}
+use Rattle.low_bytes.proofs.number.number_at.Statement.{statement}
+use Rattle.low_bytes.proofs.number.number_at.Tie as tie
 
 abbrev Inv-loop : tie.InvT-loop
 Inv-loop bytes at k number₀ left₀ number left = NumberRead bytes at k number left

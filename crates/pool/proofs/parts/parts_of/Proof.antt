@@ -1,8 +1,8 @@
--- `node_walk::parts_of` meets its contract: the table of kinds, arm by arm.
+-- `pool::parts::parts_of` meets its contract: the table of kinds, arm by arm.
 -- Assumes nothing.
 use borrow.Author.Needs.{needs}
-use Rattle.node_walk.proofs.parts_of.Statement.{statement}
-use Rattle.node_walk.proofs.parts_of.Tie as tie
+use Rattle.pool.proofs.parts.parts_of.Statement.{statement}
+use Rattle.pool.proofs.parts.parts_of.Tie as tie
 
 enum-told : tie.Need-enum-told
 enum-told c = search needs

@@ -1,10 +1,10 @@
--- `node_write::put_bytes` meets its contract: what is left to put makes the whole, turn after turn.
+-- `low_bytes::number::put_bytes` meets its contract: what is left to put makes the whole, turn after turn.
 -- Assumes nothing.
 use Prim.Native.Nat.{_-_}
 use native.Mathlib.Omega.{arith}
-use Rattle.node_write.proofs.Putting.{BytesPut, no-bytes-put, byte-put, all-bytes-put}
-use Rattle.node_write.proofs.put_bytes.Statement.{statement}
-use Rattle.node_write.proofs.put_bytes.Tie as tie
+use Rattle.low_bytes.proofs.BytesPut.{BytesPut, no-bytes-put, byte-put, all-bytes-put}
+use Rattle.low_bytes.proofs.number.put_bytes.Statement.{statement}
+use Rattle.low_bytes.proofs.number.put_bytes.Tie as tie
 
 abbrev Inv-loop : tie.InvT-loop
 Inv-loop out₀ at k x rest₀ i₀ out rest i = BytesPut out₀ at k x out rest i

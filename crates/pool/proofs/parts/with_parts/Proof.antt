@@ -1,8 +1,8 @@
--- `node_walk::with_parts` meets its contract: the table of kinds, arm by arm.
+-- `pool::parts::with_parts` meets its contract: the table of kinds, arm by arm.
 -- Assumes nothing.
 use borrow.Author.Needs.{needs}
-use Rattle.node_walk.proofs.with_parts.Statement.{statement}
-use Rattle.node_walk.proofs.with_parts.Tie as tie
+use Rattle.pool.proofs.parts.with_parts.Statement.{statement}
+use Rattle.pool.proofs.parts.with_parts.Tie as tie
 
 enum-told : tie.Need-enum-told
 enum-told c = search needs

@@ -1,9 +1,9 @@
--- `print::output::put` meets its contract: a byte is stored, or counted alone where it lies past the end of the output.
+-- `low_bytes::output::put` meets its contract: a byte is stored, or counted alone where it lies past the end of the output.
 -- Assumes nothing.
 use borrow.Author.Needs.{needs}
-use Rattle.print.proofs.Writing.{past-longest, byte-written, byte-counted}
-use Rattle.print.proofs.output.put.Statement.{statement}
-use Rattle.print.proofs.output.put.Tie as tie
+use Rattle.low_bytes.proofs.Writing.{past-longest, byte-written, byte-counted}
+use Rattle.low_bytes.proofs.output.put.Statement.{statement}
+use Rattle.low_bytes.proofs.output.put.Tie as tie
 
 returns : tie.Need-returns
 returns c = past-longest _ _ _ (c .before .pre) (c .if1 .taken)

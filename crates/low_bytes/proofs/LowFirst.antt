@@ -6,9 +6,8 @@ use Prim.Native.Nat.{ℕ, suc, _+_, _-_, _*_, _^_, _<_, _≤_}
 use native.Mathlib.Nat.{lt-of-lt-of-le, pow-le-pow-right}
 use native.Mathlib.Omega.{arith}
 use lib.ListN.{getD}
-use Rattle.shape.specs.Demand.{AreBytes}
-use Rattle.shape.specs.File.{numberAt}
-use Rattle.shape.proofs.Bytes.{number-fits}
+use Rattle.low_bytes.specs.LowBytes.{numberAt, AreBytes}
+use Rattle.low_bytes.proofs.Bytes.{number-fits}
 
 -- all but the first `left` of k bytes are read
 pub record NumberRead (bs : List ℕ) (at k number left : ℕ) : Type 0 where

@@ -1,0 +1,4 @@
+pub mod Bytes
+pub mod LowFirst
+pub mod BytesPut
+pub mod Writing

@@ -1,0 +1,2 @@
+pub mod LowBytes
+pub mod Output

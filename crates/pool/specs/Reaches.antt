@@ -1,0 +1,28 @@
+-- Whether a node that meets a test is reached: the root, or one that a part of a reached node is.
+-- Assumes nothing.
+use mathlib.Core.Bool.{Bool, true, false, _||_}
+use mathlib.Core.List.{List, [], _∷_}
+use Prim.Native.Nat.{ℕ}
+use lib.Dec.{eqb}
+use Rattle.pool.specs.declared.node.Node.{Node}
+use Rattle.pool.specs.Nodes.{kindOf, parts}
+use Rattle.pool.specs.Fold.{foldNodes}
+
+-- one of some parts, by what `down` says of each
+abbrev pub some : (ℕ → Bool) → List ℕ → Bool
+some down [] = false
+some down (a ∷ more) = down a || some down more
+
+abbrev pub reachesAt : (Node → Bool) → (ℕ → Bool) → Node → Bool
+reachesAt test down n = test n || some down (parts n)
+
+abbrev pub reaches : (Node → Bool) → (ℕ → Node) → ℕ → Bool
+reaches test at root = foldNodes false (reachesAt test) at root
+
+-- 9: Max
+abbrev pub isMax : Node → Bool
+isMax n = eqb (kindOf n) 9
+
+-- 6, 7: Exp, Log
+abbrev pub isExpOrLog : Node → Bool
+isExpOrLog n = eqb (kindOf n) 6 || eqb (kindOf n) 7
