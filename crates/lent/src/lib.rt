@@ -8,9 +8,10 @@ ghost use Prim.Native.Nat.{_≤_};
 ghost use Rattle.pool.specs.Pool.{limit, isPool};
 ghost use Rattle.pool.specs.Made.{made};
 ghost use Rattle.pool.specs.Nodes.{allBelow, greatestVariable};
-ghost use Rattle.constructor_laws.specs.Grown.{SameBut, Grows};
+ghost use Rattle.constructor_laws.specs.Grown.{SameBut};
 ghost use Rattle.lent.specs.Lent.{TakenIn};
-ghost use Rattle.lent.specs.Call.{left, leaves, lentPool};
+ghost use Rattle.lent.specs.Call.{returned, leaves, Appended};
+ghost use Rattle.lent.specs.declared.Answer.the-variants.{Node, Refused};
 
 mod copies;
 mod rules;
@@ -108,8 +109,8 @@ pub fn finish(
     result: Made,
 ) -> Answer
     requires { ⌜ isPool (now kinds) (now words) (now count) ≡ true ⌝ }
-    requires { ⌜ Grows (lentPool (now kinds) (now words) (now count)) (made result (now k) (now w)) ⌝ }
-    ensures { λ r. ⌜ left r (now (kinds .exit)) (now (words .exit)) (now (count .exit)) ≡ leaves (now (kinds .entry)) (now (words .entry)) (now (count .entry)) (made result (now (k .entry)) (now (w .entry))) ⌝ }
+    requires { ⌜ Appended (now kinds) (now words) (now count) (made result (now k) (now w)) ⌝ }
+    ensures { λ r. ⌜ returned r (now (kinds .exit)) (now (words .exit)) (now (count .exit)) ≡ leaves Node Refused (now (kinds .entry)) (now (words .entry)) (now (count .entry)) (made result (now (k .entry)) (now (w .entry))) ⌝ }
 {
     match result {
         Made::Node { node, room } => {

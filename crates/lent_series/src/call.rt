@@ -2,10 +2,9 @@
 ghost use mathlib.Core.Path.{_≡_};
 ghost use mathlib.Core.Bool.{true};
 ghost use Rattle.pool.specs.Pool.{isPool};
-ghost use Rattle.lent.specs.Call.{lentPool};
+ghost use Rattle.lent.specs.Call.{returned, leaves, Appended};
 ghost use Rattle.taylor_base.specs.Answers.{Tidy, expanded};
-ghost use Rattle.taylor_laws.specs.Grown.{Grows};
-ghost use Rattle.lent_series.specs.Call.{statusMade, refusal, left, leaves};
+ghost use Rattle.lent_series.specs.Call.{statusMade, accepted, refusedOutcome};
 use crate::series::Series;
 use crate::series::series_of;
 use lent::Answer;
@@ -23,7 +22,7 @@ pub struct Outcome {
 
 // A refusal.
 pub fn refused(number: u32) -> Outcome
-    ensures { λ r. ⌜ r ≡ refusal number ⌝ }
+    ensures { λ r. ⌜ r ≡ refusedOutcome number ⌝ }
 {
     Outcome {
         number,
@@ -54,9 +53,9 @@ pub fn finish(
     result: Expanded,
 ) -> Outcome
     requires { ⌜ isPool (now kinds) (now words) (now count) ≡ true ⌝ }
-    requires { ⌜ Grows (lentPool (now kinds) (now words) (now count)) (expanded result (now k) (now w)) ⌝ }
+    requires { ⌜ Appended (now kinds) (now words) (now count) (expanded result (now k) (now w)) ⌝ }
     requires { ⌜ Tidy (result .expansion) ⌝ }
-    ensures { λ r. ⌜ left r (now (kinds .exit)) (now (words .exit)) (now (count .exit)) ≡ leaves (now (kinds .entry)) (now (words .entry)) (now (count .entry)) (expanded result (now (k .entry)) (now (w .entry))) ⌝ }
+    ensures { λ r. ⌜ returned r (now (kinds .exit)) (now (words .exit)) (now (count .exit)) ≡ leaves accepted refusedOutcome (now (kinds .entry)) (now (words .entry)) (now (count .entry)) (expanded result (now (k .entry)) (now (w .entry))) ⌝ }
 {
     let status = result.status;
     let made = made_of(status);

@@ -4,11 +4,11 @@ use mathlib.Core.Path.{_≡_, ap, _∙_}
 use borrow.Author.Needs.{needs}
 use Rattle.pool.specs.declared.table.Made as made-node
 use Rattle.pool.specs.Made.{made}
-use Rattle.lent.specs.Call.{lentPool}
-use Rattle.lent.specs.Call as lent
+use Rattle.lent.specs.Call.{leaves}
+use Rattle.lent.specs.declared.Answer.the-variants.{Node, Refused}
 use Rattle.taylor_base.specs.Answers.{expansionOf}
 use Rattle.lent_series.specs.Call.{statusMade}
-use Rattle.lent_series.proofs.Calling.{grows-made, accepted-left, refused-left}
+use Rattle.lent_series.proofs.Calling.{appended-made, accepted-returned, refused-returned}
 use Rattle.lent_series.proofs.call.finish.Statement.{statement}
 use Rattle.lent_series.proofs.call.finish.Tie as tie
 
@@ -17,8 +17,9 @@ made-of-requires c κs = search needs
 
 finish-requires : tie.Need-finish-requires
 finish-requires c κs =
-    let a = c .before .before .before .before .before .before .args in
-    (c .before .before .before .before .before .before .pre .0, rw (c .before .before .before .made-of .ensures) (grows-made (lentPool (a .kinds .now) (a .words .now) (a .count .now)) (a .result .status) (a .k .now) (a .w .now) (expansionOf (a .result .expansion)) (c .before .before .before .before .before .before .pre .1 .0)))
+    let start = c .before .before .before .before .before .before in
+    let a = start .args in
+    (start .pre .0, rw (c .before .before .before .made-of .ensures) (appended-made (a .kinds .now) (a .words .now) (a .count .now) (a .k .now) (a .w .now) (expansionOf (a .result .expansion)) (a .result .status) (start .pre .1 .0)))
 
 enum-told : tie.Need-enum-told
 enum-told c = search needs
@@ -40,12 +41,13 @@ same-length-2 c = search needs
 
 returns : tie.Need-returns
 returns c =
-    let a = c .before .before .before .before .before .before .before .before .before .before .before .before .before .before .args in
-    let done = c .before .before .before .before .before .before .before .finish in
-    let m : c .before .before .before .before .before .before .before .before .before .before .before .made-of .result ≡ statusMade (a .result .status) = c .before .before .before .before .before .before .before .before .before .before .before .made-of .ensures in
+    let done = c .before .before .before .before .before .before .before in
+    let status = done .before .before .before .before in
+    let a = status .before .before .before .args in
+    let m : status .made-of .result ≡ statusMade (a .result .status) = status .made-of .ensures in
     rw (c .series-of .ensures)
-    (accepted-left (a .kinds .now) (a .words .now) (a .count .now) (a .k .now) (a .w .now) (expansionOf (a .result .expansion)) (a .result .status)
-    (done .ensures ∙ ap (λ (r : made-node.Made). lent.leaves (a .kinds .now) (a .words .now) (a .count .now) (made r (a .k .now) (a .w .now))) m) (c .before .enum-told .given .1))
+    (accepted-returned (a .kinds .now) (a .words .now) (a .count .now) (a .k .now) (a .w .now) (expansionOf (a .result .expansion)) (a .result .status)
+    (done .finish .ensures ∙ ap (λ (r : made-node.Made). leaves Node Refused (a .kinds .now) (a .words .now) (a .count .now) (made r (a .k .now) (a .w .now))) m) (c .before .enum-told .given .1))
 
 same-length-3 : tie.Need-same-length-3
 same-length-3 c = search needs
@@ -55,12 +57,13 @@ same-length-4 c = search needs
 
 returns-2 : tie.Need-returns-2
 returns-2 c =
-    let a = c .before .before .before .before .before .before .before .before .before .before .before .before .before .before .before .args in
-    let done = c .before .before .before .before .before .before .before .before .finish in
-    let m : c .before .before .before .before .before .before .before .before .before .before .before .before .made-of .result ≡ statusMade (a .result .status) = c .before .before .before .before .before .before .before .before .before .before .before .before .made-of .ensures in
+    let done = c .before .before .before .before .before .before .before .before in
+    let status = done .before .before .before .before in
+    let a = status .before .before .before .args in
+    let m : status .made-of .result ≡ statusMade (a .result .status) = status .made-of .ensures in
     rw (c .refused .ensures)
-    (refused-left (a .kinds .now) (a .words .now) (a .count .now) (a .k .now) (a .w .now) (expansionOf (a .result .expansion)) (a .result .status)
-    (done .ensures ∙ ap (λ (r : made-node.Made). lent.leaves (a .kinds .now) (a .words .now) (a .count .now) (made r (a .k .now) (a .w .now))) m) (c .before .before .answer .given .1))
+    (refused-returned (a .kinds .now) (a .words .now) (a .count .now) (a .k .now) (a .w .now) (expansionOf (a .result .expansion)) (a .result .status)
+    (done .finish .ensures ∙ ap (λ (r : made-node.Made). leaves Node Refused (a .kinds .now) (a .words .now) (a .count .now) (made r (a .k .now) (a .w .now))) m) (c .before .before .answer .given .1))
 
 pub finish-spec : {M : Type 1} → statement M
 finish-spec =
