@@ -1,6 +1,6 @@
 // The leaves: a literal and a variable.
 ghost use mathlib.Core.Path.{_≡_};
-ghost use Rattle.lent.specs.Call.{left, onPool};
+ghost use Rattle.lent.specs.Call.{returned, onPool};
 ghost use Rattle.engine.specs.Build.{leafWork, litWork, varWork};
 use lent::Answer;
 use lent::is_variable;
@@ -16,7 +16,7 @@ fn on_leaf(
     refusal: u32,
     node: Node,
 ) -> Answer
-    ensures { λ r. ⌜ left r (now (kinds .exit)) (now (words .exit)) (now (count .exit)) ≡ onPool (leafWork allowed refusal node) (now (kinds .entry)) (now (words .entry)) (now (count .entry)) ⌝ }
+    ensures { λ r. ⌜ returned r (now (kinds .exit)) (now (words .exit)) (now (count .exit)) ≡ onPool (leafWork allowed refusal node) (now (kinds .entry)) (now (words .entry)) (now (count .entry)) ⌝ }
 {
     let mut k = [0u8; LIMIT];
     let mut w = [0u64; LIMIT];
@@ -34,7 +34,7 @@ fn on_leaf(
 
 // A literal becomes a node.
 pub fn lit(kinds: &mut [u8], words: &mut [u64], count: &mut u64, value: i64) -> Answer
-    ensures { λ r. ⌜ left r (now (kinds .exit)) (now (words .exit)) (now (count .exit)) ≡ onPool (litWork value) (now (kinds .entry)) (now (words .entry)) (now (count .entry)) ⌝ }
+    ensures { λ r. ⌜ returned r (now (kinds .exit)) (now (words .exit)) (now (count .exit)) ≡ onPool (litWork value) (now (kinds .entry)) (now (words .entry)) (now (count .entry)) ⌝ }
 {
     let allowed = literal::is_literal(value);
     let node = Node::Lit(value);
@@ -43,7 +43,7 @@ pub fn lit(kinds: &mut [u8], words: &mut [u64], count: &mut u64, value: i64) -> 
 
 // A variable becomes a node. No node is made of a number that is refused: it may be too large for one.
 pub fn var(kinds: &mut [u8], words: &mut [u64], count: &mut u64, number: u64) -> Answer
-    ensures { λ r. ⌜ left r (now (kinds .exit)) (now (words .exit)) (now (count .exit)) ≡ onPool (varWork number) (now (kinds .entry)) (now (words .entry)) (now (count .entry)) ⌝ }
+    ensures { λ r. ⌜ returned r (now (kinds .exit)) (now (words .exit)) (now (count .exit)) ≡ onPool (varWork number) (now (kinds .entry)) (now (words .entry)) (now (count .entry)) ⌝ }
 {
     if is_variable(number) {
         let node = Node::Variable(number as u32);

@@ -1,8 +1,9 @@
 // `taylor_coeffs` and `taylor_coeffs_at` as calls from outside.
 ghost use mathlib.Core.Path.{_≡_};
+ghost use Rattle.lent.specs.Call.{returned};
 ghost use Rattle.taylor.specs.Expand.{none, point};
 ghost use Rattle.expand.specs.Points.{pointOf};
-ghost use Rattle.lent_series.specs.Call.{left, onPool};
+ghost use Rattle.lent_series.specs.Call.{seriesOnPool};
 ghost use Rattle.engine_expand.specs.Expressions.{expandWork};
 use expand::Point;
 use expand::is_point;
@@ -21,7 +22,7 @@ fn on_expression(
     x: Point,
     order: u64,
 ) -> Outcome
-    ensures { λ r. ⌜ left r (now (kinds .exit)) (now (words .exit)) (now (count .exit)) ≡ onPool (expandWork root var (pointOf x) order) (now (kinds .entry)) (now (words .entry)) (now (count .entry)) ⌝ }
+    ensures { λ r. ⌜ returned r (now (kinds .exit)) (now (words .exit)) (now (count .exit)) ≡ seriesOnPool (expandWork root var (pointOf x) order) (now (kinds .entry)) (now (words .entry)) (now (count .entry)) ⌝ }
 {
     let mut k = [0u8; LIMIT];
     let mut w = [0u64; LIMIT];
@@ -63,7 +64,7 @@ pub fn coeffs(
     var: u64,
     order: u64,
 ) -> Outcome
-    ensures { λ r. ⌜ left r (now (kinds .exit)) (now (words .exit)) (now (count .exit)) ≡ onPool (expandWork root var none order) (now (kinds .entry)) (now (words .entry)) (now (count .entry)) ⌝ }
+    ensures { λ r. ⌜ returned r (now (kinds .exit)) (now (words .exit)) (now (count .exit)) ≡ seriesOnPool (expandWork root var none order) (now (kinds .entry)) (now (words .entry)) (now (count .entry)) ⌝ }
 {
     on_expression(kinds, words, count, root, var, Point::None, order)
 }
@@ -78,7 +79,7 @@ pub fn coeffs_at(
     z: i64,
     order: u64,
 ) -> Outcome
-    ensures { λ r. ⌜ left r (now (kinds .exit)) (now (words .exit)) (now (count .exit)) ≡ onPool (expandWork root var (point z) order) (now (kinds .entry)) (now (words .entry)) (now (count .entry)) ⌝ }
+    ensures { λ r. ⌜ returned r (now (kinds .exit)) (now (words .exit)) (now (count .exit)) ≡ seriesOnPool (expandWork root var (point z) order) (now (kinds .entry)) (now (words .entry)) (now (count .entry)) ⌝ }
 {
     on_expression(kinds, words, count, root, var, Point::At(z), order)
 }

@@ -30,24 +30,24 @@ lengthsOk binary.Div s t = lengthOk s && lengthOk t
 lengthsOk binary.Max s t = lengthOk s && lengthOk t
 lengthsOk binary.Subst s t = (lengthOk s && lengthOk t) && agree s t
 
-abbrev pub onTwo : Binary → Series → Series → Work Expansion
-onTwo op s t = givenTwo s t (lengthsOk op s t) (binaryWork op (given s) (given t))
+abbrev pub onExpansions : Binary → Series → Series → Work Expansion
+onExpansions op s t = givenTwo s t (lengthsOk op s t) (binaryWork op (given s) (given t))
 
 -- ---- the calls by name
 abbrev pub addCall : Series → Series → Work Expansion
-addCall s t = onTwo binary.Add s t
+addCall s t = onExpansions binary.Add s t
 
 abbrev pub subCall : Series → Series → Work Expansion
-subCall s t = onTwo binary.Sub s t
+subCall s t = onExpansions binary.Sub s t
 
 abbrev pub mulCall : Series → Series → Work Expansion
-mulCall s t = onTwo binary.Mul s t
+mulCall s t = onExpansions binary.Mul s t
 
 abbrev pub divCall : Series → Series → Work Expansion
-divCall s t = onTwo binary.Div s t
+divCall s t = onExpansions binary.Div s t
 
 abbrev pub maxCall : Series → Series → Work Expansion
-maxCall s t = onTwo binary.Max s t
+maxCall s t = onExpansions binary.Max s t
 
 abbrev pub substCall : Series → Series → Work Expansion
-substCall s t = onTwo binary.Subst s t
+substCall s t = onExpansions binary.Subst s t

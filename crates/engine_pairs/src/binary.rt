@@ -3,10 +3,11 @@ ghost use mathlib.Core.Path.{_≡_};
 ghost use mathlib.Core.Bool.{_&&_};
 ghost use Rattle.pool.specs.Made.{poolOf};
 ghost use Rattle.pool.specs.Nodes.{allBelow};
+ghost use Rattle.lent.specs.Call.{returned};
 ghost use Rattle.taylor_base.specs.Answers.{expansionOf, Given, Answers};
 ghost use Rattle.lent_series.specs.Series.{nodesOf};
-ghost use Rattle.lent_series.specs.Call.{left, onPool};
-ghost use Rattle.engine_pairs.specs.Pairs.{binaryWork, agree, lengthsOk, onTwo, addCall, subCall, mulCall, divCall, maxCall, substCall};
+ghost use Rattle.lent_series.specs.Call.{seriesOnPool};
+ghost use Rattle.engine_pairs.specs.Pairs.{binaryWork, agree, lengthsOk, onExpansions, addCall, subCall, mulCall, divCall, maxCall, substCall};
 use lent_series::ENDLESS;
 use lent_series::Outcome;
 use lent_series::Series;
@@ -99,7 +100,7 @@ fn on_two(
     s: Series,
     t: Series,
 ) -> Outcome
-    ensures { λ r. ⌜ left r (now (kinds .exit)) (now (words .exit)) (now (count .exit)) ≡ onPool (onTwo op s t) (now (kinds .entry)) (now (words .entry)) (now (count .entry)) ⌝ }
+    ensures { λ r. ⌜ returned r (now (kinds .exit)) (now (words .exit)) (now (count .exit)) ≡ seriesOnPool (onExpansions op s t) (now (kinds .entry)) (now (words .entry)) (now (count .entry)) ⌝ }
 {
     let mut k = [0u8; LIMIT];
     let mut w = [0u64; LIMIT];
@@ -128,7 +129,7 @@ pub fn add(
     lhs: Series,
     rhs: Series,
 ) -> Outcome
-    ensures { λ r. ⌜ left r (now (kinds .exit)) (now (words .exit)) (now (count .exit)) ≡ onPool (addCall lhs rhs) (now (kinds .entry)) (now (words .entry)) (now (count .entry)) ⌝ }
+    ensures { λ r. ⌜ returned r (now (kinds .exit)) (now (words .exit)) (now (count .exit)) ≡ seriesOnPool (addCall lhs rhs) (now (kinds .entry)) (now (words .entry)) (now (count .entry)) ⌝ }
 {
     on_two(kinds, words, count, Binary::Add, lhs, rhs)
 }
@@ -141,7 +142,7 @@ pub fn sub(
     lhs: Series,
     rhs: Series,
 ) -> Outcome
-    ensures { λ r. ⌜ left r (now (kinds .exit)) (now (words .exit)) (now (count .exit)) ≡ onPool (subCall lhs rhs) (now (kinds .entry)) (now (words .entry)) (now (count .entry)) ⌝ }
+    ensures { λ r. ⌜ returned r (now (kinds .exit)) (now (words .exit)) (now (count .exit)) ≡ seriesOnPool (subCall lhs rhs) (now (kinds .entry)) (now (words .entry)) (now (count .entry)) ⌝ }
 {
     on_two(kinds, words, count, Binary::Sub, lhs, rhs)
 }
@@ -154,7 +155,7 @@ pub fn mul(
     lhs: Series,
     rhs: Series,
 ) -> Outcome
-    ensures { λ r. ⌜ left r (now (kinds .exit)) (now (words .exit)) (now (count .exit)) ≡ onPool (mulCall lhs rhs) (now (kinds .entry)) (now (words .entry)) (now (count .entry)) ⌝ }
+    ensures { λ r. ⌜ returned r (now (kinds .exit)) (now (words .exit)) (now (count .exit)) ≡ seriesOnPool (mulCall lhs rhs) (now (kinds .entry)) (now (words .entry)) (now (count .entry)) ⌝ }
 {
     on_two(kinds, words, count, Binary::Mul, lhs, rhs)
 }
@@ -167,7 +168,7 @@ pub fn div(
     lhs: Series,
     rhs: Series,
 ) -> Outcome
-    ensures { λ r. ⌜ left r (now (kinds .exit)) (now (words .exit)) (now (count .exit)) ≡ onPool (divCall lhs rhs) (now (kinds .entry)) (now (words .entry)) (now (count .entry)) ⌝ }
+    ensures { λ r. ⌜ returned r (now (kinds .exit)) (now (words .exit)) (now (count .exit)) ≡ seriesOnPool (divCall lhs rhs) (now (kinds .entry)) (now (words .entry)) (now (count .entry)) ⌝ }
 {
     on_two(kinds, words, count, Binary::Div, lhs, rhs)
 }
@@ -180,7 +181,7 @@ pub fn max(
     lhs: Series,
     rhs: Series,
 ) -> Outcome
-    ensures { λ r. ⌜ left r (now (kinds .exit)) (now (words .exit)) (now (count .exit)) ≡ onPool (maxCall lhs rhs) (now (kinds .entry)) (now (words .entry)) (now (count .entry)) ⌝ }
+    ensures { λ r. ⌜ returned r (now (kinds .exit)) (now (words .exit)) (now (count .exit)) ≡ seriesOnPool (maxCall lhs rhs) (now (kinds .entry)) (now (words .entry)) (now (count .entry)) ⌝ }
 {
     on_two(kinds, words, count, Binary::Max, lhs, rhs)
 }
@@ -193,7 +194,7 @@ pub fn subst(
     outer: Series,
     inner: Series,
 ) -> Outcome
-    ensures { λ r. ⌜ left r (now (kinds .exit)) (now (words .exit)) (now (count .exit)) ≡ onPool (substCall outer inner) (now (kinds .entry)) (now (words .entry)) (now (count .entry)) ⌝ }
+    ensures { λ r. ⌜ returned r (now (kinds .exit)) (now (words .exit)) (now (count .exit)) ≡ seriesOnPool (substCall outer inner) (now (kinds .entry)) (now (words .entry)) (now (count .entry)) ⌝ }
 {
     on_two(kinds, words, count, Binary::Subst, outer, inner)
 }

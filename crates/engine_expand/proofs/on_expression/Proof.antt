@@ -1,18 +1,18 @@
 -- `engine_expand::on_expression` meets its contract: the pool and all arguments are looked at first, then the walk works on the copies.
 -- Assumes nothing.
 use borrow.Author.Needs.{needs}
-use mathlib.Core.Path.{sym, _∙_}
+use mathlib.Core.Path.{_∙_}
 use native.Mathlib.Omega.{arith}
 use borrow.Author.Tests.{not-true, not-false, leb-true, lt-ltb, le-ltb}
 use Rattle.refusals.specs.Refusals.{unknownNode, unknownVariable, notLiteral, wrongOrder}
 use Rattle.pool.specs.Nodes.{greatestVariable}
+use Rattle.pool.specs.Pool.{limit}
 use Rattle.taylor.specs.Expand.{expand}
 use Rattle.taylor_base.specs.Answers.{terms}
 use Rattle.taylor_laws.proofs.Growing.{expand-grows}
 use Rattle.expand.specs.Points.{pointOf}
-use Rattle.lent.proofs.Finishing.{one-is-below}
-use Rattle.lent.proofs.Calling.{is-pool, sizes}
-use Rattle.lent_series.proofs.Calling.{met, broken, demanded, on-lent, worked, appends}
+use Rattle.lent.proofs.Calling.{test-fails, test-holds, met, broken, demanded, sizes, one-fits, on-lent, may-finish, worked}
+use Rattle.lent_series.specs.Call.{accepted, refusedOutcome}
 use Rattle.engine_expand.specs.Expressions.{expandWork}
 use Rattle.engine_expand.proofs.on_expression.Statement.{statement}
 use Rattle.engine_expand.proofs.on_expression.Tie as tie
@@ -31,11 +31,9 @@ same-length-2 c = search needs
 
 returns : tie.Need-returns
 returns c =
-    let root = c .before .before .before .before .before .before .before .before .before .before .args .root in
-    let var = c .before .before .before .before .before .before .before .before .before .before .args .var in
-    let x = c .before .before .before .before .before .before .before .before .before .before .args .x in
-    let order = c .before .before .before .before .before .before .before .before .before .before .args .order in
-    rw (c .refused .ensures) (broken (c .before .before .take-in .ensures) (expandWork root var (pointOf x) order) (not-true _ (c .before .if1 .taken)))
+    let start = c .before .before .before .before .before .before .before .before .before .before in
+    let a = start .args in
+    rw (c .refused .ensures) (broken (c .before .before .take-in .ensures) accepted refusedOutcome limit (expandWork (a .root) (a .var) (pointOf (a .x)) (a .order)) (not-true _ (c .before .if1 .taken)))
 
 one-given-requires : tie.Need-one-given-requires
 one-given-requires c κs = search needs
@@ -51,13 +49,12 @@ same-length-4 c = search needs
 
 returns-2 : tie.Need-returns-2
 returns-2 c =
-    let root = c .before .before .before .before .before .before .before .before .before .before .before .before .args .root in
-    let var = c .before .before .before .before .before .before .before .before .before .before .before .before .args .var in
-    let x = c .before .before .before .before .before .before .before .before .before .before .before .before .args .x in
-    let order = c .before .before .before .before .before .before .before .before .before .before .before .before .args .order in
-    let taken = c .before .before .before .before .take-in .ensures in
-    let pool-taken = not-false _ (c .before .before .before .if1 .left) in
-    rw (c .refused2 .ensures) (demanded taken (expandWork root var (pointOf x) order) pool-taken (rw (sym (c .before .before .one-given .ensures) ∙ not-true _ (c .before .if2 .taken))))
+    let in-pool = c .before .before .before in
+    let start = in-pool .before .before .before .before .before .before .before .before .before in
+    let a = start .args in
+    let not-below = test-fails (c .before .before .one-given .ensures) (c .before .if2 .taken) in
+    rw (c .refused2 .ensures)
+    (demanded (in-pool .before .take-in .ensures) (not-false _ (in-pool .if1 .left)) accepted refusedOutcome limit (expandWork (a .root) (a .var) (pointOf (a .x)) (a .order)) (rw not-below))
 
 is-variable-requires : tie.Need-is-variable-requires
 is-variable-requires c κs = search needs
@@ -73,14 +70,14 @@ same-length-6 c = search needs
 
 returns-3 : tie.Need-returns-3
 returns-3 c =
-    let root = c .before .before .before .before .before .before .before .before .before .before .before .before .before .before .args .root in
-    let var = c .before .before .before .before .before .before .before .before .before .before .before .before .before .before .args .var in
-    let x = c .before .before .before .before .before .before .before .before .before .before .before .before .before .before .args .x in
-    let order = c .before .before .before .before .before .before .before .before .before .before .before .before .before .before .args .order in
-    let taken = c .before .before .before .before .before .before .take-in .ensures in
-    let pool-taken = not-false _ (c .before .before .before .before .before .if1 .left) in
-    let node-given = sym (c .before .before .before .before .one-given .ensures) ∙ not-false _ (c .before .before .before .if2 .left) in
-    rw (c .refused3 .ensures) (demanded taken (expandWork root var (pointOf x) order) pool-taken (rw (node-given, sym (c .before .before .is-variable .ensures) ∙ not-true _ (c .before .if3 .taken))))
+    let given = c .before .before .before in
+    let in-pool = given .before .before in
+    let start = in-pool .before .before .before .before .before .before .before .before .before in
+    let a = start .args in
+    let below = test-holds (given .before .one-given .ensures) (given .if2 .left) in
+    let unknown = test-fails (c .before .before .is-variable .ensures) (c .before .if3 .taken) in
+    rw (c .refused3 .ensures)
+    (demanded (in-pool .before .take-in .ensures) (not-false _ (in-pool .if1 .left)) accepted refusedOutcome limit (expandWork (a .root) (a .var) (pointOf (a .x)) (a .order)) (rw (below, unknown)))
 
 is-point-requires : tie.Need-is-point-requires
 is-point-requires c κs = search needs
@@ -96,15 +93,16 @@ same-length-8 c = search needs
 
 returns-4 : tie.Need-returns-4
 returns-4 c =
-    let root = c .before .before .before .before .before .before .before .before .before .before .before .before .before .before .before .before .args .root in
-    let var = c .before .before .before .before .before .before .before .before .before .before .before .before .before .before .before .before .args .var in
-    let x = c .before .before .before .before .before .before .before .before .before .before .before .before .before .before .before .before .args .x in
-    let order = c .before .before .before .before .before .before .before .before .before .before .before .before .before .before .before .before .args .order in
-    let taken = c .before .before .before .before .before .before .before .before .take-in .ensures in
-    let pool-taken = not-false _ (c .before .before .before .before .before .before .before .if1 .left) in
-    let node-given = sym (c .before .before .before .before .before .before .one-given .ensures) ∙ not-false _ (c .before .before .before .before .before .if2 .left) in
-    let variable-given = sym (c .before .before .before .before .is-variable .ensures) ∙ not-false _ (c .before .before .before .if3 .left) in
-    rw (c .refused4 .ensures) (demanded taken (expandWork root var (pointOf x) order) pool-taken (rw (node-given, variable-given, sym (c .before .before .is-point .ensures) ∙ not-true _ (c .before .if4 .taken))))
+    let known = c .before .before .before in
+    let given = known .before .before in
+    let in-pool = given .before .before in
+    let start = in-pool .before .before .before .before .before .before .before .before .before in
+    let a = start .args in
+    let below = test-holds (given .before .one-given .ensures) (given .if2 .left) in
+    let variable = test-holds (known .before .is-variable .ensures) (known .if3 .left) in
+    let no-literal = test-fails (c .before .before .is-point .ensures) (c .before .if4 .taken) in
+    rw (c .refused4 .ensures)
+    (demanded (in-pool .before .take-in .ensures) (not-false _ (in-pool .if1 .left)) accepted refusedOutcome limit (expandWork (a .root) (a .var) (pointOf (a .x)) (a .order)) (rw (below, variable, no-literal)))
 
 refused-requires-5 : tie.Need-refused-requires-5
 refused-requires-5 c κs = search needs
@@ -117,42 +115,42 @@ same-length-10 c = search needs
 
 returns-5 : tie.Need-returns-5
 returns-5 c =
-    let root = c .before .before .before .before .before .before .before .before .before .before .before .before .before .before .before .before .before .args .root in
-    let var = c .before .before .before .before .before .before .before .before .before .before .before .before .before .before .before .before .before .args .var in
-    let x = c .before .before .before .before .before .before .before .before .before .before .before .before .before .before .before .before .before .args .x in
-    let order = c .before .before .before .before .before .before .before .before .before .before .before .before .before .before .before .before .before .args .order in
-    let taken = c .before .before .before .before .before .before .before .before .before .take-in .ensures in
-    let pool-taken = not-false _ (c .before .before .before .before .before .before .before .before .if1 .left) in
-    let node-given = sym (c .before .before .before .before .before .before .before .one-given .ensures) ∙ not-false _ (c .before .before .before .before .before .before .if2 .left) in
-    let variable-given = sym (c .before .before .before .before .before .is-variable .ensures) ∙ not-false _ (c .before .before .before .before .if3 .left) in
-    let point-given = sym (c .before .before .before .is-point .ensures) ∙ not-false _ (c .before .before .if4 .left) in
-    rw (c .refused5 .ensures) (demanded taken (expandWork root var (pointOf x) order) pool-taken (rw (node-given, variable-given, point-given, le-ltb order terms (c .before .if5 .taken))))
+    let at-point = c .before .before in
+    let known = at-point .before .before in
+    let given = known .before .before in
+    let in-pool = given .before .before in
+    let start = in-pool .before .before .before .before .before .before .before .before .before in
+    let a = start .args in
+    let below = test-holds (given .before .one-given .ensures) (given .if2 .left) in
+    let variable = test-holds (known .before .is-variable .ensures) (known .if3 .left) in
+    let literal = test-holds (at-point .before .is-point .ensures) (at-point .if4 .left) in
+    let too-high = le-ltb (a .order) terms (c .before .if5 .taken) in
+    rw (c .refused5 .ensures)
+    (demanded (in-pool .before .take-in .ensures) (not-false _ (in-pool .if1 .left)) accepted refusedOutcome limit (expandWork (a .root) (a .var) (pointOf (a .x)) (a .order)) (rw (below, variable, literal, too-high)))
 
-add-t21 : tie.Need-add-t21
-add-t21 c =
-    let taken = c .before .before .before .before .before .before .before .before .take-in .ensures in
-    let pool-taken = not-false _ (c .before .before .before .before .before .before .before .if1 .left) in
-    omega (arith, sizes taken pool-taken .small)
+cast-room-between : tie.Need-cast-room-between
+cast-room-between c =
+    let in-pool = c .before .before .before .before .before .before .before in
+    record { fits = omega (arith, sizes (in-pool .before .take-in .ensures) (not-false _ (in-pool .if1 .left)) .small) }
+
+cast-room-between-2 : tie.Need-cast-room-between-2
+cast-room-between-2 c = search needs
+
+room-between-requires : tie.Need-room-between-requires
+room-between-requires c κs = search needs
 
 cast-expand-in : tie.Need-cast-expand-in
 cast-expand-in c =
-    let root = c .before .before .before .before .before .before .before .before .before .before .before .before .before .before .before .before .before .before .args .root in
-    let var = c .before .before .before .before .before .before .before .before .before .before .before .before .before .before .before .before .before .before .args .var in
-    let x = c .before .before .before .before .before .before .before .before .before .before .before .before .before .before .before .before .before .before .args .x in
-    let order = c .before .before .before .before .before .before .before .before .before .before .before .before .before .before .before .before .before .before .args .order in
-    let taken = c .before .before .before .before .before .before .before .before .before .before .take-in .ensures in
-    let pool-taken = not-false _ (c .before .before .before .before .before .before .before .before .before .if1 .left) in
-    let node-given = sym (c .before .before .before .before .before .before .before .before .one-given .ensures) ∙ not-false _ (c .before .before .before .before .before .before .before .if2 .left) in
-    record { fits = omega (arith, one-is-below (c .before .before .before .before .before .before .before .before .before .before .before .before .before .before .before .before .before .before .args .count .now) root node-given, sizes taken pool-taken .small) }
+    let given = c .before .before .before .before .before .before .before .before in
+    let in-pool = given .before .before in
+    let below = test-holds (given .before .one-given .ensures) (given .if2 .left) in
+    record { fits = omega (arith, one-fits (in-pool .before .take-in .ensures) (not-false _ (in-pool .if1 .left)) below) }
 
 cast-expand-in-2 : tie.Need-cast-expand-in-2
 cast-expand-in-2 c =
-    let root = c .before .before .before .before .before .before .before .before .before .before .before .before .before .before .before .before .before .before .args .root in
-    let var = c .before .before .before .before .before .before .before .before .before .before .before .before .before .before .before .before .before .before .args .var in
-    let x = c .before .before .before .before .before .before .before .before .before .before .before .before .before .before .before .before .before .before .args .x in
-    let order = c .before .before .before .before .before .before .before .before .before .before .before .before .before .before .before .before .before .before .args .order in
-    let variable-given = sym (c .before .before .before .before .before .before .is-variable .ensures) ∙ not-false _ (c .before .before .before .before .before .if3 .left) in
-    record { fits = omega (arith, leb-true var greatestVariable variable-given) }
+    let known = c .before .before .before .before .before .before in
+    let start = known .before .before .before .before .before .before .before .before .before .before .before .before .before in
+    record { fits = omega (arith, leb-true (start .args .var) greatestVariable (test-holds (known .before .is-variable .ensures) (known .if3 .left))) }
 
 cast-expand-in-3 : tie.Need-cast-expand-in-3
 cast-expand-in-3 c = search needs
@@ -162,15 +160,18 @@ expand-in-requires c κs = search needs
 
 finish-requires : tie.Need-finish-requires
 finish-requires c κs =
-    let root = c .before .before .before .before .before .before .before .before .before .before .before .before .before .before .before .before .before .before .before .before .before .before .before .before .args .root in
-    let var = c .before .before .before .before .before .before .before .before .before .before .before .before .before .before .before .before .before .before .before .before .before .before .before .before .args .var in
-    let x = c .before .before .before .before .before .before .before .before .before .before .before .before .before .before .before .before .before .before .before .before .before .before .before .before .args .x in
-    let order = c .before .before .before .before .before .before .before .before .before .before .before .before .before .before .before .before .before .before .before .before .before .before .before .before .args .order in
-    let taken = c .before .before .before .before .before .before .before .before .before .before .before .before .before .before .before .before .take-in .ensures in
-    let pool-taken = not-false _ (c .before .before .before .before .before .before .before .before .before .before .before .before .before .before .before .if1 .left) in
-    let result = c .before .before .before .before .before .expand-in .ensures in
-    let is = on-lent taken (expand root var (pointOf x) order) pool-taken (result .is) in
-    (is-pool taken pool-taken, (appends (expand-grows root var (pointOf x) order) is, result .tidy))
+    let work = c .before .before .before .before .before in
+    let room = work .before .before .before in
+    let in-pool = room .before .before .before .before .before .before .before .before in
+    let start = in-pool .before .before .before .before .before .before .before .before .before in
+    let taken = in-pool .before .take-in .ensures in
+    let pool-taken = not-false _ (in-pool .if1 .left) in
+    let a = start .args in
+    let x = pointOf (a .x) in
+    let result = work .expand-in .ensures in
+    let is = on-lent taken pool-taken (expand (a .root) (a .var) x (a .order)) (room .room-between .ensures) (result .is) in
+    let asked = may-finish taken pool-taken limit (expand-grows (a .root) (a .var) x (a .order)) is in
+    (asked .0, (asked .1, result .tidy))
 
 same-length-11 : tie.Need-same-length-11
 same-length-11 c = search needs
@@ -180,18 +181,24 @@ same-length-12 c = search needs
 
 returns-6 : tie.Need-returns-6
 returns-6 c =
-    let root = c .before .before .before .before .before .before .before .before .before .before .before .before .before .before .before .before .before .before .before .before .before .before .before .before .before .before .before .before .before .args .root in
-    let var = c .before .before .before .before .before .before .before .before .before .before .before .before .before .before .before .before .before .before .before .before .before .before .before .before .before .before .before .before .before .args .var in
-    let x = c .before .before .before .before .before .before .before .before .before .before .before .before .before .before .before .before .before .before .before .before .before .before .before .before .before .before .before .before .before .args .x in
-    let order = c .before .before .before .before .before .before .before .before .before .before .before .before .before .before .before .before .before .before .before .before .before .before .before .before .before .before .before .before .before .args .order in
-    let taken = c .before .before .before .before .before .before .before .before .before .before .before .before .before .before .before .before .before .before .before .before .before .take-in .ensures in
-    let pool-taken = not-false _ (c .before .before .before .before .before .before .before .before .before .before .before .before .before .before .before .before .before .before .before .before .if1 .left) in
-    let node-given = sym (c .before .before .before .before .before .before .before .before .before .before .before .before .before .before .before .before .before .before .before .one-given .ensures) ∙ not-false _ (c .before .before .before .before .before .before .before .before .before .before .before .before .before .before .before .before .before .before .if2 .left) in
-    let variable-given = sym (c .before .before .before .before .before .before .before .before .before .before .before .before .before .before .before .before .before .is-variable .ensures) ∙ not-false _ (c .before .before .before .before .before .before .before .before .before .before .before .before .before .before .before .before .if3 .left) in
-    let point-given = sym (c .before .before .before .before .before .before .before .before .before .before .before .before .before .before .before .is-point .ensures) ∙ not-false _ (c .before .before .before .before .before .before .before .before .before .before .before .before .before .before .if4 .left) in
-    let result = c .before .before .before .before .before .before .before .before .before .before .expand-in .ensures in
-    let is = on-lent taken (expand root var (pointOf x) order) pool-taken (result .is) in
-    worked taken (expandWork root var (pointOf x) order) pool-taken (c .before .before .before .before .finish .ensures) (is ∙ met wrongOrder (lt-ltb order terms (c .before .before .before .before .before .before .before .before .before .before .before .before .before .if5 .left)) ∙ met notLiteral point-given ∙ met unknownVariable variable-given ∙ met unknownNode node-given)
+    let done = c .before .before .before .before in
+    let work = done .before .before .before .before .before .before in
+    let room = work .before .before .before in
+    let ordered = room .before in
+    let at-point = ordered .before in
+    let known = at-point .before .before in
+    let given = known .before .before in
+    let in-pool = given .before .before in
+    let start = in-pool .before .before .before .before .before .before .before .before .before in
+    let taken = in-pool .before .take-in .ensures in
+    let pool-taken = not-false _ (in-pool .if1 .left) in
+    let a = start .args in
+    let below = test-holds (given .before .one-given .ensures) (given .if2 .left) in
+    let variable = test-holds (known .before .is-variable .ensures) (known .if3 .left) in
+    let literal = test-holds (at-point .before .is-point .ensures) (at-point .if4 .left) in
+    let is = on-lent taken pool-taken (expand (a .root) (a .var) (pointOf (a .x)) (a .order)) (room .room-between .ensures) (work .expand-in .ensures .is) in
+    worked taken pool-taken accepted refusedOutcome limit (expandWork (a .root) (a .var) (pointOf (a .x)) (a .order)) (done .finish .ensures)
+    (is ∙ met wrongOrder (lt-ltb (a .order) terms (ordered .if5 .left)) ∙ met notLiteral literal ∙ met unknownVariable variable ∙ met unknownNode below)
 
 pub on-expression-spec : {M : Type 1} → statement M
 on-expression-spec =
@@ -221,7 +228,9 @@ on-expression-spec =
     same-length-9
     same-length-10
     returns-5
-    add-t21
+    cast-room-between
+    cast-room-between-2
+    room-between-requires
     cast-expand-in
     cast-expand-in-2
     cast-expand-in-3

@@ -1,14 +1,15 @@
 -- `engine_walk::derive` meets its contract: the pool, the numbers and the variable are looked at first, then the walk works on the copies.
 -- Assumes nothing.
 use borrow.Author.Needs.{needs}
-use mathlib.Core.Path.{sym, _∙_}
+use mathlib.Core.Path.{_∙_}
 use native.Mathlib.Omega.{arith}
 use borrow.Author.Tests.{not-true, not-false, leb-true}
 use Rattle.refusals.specs.Refusals.{unknownNode, unknownVariable}
 use Rattle.pool.specs.Nodes.{greatestVariable}
+use Rattle.pool.specs.Pool.{limit}
 use Rattle.walk_laws.proofs.Derivation.{derive-grows}
-use Rattle.lent.proofs.Finishing.{one-is-below}
-use Rattle.lent.proofs.Calling.{met, broken, demanded, is-pool, sizes, on-lent, worked, appends}
+use Rattle.lent.specs.declared.Answer.the-variants.{Node, Refused}
+use Rattle.lent.proofs.Calling.{test-fails, test-holds, met, broken, demanded, sizes, one-fits, on-lent, may-finish, worked}
 use Rattle.walks.specs.Derive.{derive}
 use Rattle.engine_walk.specs.Walks.{deriveWork}
 use Rattle.engine_walk.proofs.derive.Statement.{statement}
@@ -25,9 +26,9 @@ same-length-2 c = search needs
 
 returns : tie.Need-returns
 returns c =
-    let root = c .before .before .before .before .before .before .before .before .before .args .root in
-    let var = c .before .before .before .before .before .before .before .before .before .args .var in
-    broken (c .before .take-in .ensures) (deriveWork root var) (not-true _ (c .if1 .taken))
+    let start = c .before .before .before .before .before .before .before .before .before in
+    let a = start .args in
+    broken (c .before .take-in .ensures) Node Refused limit (deriveWork (a .root) (a .var)) (not-true _ (c .if1 .taken))
 
 one-given-requires : tie.Need-one-given-requires
 one-given-requires c κs = search needs
@@ -40,11 +41,10 @@ same-length-4 c = search needs
 
 returns-2 : tie.Need-returns-2
 returns-2 c =
-    let root = c .before .before .before .before .before .before .before .before .before .before .before .args .root in
-    let var = c .before .before .before .before .before .before .before .before .before .before .before .args .var in
-    let taken = c .before .before .before .take-in .ensures in
-    let pool-taken = not-false _ (c .before .before .if1 .left) in
-    demanded taken (deriveWork root var) pool-taken (rw (sym (c .before .one-given .ensures) ∙ not-true _ (c .if2 .taken)))
+    let in-pool = c .before .before in
+    let start = in-pool .before .before .before .before .before .before .before .before .before in
+    let a = start .args in
+    demanded (in-pool .before .take-in .ensures) (not-false _ (in-pool .if1 .left)) Node Refused limit (deriveWork (a .root) (a .var)) (rw (test-fails (c .before .one-given .ensures) (c .if2 .taken)))
 
 is-variable-requires : tie.Need-is-variable-requires
 is-variable-requires c κs = search needs
@@ -57,46 +57,50 @@ same-length-6 c = search needs
 
 returns-3 : tie.Need-returns-3
 returns-3 c =
-    let root = c .before .before .before .before .before .before .before .before .before .before .before .before .before .args .root in
-    let var = c .before .before .before .before .before .before .before .before .before .before .before .before .before .args .var in
-    let taken = c .before .before .before .before .before .take-in .ensures in
-    let pool-taken = not-false _ (c .before .before .before .before .if1 .left) in
-    let given = sym (c .before .before .before .one-given .ensures) ∙ not-false _ (c .before .before .if2 .left) in
-    demanded taken (deriveWork root var) pool-taken (rw (given, sym (c .before .is-variable .ensures) ∙ not-true _ (c .if3 .taken)))
+    let given = c .before .before in
+    let in-pool = given .before .before in
+    let start = in-pool .before .before .before .before .before .before .before .before .before in
+    let a = start .args in
+    let below = test-holds (given .before .one-given .ensures) (given .if2 .left) in
+    demanded (in-pool .before .take-in .ensures) (not-false _ (in-pool .if1 .left)) Node Refused limit (deriveWork (a .root) (a .var)) (rw (below, test-fails (c .before .is-variable .ensures) (c .if3 .taken)))
 
-add-t19 : tie.Need-add-t19
-add-t19 c =
-    let taken = c .before .before .before .before .before .take-in .ensures in
-    let pool-taken = not-false _ (c .before .before .before .before .if1 .left) in
-    omega (arith, sizes taken pool-taken .small)
+cast-room-between : tie.Need-cast-room-between
+cast-room-between c =
+    let in-pool = c .before .before .before .before in
+    record { fits = omega (arith, sizes (in-pool .before .take-in .ensures) (not-false _ (in-pool .if1 .left)) .small) }
+
+cast-room-between-2 : tie.Need-cast-room-between-2
+cast-room-between-2 c = search needs
+
+room-between-requires : tie.Need-room-between-requires
+room-between-requires c κs = search needs
 
 cast-derive-in : tie.Need-cast-derive-in
 cast-derive-in c =
-    let root = c .before .before .before .before .before .before .before .before .before .before .before .before .before .before .before .args .root in
-    let var = c .before .before .before .before .before .before .before .before .before .before .before .before .before .before .before .args .var in
-    let taken = c .before .before .before .before .before .before .before .take-in .ensures in
-    let pool-taken = not-false _ (c .before .before .before .before .before .before .if1 .left) in
-    let given = sym (c .before .before .before .before .before .one-given .ensures) ∙ not-false _ (c .before .before .before .before .if2 .left) in
-    record { fits = omega (arith, one-is-below (c .before .before .before .before .before .before .before .before .before .before .before .before .before .before .before .args .count .now) root given, sizes taken pool-taken .small) }
+    let given = c .before .before .before .before .before in
+    let in-pool = given .before .before in
+    let below = test-holds (given .before .one-given .ensures) (given .if2 .left) in
+    record { fits = omega (arith, one-fits (in-pool .before .take-in .ensures) (not-false _ (in-pool .if1 .left)) below) }
 
 cast-derive-in-2 : tie.Need-cast-derive-in-2
 cast-derive-in-2 c =
-    let root = c .before .before .before .before .before .before .before .before .before .before .before .before .before .before .before .args .root in
-    let var = c .before .before .before .before .before .before .before .before .before .before .before .before .before .before .before .args .var in
-    let known = sym (c .before .before .before .is-variable .ensures) ∙ not-false _ (c .before .before .if3 .left) in
-    record { fits = omega (arith, leb-true var greatestVariable known) }
+    let known = c .before .before .before in
+    let start = known .before .before .before .before .before .before .before .before .before .before .before .before .before in
+    record { fits = omega (arith, leb-true (start .args .var) greatestVariable (test-holds (known .before .is-variable .ensures) (known .if3 .left))) }
 
 derive-in-requires : tie.Need-derive-in-requires
 derive-in-requires c κs = search needs
 
 finish-requires : tie.Need-finish-requires
 finish-requires c κs =
-    let root = c .before .before .before .before .before .before .before .before .before .before .before .before .before .before .before .before .before .before .before .before .before .args .root in
-    let var = c .before .before .before .before .before .before .before .before .before .before .before .before .before .before .before .before .before .before .before .before .before .args .var in
-    let taken = c .before .before .before .before .before .before .before .before .before .before .before .before .before .take-in .ensures in
-    let pool-taken = not-false _ (c .before .before .before .before .before .before .before .before .before .before .before .before .if1 .left) in
-    let run = derive root var in
-    (is-pool taken pool-taken, appends (derive-grows var root) (on-lent taken run pool-taken (c .before .before .before .before .before .derive-in .ensures)))
+    let work = c .before .before .before .before .before in
+    let room = work .before .before .before in
+    let in-pool = room .before .before .before .before .before in
+    let start = in-pool .before .before .before .before .before .before .before .before .before in
+    let taken = in-pool .before .take-in .ensures in
+    let pool-taken = not-false _ (in-pool .if1 .left) in
+    let a = start .args in
+    may-finish taken pool-taken limit (derive-grows (a .var) (a .root)) (on-lent taken pool-taken (derive (a .root) (a .var)) (room .room-between .ensures) (work .derive-in .ensures))
 
 same-length-7 : tie.Need-same-length-7
 same-length-7 c = search needs
@@ -106,14 +110,20 @@ same-length-8 c = search needs
 
 returns-4 : tie.Need-returns-4
 returns-4 c =
-    let root = c .before .before .before .before .before .before .before .before .before .before .before .before .before .before .before .before .before .before .before .before .before .before .before .before .before .before .args .root in
-    let var = c .before .before .before .before .before .before .before .before .before .before .before .before .before .before .before .before .before .before .before .before .before .before .before .before .before .before .args .var in
-    let taken = c .before .before .before .before .before .before .before .before .before .before .before .before .before .before .before .before .before .before .take-in .ensures in
-    let pool-taken = not-false _ (c .before .before .before .before .before .before .before .before .before .before .before .before .before .before .before .before .before .if1 .left) in
-    let given = sym (c .before .before .before .before .before .before .before .before .before .before .before .before .before .before .before .before .one-given .ensures) ∙ not-false _ (c .before .before .before .before .before .before .before .before .before .before .before .before .before .before .before .if2 .left) in
-    let known = sym (c .before .before .before .before .before .before .before .before .before .before .before .before .before .before .is-variable .ensures) ∙ not-false _ (c .before .before .before .before .before .before .before .before .before .before .before .before .before .if3 .left) in
-    let run = derive root var in
-    worked taken (deriveWork root var) pool-taken (c .before .before .before .before .finish .ensures) (on-lent taken run pool-taken (c .before .before .before .before .before .before .before .before .before .before .derive-in .ensures) ∙ met unknownVariable known ∙ met unknownNode given)
+    let done = c .before .before .before .before in
+    let work = done .before .before .before .before .before .before in
+    let room = work .before .before .before in
+    let known = room .before in
+    let given = known .before .before in
+    let in-pool = given .before .before in
+    let start = in-pool .before .before .before .before .before .before .before .before .before in
+    let taken = in-pool .before .take-in .ensures in
+    let pool-taken = not-false _ (in-pool .if1 .left) in
+    let a = start .args in
+    let below = test-holds (given .before .one-given .ensures) (given .if2 .left) in
+    let variable = test-holds (known .before .is-variable .ensures) (known .if3 .left) in
+    worked taken pool-taken Node Refused limit (deriveWork (a .root) (a .var)) (done .finish .ensures)
+    (on-lent taken pool-taken (derive (a .root) (a .var)) (room .room-between .ensures) (work .derive-in .ensures) ∙ met unknownVariable variable ∙ met unknownNode below)
 
 pub derive-spec : {M : Type 1} → statement M
 derive-spec =
@@ -131,7 +141,9 @@ derive-spec =
     same-length-5
     same-length-6
     returns-3
-    add-t19
+    cast-room-between
+    cast-room-between-2
+    room-between-requires
     cast-derive-in
     cast-derive-in-2
     derive-in-requires

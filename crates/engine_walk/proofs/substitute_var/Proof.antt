@@ -1,14 +1,15 @@
 -- `engine_walk::substitute_var` meets its contract: the pool, the numbers and the variable are looked at first, then the walk works on the copies.
 -- Assumes nothing.
 use borrow.Author.Needs.{needs}
-use mathlib.Core.Path.{sym, _∙_}
+use mathlib.Core.Path.{_∙_}
 use native.Mathlib.Omega.{arith}
 use borrow.Author.Tests.{not-true, not-false, leb-true}
 use Rattle.refusals.specs.Refusals.{unknownNode, unknownVariable}
 use Rattle.pool.specs.Nodes.{greatestVariable}
+use Rattle.pool.specs.Pool.{limit}
 use Rattle.walk_laws.proofs.Substitution.{substitute-grows}
-use Rattle.lent.proofs.Finishing.{both-are-below}
-use Rattle.lent.proofs.Calling.{met, broken, demanded, is-pool, sizes, on-lent, worked, appends}
+use Rattle.lent.specs.declared.Answer.the-variants.{Node, Refused}
+use Rattle.lent.proofs.Calling.{test-fails, test-holds, met, broken, demanded, sizes, both-fit, on-lent, may-finish, worked}
 use Rattle.walks.specs.Substitute.{substituteVar}
 use Rattle.engine_walk.specs.Walks.{substituteWork}
 use Rattle.engine_walk.proofs.substitute_var.Statement.{statement}
@@ -25,10 +26,9 @@ same-length-2 c = search needs
 
 returns : tie.Need-returns
 returns c =
-    let root = c .before .before .before .before .before .before .before .before .before .args .root in
-    let var = c .before .before .before .before .before .before .before .before .before .args .var in
-    let value = c .before .before .before .before .before .before .before .before .before .args .value in
-    broken (c .before .take-in .ensures) (substituteWork root var value) (not-true _ (c .if1 .taken))
+    let start = c .before .before .before .before .before .before .before .before .before in
+    let a = start .args in
+    broken (c .before .take-in .ensures) Node Refused limit (substituteWork (a .root) (a .var) (a .value)) (not-true _ (c .if1 .taken))
 
 both-given-requires : tie.Need-both-given-requires
 both-given-requires c κs = search needs
@@ -41,12 +41,10 @@ same-length-4 c = search needs
 
 returns-2 : tie.Need-returns-2
 returns-2 c =
-    let root = c .before .before .before .before .before .before .before .before .before .before .before .args .root in
-    let var = c .before .before .before .before .before .before .before .before .before .before .before .args .var in
-    let value = c .before .before .before .before .before .before .before .before .before .before .before .args .value in
-    let taken = c .before .before .before .take-in .ensures in
-    let pool-taken = not-false _ (c .before .before .if1 .left) in
-    demanded taken (substituteWork root var value) pool-taken (rw (sym (c .before .both-given .ensures) ∙ not-true _ (c .if2 .taken)))
+    let in-pool = c .before .before in
+    let start = in-pool .before .before .before .before .before .before .before .before .before in
+    let a = start .args in
+    demanded (in-pool .before .take-in .ensures) (not-false _ (in-pool .if1 .left)) Node Refused limit (substituteWork (a .root) (a .var) (a .value)) (rw (test-fails (c .before .both-given .ensures) (c .if2 .taken)))
 
 is-variable-requires : tie.Need-is-variable-requires
 is-variable-requires c κs = search needs
@@ -59,60 +57,57 @@ same-length-6 c = search needs
 
 returns-3 : tie.Need-returns-3
 returns-3 c =
-    let root = c .before .before .before .before .before .before .before .before .before .before .before .before .before .args .root in
-    let var = c .before .before .before .before .before .before .before .before .before .before .before .before .before .args .var in
-    let value = c .before .before .before .before .before .before .before .before .before .before .before .before .before .args .value in
-    let taken = c .before .before .before .before .before .take-in .ensures in
-    let pool-taken = not-false _ (c .before .before .before .before .if1 .left) in
-    let given = sym (c .before .before .before .both-given .ensures) ∙ not-false _ (c .before .before .if2 .left) in
-    demanded taken (substituteWork root var value) pool-taken (rw (given, sym (c .before .is-variable .ensures) ∙ not-true _ (c .if3 .taken)))
+    let given = c .before .before in
+    let in-pool = given .before .before in
+    let start = in-pool .before .before .before .before .before .before .before .before .before in
+    let a = start .args in
+    let below = test-holds (given .before .both-given .ensures) (given .if2 .left) in
+    demanded (in-pool .before .take-in .ensures) (not-false _ (in-pool .if1 .left)) Node Refused limit (substituteWork (a .root) (a .var) (a .value)) (rw (below, test-fails (c .before .is-variable .ensures) (c .if3 .taken)))
 
-add-t20 : tie.Need-add-t20
-add-t20 c =
-    let taken = c .before .before .before .before .before .take-in .ensures in
-    let pool-taken = not-false _ (c .before .before .before .before .if1 .left) in
-    omega (arith, sizes taken pool-taken .small)
+cast-room-between : tie.Need-cast-room-between
+cast-room-between c =
+    let in-pool = c .before .before .before .before in
+    record { fits = omega (arith, sizes (in-pool .before .take-in .ensures) (not-false _ (in-pool .if1 .left)) .small) }
+
+cast-room-between-2 : tie.Need-cast-room-between-2
+cast-room-between-2 c = search needs
+
+room-between-requires : tie.Need-room-between-requires
+room-between-requires c κs = search needs
 
 cast-substitute-in : tie.Need-cast-substitute-in
 cast-substitute-in c =
-    let root = c .before .before .before .before .before .before .before .before .before .before .before .before .before .before .before .args .root in
-    let var = c .before .before .before .before .before .before .before .before .before .before .before .before .before .before .before .args .var in
-    let value = c .before .before .before .before .before .before .before .before .before .before .before .before .before .before .before .args .value in
-    let taken = c .before .before .before .before .before .before .before .take-in .ensures in
-    let pool-taken = not-false _ (c .before .before .before .before .before .before .if1 .left) in
-    let given = sym (c .before .before .before .before .before .both-given .ensures) ∙ not-false _ (c .before .before .before .before .if2 .left) in
-    record { fits = omega (arith, both-are-below (c .before .before .before .before .before .before .before .before .before .before .before .before .before .before .before .args .count .now) root value given, sizes taken pool-taken .small) }
+    let given = c .before .before .before .before .before in
+    let in-pool = given .before .before in
+    let below = test-holds (given .before .both-given .ensures) (given .if2 .left) in
+    record { fits = omega (arith, both-fit (in-pool .before .take-in .ensures) (not-false _ (in-pool .if1 .left)) below .0) }
 
 cast-substitute-in-2 : tie.Need-cast-substitute-in-2
 cast-substitute-in-2 c =
-    let root = c .before .before .before .before .before .before .before .before .before .before .before .before .before .before .before .args .root in
-    let var = c .before .before .before .before .before .before .before .before .before .before .before .before .before .before .before .args .var in
-    let value = c .before .before .before .before .before .before .before .before .before .before .before .before .before .before .before .args .value in
-    let known = sym (c .before .before .before .is-variable .ensures) ∙ not-false _ (c .before .before .if3 .left) in
-    record { fits = omega (arith, leb-true var greatestVariable known) }
+    let known = c .before .before .before in
+    let start = known .before .before .before .before .before .before .before .before .before .before .before .before .before in
+    record { fits = omega (arith, leb-true (start .args .var) greatestVariable (test-holds (known .before .is-variable .ensures) (known .if3 .left))) }
 
 cast-substitute-in-3 : tie.Need-cast-substitute-in-3
 cast-substitute-in-3 c =
-    let root = c .before .before .before .before .before .before .before .before .before .before .before .before .before .before .before .args .root in
-    let var = c .before .before .before .before .before .before .before .before .before .before .before .before .before .before .before .args .var in
-    let value = c .before .before .before .before .before .before .before .before .before .before .before .before .before .before .before .args .value in
-    let taken = c .before .before .before .before .before .before .before .take-in .ensures in
-    let pool-taken = not-false _ (c .before .before .before .before .before .before .if1 .left) in
-    let given = sym (c .before .before .before .before .before .both-given .ensures) ∙ not-false _ (c .before .before .before .before .if2 .left) in
-    record { fits = omega (arith, both-are-below (c .before .before .before .before .before .before .before .before .before .before .before .before .before .before .before .args .count .now) root value given, sizes taken pool-taken .small) }
+    let given = c .before .before .before .before .before in
+    let in-pool = given .before .before in
+    let below = test-holds (given .before .both-given .ensures) (given .if2 .left) in
+    record { fits = omega (arith, both-fit (in-pool .before .take-in .ensures) (not-false _ (in-pool .if1 .left)) below .1) }
 
 substitute-in-requires : tie.Need-substitute-in-requires
 substitute-in-requires c κs = search needs
 
 finish-requires : tie.Need-finish-requires
 finish-requires c κs =
-    let root = c .before .before .before .before .before .before .before .before .before .before .before .before .before .before .before .before .before .before .before .before .before .args .root in
-    let var = c .before .before .before .before .before .before .before .before .before .before .before .before .before .before .before .before .before .before .before .before .before .args .var in
-    let value = c .before .before .before .before .before .before .before .before .before .before .before .before .before .before .before .before .before .before .before .before .before .args .value in
-    let taken = c .before .before .before .before .before .before .before .before .before .before .before .before .before .take-in .ensures in
-    let pool-taken = not-false _ (c .before .before .before .before .before .before .before .before .before .before .before .before .if1 .left) in
-    let run = substituteVar root var value in
-    (is-pool taken pool-taken, appends (substitute-grows var value root) (on-lent taken run pool-taken (c .before .before .before .before .before .substitute-in .ensures)))
+    let work = c .before .before .before .before .before in
+    let room = work .before .before .before in
+    let in-pool = room .before .before .before .before .before in
+    let start = in-pool .before .before .before .before .before .before .before .before .before in
+    let taken = in-pool .before .take-in .ensures in
+    let pool-taken = not-false _ (in-pool .if1 .left) in
+    let a = start .args in
+    may-finish taken pool-taken limit (substitute-grows (a .var) (a .value) (a .root)) (on-lent taken pool-taken (substituteVar (a .root) (a .var) (a .value)) (room .room-between .ensures) (work .substitute-in .ensures))
 
 same-length-7 : tie.Need-same-length-7
 same-length-7 c = search needs
@@ -122,15 +117,20 @@ same-length-8 c = search needs
 
 returns-4 : tie.Need-returns-4
 returns-4 c =
-    let root = c .before .before .before .before .before .before .before .before .before .before .before .before .before .before .before .before .before .before .before .before .before .before .before .before .before .before .args .root in
-    let var = c .before .before .before .before .before .before .before .before .before .before .before .before .before .before .before .before .before .before .before .before .before .before .before .before .before .before .args .var in
-    let value = c .before .before .before .before .before .before .before .before .before .before .before .before .before .before .before .before .before .before .before .before .before .before .before .before .before .before .args .value in
-    let taken = c .before .before .before .before .before .before .before .before .before .before .before .before .before .before .before .before .before .before .take-in .ensures in
-    let pool-taken = not-false _ (c .before .before .before .before .before .before .before .before .before .before .before .before .before .before .before .before .before .if1 .left) in
-    let given = sym (c .before .before .before .before .before .before .before .before .before .before .before .before .before .before .before .before .both-given .ensures) ∙ not-false _ (c .before .before .before .before .before .before .before .before .before .before .before .before .before .before .before .if2 .left) in
-    let known = sym (c .before .before .before .before .before .before .before .before .before .before .before .before .before .before .is-variable .ensures) ∙ not-false _ (c .before .before .before .before .before .before .before .before .before .before .before .before .before .if3 .left) in
-    let run = substituteVar root var value in
-    worked taken (substituteWork root var value) pool-taken (c .before .before .before .before .finish .ensures) (on-lent taken run pool-taken (c .before .before .before .before .before .before .before .before .before .before .substitute-in .ensures) ∙ met unknownVariable known ∙ met unknownNode given)
+    let done = c .before .before .before .before in
+    let work = done .before .before .before .before .before .before in
+    let room = work .before .before .before in
+    let known = room .before in
+    let given = known .before .before in
+    let in-pool = given .before .before in
+    let start = in-pool .before .before .before .before .before .before .before .before .before in
+    let taken = in-pool .before .take-in .ensures in
+    let pool-taken = not-false _ (in-pool .if1 .left) in
+    let a = start .args in
+    let below = test-holds (given .before .both-given .ensures) (given .if2 .left) in
+    let variable = test-holds (known .before .is-variable .ensures) (known .if3 .left) in
+    worked taken pool-taken Node Refused limit (substituteWork (a .root) (a .var) (a .value)) (done .finish .ensures)
+    (on-lent taken pool-taken (substituteVar (a .root) (a .var) (a .value)) (room .room-between .ensures) (work .substitute-in .ensures) ∙ met unknownVariable variable ∙ met unknownNode below)
 
 pub substitute-var-spec : {M : Type 1} → statement M
 substitute-var-spec =
@@ -148,7 +148,9 @@ substitute-var-spec =
     same-length-5
     same-length-6
     returns-3
-    add-t20
+    cast-room-between
+    cast-room-between-2
+    room-between-requires
     cast-substitute-in
     cast-substitute-in-2
     cast-substitute-in-3

@@ -4,9 +4,10 @@ use borrow.Author.Needs.{needs}
 use mathlib.Core.Path.{_∙_}
 use native.Mathlib.Omega.{arith}
 use borrow.Author.Tests.{not-true, not-false}
-use Rattle.pool.specs.Pool.{append}
+use Rattle.pool.specs.Pool.{limit, append}
 use Rattle.constructor_laws.proofs.Growth.{append-grows}
-use Rattle.lent.proofs.Calling.{met, broken, demanded, is-pool, sizes, on-lent, worked, appends}
+use Rattle.lent.specs.declared.Answer.the-variants.{Node, Refused}
+use Rattle.lent.proofs.Calling.{met, broken, demanded, sizes, on-lent, may-finish, worked}
 use Rattle.engine.specs.Build.{leafWork}
 use Rattle.engine.proofs.leaf.on_leaf.Statement.{statement}
 use Rattle.engine.proofs.leaf.on_leaf.Tie as tie
@@ -22,10 +23,9 @@ same-length-2 c = search needs
 
 returns : tie.Need-returns
 returns c =
-    let allowed = c .before .before .before .before .before .before .before .before .before .args .allowed in
-    let refusal = c .before .before .before .before .before .before .before .before .before .args .refusal in
-    let node = c .before .before .before .before .before .before .before .before .before .args .node in
-    broken (c .before .take-in .ensures) (leafWork allowed refusal node) (not-true _ (c .if1 .taken))
+    let start = c .before .before .before .before .before .before .before .before .before in
+    let a = start .args in
+    broken (c .before .take-in .ensures) Node Refused limit (leafWork (a .allowed) (a .refusal) (a .node)) (not-true _ (c .if1 .taken))
 
 same-length-3 : tie.Need-same-length-3
 same-length-3 c = search needs
@@ -35,28 +35,35 @@ same-length-4 c = search needs
 
 returns-2 : tie.Need-returns-2
 returns-2 c =
-    let allowed = c .before .before .before .before .before .before .before .before .before .before .args .allowed in
-    let refusal = c .before .before .before .before .before .before .before .before .before .before .args .refusal in
-    let node = c .before .before .before .before .before .before .before .before .before .before .args .node in
-    let taken = c .before .before .take-in .ensures in
-    let pool-taken = not-false _ (c .before .if1 .left) in
-    demanded taken (leafWork allowed refusal node) pool-taken (rw (not-true allowed (c .if2 .taken)))
+    let in-pool = c .before in
+    let start = in-pool .before .before .before .before .before .before .before .before .before in
+    let a = start .args in
+    demanded (in-pool .before .take-in .ensures) (not-false _ (in-pool .if1 .left)) Node Refused limit (leafWork (a .allowed) (a .refusal) (a .node)) (rw (not-true (a .allowed) (c .if2 .taken)))
 
-add-t20 : tie.Need-add-t20
-add-t20 c =
-    let taken = c .before .before .take-in .ensures in
-    let pool-taken = not-false _ (c .before .if1 .left) in
-    omega (arith, sizes taken pool-taken .small)
+cast-room-between : tie.Need-cast-room-between
+cast-room-between c =
+    let in-pool = c .before in
+    record { fits = omega (arith, sizes (in-pool .before .take-in .ensures) (not-false _ (in-pool .if1 .left)) .small) }
+
+cast-room-between-2 : tie.Need-cast-room-between-2
+cast-room-between-2 c = search needs
+
+room-between-requires : tie.Need-room-between-requires
+room-between-requires c κs = search needs
 
 append-requires : tie.Need-append-requires
 append-requires c κs = search needs
 
 finish-requires : tie.Need-finish-requires
 finish-requires c κs =
-    let node = c .before .before .before .before .before .before .before .before .before .before .before .before .before .before .before .before .before .before .args .node in
-    let taken = c .before .before .before .before .before .before .before .before .before .before .take-in .ensures in
-    let pool-taken = not-false _ (c .before .before .before .before .before .before .before .before .before .if1 .left) in
-    (is-pool taken pool-taken, appends (append-grows node) (on-lent taken (append node) pool-taken (c .before .before .before .before .before .append .ensures)))
+    let work = c .before .before .before .before .before in
+    let room = work .before .before .before in
+    let in-pool = room .before .before in
+    let start = in-pool .before .before .before .before .before .before .before .before .before in
+    let taken = in-pool .before .take-in .ensures in
+    let pool-taken = not-false _ (in-pool .if1 .left) in
+    let node = start .args .node in
+    may-finish taken pool-taken limit (append-grows node) (on-lent taken pool-taken (append node) (room .room-between .ensures) (work .append .ensures))
 
 same-length-5 : tie.Need-same-length-5
 same-length-5 c = search needs
@@ -66,12 +73,17 @@ same-length-6 c = search needs
 
 returns-3 : tie.Need-returns-3
 returns-3 c =
-    let allowed = c .before .before .before .before .before .before .before .before .before .before .before .before .before .before .before .before .before .before .before .before .before .before .before .args .allowed in
-    let refusal = c .before .before .before .before .before .before .before .before .before .before .before .before .before .before .before .before .before .before .before .before .before .before .before .args .refusal in
-    let node = c .before .before .before .before .before .before .before .before .before .before .before .before .before .before .before .before .before .before .before .before .before .before .before .args .node in
-    let taken = c .before .before .before .before .before .before .before .before .before .before .before .before .before .before .before .take-in .ensures in
-    let pool-taken = not-false _ (c .before .before .before .before .before .before .before .before .before .before .before .before .before .before .if1 .left) in
-    worked taken (leafWork allowed refusal node) pool-taken (c .before .before .before .before .finish .ensures) (on-lent taken (append node) pool-taken (c .before .before .before .before .before .before .before .before .before .before .append .ensures) ∙ met refusal (not-false allowed (c .before .before .before .before .before .before .before .before .before .before .before .before .before .if2 .left)))
+    let done = c .before .before .before .before in
+    let work = done .before .before .before .before .before .before in
+    let room = work .before .before .before in
+    let allowed = room .before in
+    let in-pool = allowed .before in
+    let start = in-pool .before .before .before .before .before .before .before .before .before in
+    let taken = in-pool .before .take-in .ensures in
+    let pool-taken = not-false _ (in-pool .if1 .left) in
+    let a = start .args in
+    worked taken pool-taken Node Refused limit (leafWork (a .allowed) (a .refusal) (a .node)) (done .finish .ensures)
+    (on-lent taken pool-taken (append (a .node)) (room .room-between .ensures) (work .append .ensures) ∙ met (a .refusal) (not-false (a .allowed) (allowed .if2 .left)))
 
 pub on-leaf-spec : {M : Type 1} → statement M
 on-leaf-spec =
@@ -84,7 +96,9 @@ on-leaf-spec =
     same-length-3
     same-length-4
     returns-2
-    add-t20
+    cast-room-between
+    cast-room-between-2
+    room-between-requires
     append-requires
     finish-requires
     same-length-5

@@ -1,12 +1,13 @@
 -- `engine::two::on_two` meets its contract: the pool and the given numbers are looked at first, then the constructor works on the copies.
 -- Assumes nothing.
 use borrow.Author.Needs.{needs}
-use mathlib.Core.Path.{sym, _∙_}
+use mathlib.Core.Path.{_∙_}
 use native.Mathlib.Omega.{arith}
 use borrow.Author.Tests.{not-true, not-false}
 use Rattle.refusals.specs.Refusals.{unknownNode}
-use Rattle.lent.proofs.Finishing.{both-are-below}
-use Rattle.lent.proofs.Calling.{met, broken, demanded, is-pool, sizes, on-lent, worked, appends}
+use Rattle.pool.specs.Pool.{limit}
+use Rattle.lent.specs.declared.Answer.the-variants.{Node, Refused}
+use Rattle.lent.proofs.Calling.{test-fails, test-holds, met, broken, demanded, sizes, both-fit, on-lent, may-finish, worked}
 use Rattle.constructor_calls.specs.Calls.{twoWork}
 use Rattle.engine.specs.Build.{onTwo}
 use Rattle.engine.proofs.Growing.{two-grows}
@@ -24,10 +25,9 @@ same-length-2 c = search needs
 
 returns : tie.Need-returns
 returns c =
-    let op = c .before .before .before .before .before .before .before .before .before .args .op in
-    let lhs = c .before .before .before .before .before .before .before .before .before .args .lhs in
-    let rhs = c .before .before .before .before .before .before .before .before .before .args .rhs in
-    broken (c .before .take-in .ensures) (onTwo op lhs rhs) (not-true _ (c .if1 .taken))
+    let start = c .before .before .before .before .before .before .before .before .before in
+    let a = start .args in
+    broken (c .before .take-in .ensures) Node Refused limit (onTwo (a .op) (a .lhs) (a .rhs)) (not-true _ (c .if1 .taken))
 
 both-given-requires : tie.Need-both-given-requires
 both-given-requires c κs = search needs
@@ -40,49 +40,49 @@ same-length-4 c = search needs
 
 returns-2 : tie.Need-returns-2
 returns-2 c =
-    let op = c .before .before .before .before .before .before .before .before .before .before .before .args .op in
-    let lhs = c .before .before .before .before .before .before .before .before .before .before .before .args .lhs in
-    let rhs = c .before .before .before .before .before .before .before .before .before .before .before .args .rhs in
-    let taken = c .before .before .before .take-in .ensures in
-    let pool-taken = not-false _ (c .before .before .if1 .left) in
-    demanded taken (onTwo op lhs rhs) pool-taken (rw (sym (c .before .both-given .ensures) ∙ not-true _ (c .if2 .taken)))
+    let in-pool = c .before .before in
+    let start = in-pool .before .before .before .before .before .before .before .before .before in
+    let a = start .args in
+    demanded (in-pool .before .take-in .ensures) (not-false _ (in-pool .if1 .left)) Node Refused limit (onTwo (a .op) (a .lhs) (a .rhs)) (rw (test-fails (c .before .both-given .ensures) (c .if2 .taken)))
 
-add-t20 : tie.Need-add-t20
-add-t20 c =
-    let taken = c .before .before .before .take-in .ensures in
-    let pool-taken = not-false _ (c .before .before .if1 .left) in
-    omega (arith, sizes taken pool-taken .small)
+cast-room-between : tie.Need-cast-room-between
+cast-room-between c =
+    let in-pool = c .before .before in
+    record { fits = omega (arith, sizes (in-pool .before .take-in .ensures) (not-false _ (in-pool .if1 .left)) .small) }
+
+cast-room-between-2 : tie.Need-cast-room-between-2
+cast-room-between-2 c = search needs
+
+room-between-requires : tie.Need-room-between-requires
+room-between-requires c κs = search needs
 
 cast-two-in : tie.Need-cast-two-in
 cast-two-in c =
-    let lhs = c .before .before .before .before .before .before .before .before .before .before .before .before .before .args .lhs in
-    let rhs = c .before .before .before .before .before .before .before .before .before .before .before .before .before .args .rhs in
-    let taken = c .before .before .before .before .before .take-in .ensures in
-    let pool-taken = not-false _ (c .before .before .before .before .if1 .left) in
-    let given = both-are-below (c .before .before .before .before .before .before .before .before .before .before .before .before .before .args .count .now) lhs rhs (sym (c .before .before .before .both-given .ensures) ∙ not-false _ (c .before .before .if2 .left)) in
-    record { fits = omega (arith, given, sizes taken pool-taken .small) }
+    let given = c .before .before .before in
+    let in-pool = given .before .before in
+    let below = test-holds (given .before .both-given .ensures) (given .if2 .left) in
+    record { fits = omega (arith, both-fit (in-pool .before .take-in .ensures) (not-false _ (in-pool .if1 .left)) below .0) }
 
 cast-two-in-2 : tie.Need-cast-two-in-2
 cast-two-in-2 c =
-    let lhs = c .before .before .before .before .before .before .before .before .before .before .before .before .before .args .lhs in
-    let rhs = c .before .before .before .before .before .before .before .before .before .before .before .before .before .args .rhs in
-    let taken = c .before .before .before .before .before .take-in .ensures in
-    let pool-taken = not-false _ (c .before .before .before .before .if1 .left) in
-    let given = both-are-below (c .before .before .before .before .before .before .before .before .before .before .before .before .before .args .count .now) lhs rhs (sym (c .before .before .before .both-given .ensures) ∙ not-false _ (c .before .before .if2 .left)) in
-    record { fits = omega (arith, given, sizes taken pool-taken .small) }
+    let given = c .before .before .before in
+    let in-pool = given .before .before in
+    let below = test-holds (given .before .both-given .ensures) (given .if2 .left) in
+    record { fits = omega (arith, both-fit (in-pool .before .take-in .ensures) (not-false _ (in-pool .if1 .left)) below .1) }
 
 two-in-requires : tie.Need-two-in-requires
 two-in-requires c κs = search needs
 
 finish-requires : tie.Need-finish-requires
 finish-requires c κs =
-    let op = c .before .before .before .before .before .before .before .before .before .before .before .before .before .before .before .before .before .before .before .args .op in
-    let lhs = c .before .before .before .before .before .before .before .before .before .before .before .before .before .before .before .before .before .before .before .args .lhs in
-    let rhs = c .before .before .before .before .before .before .before .before .before .before .before .before .before .before .before .before .before .before .before .args .rhs in
-    let taken = c .before .before .before .before .before .before .before .before .before .before .before .take-in .ensures in
-    let pool-taken = not-false _ (c .before .before .before .before .before .before .before .before .before .before .if1 .left) in
-    let run = twoWork op lhs rhs in
-    (is-pool taken pool-taken, appends (two-grows op lhs rhs) (on-lent taken run pool-taken (c .before .before .before .before .before .two-in .ensures)))
+    let work = c .before .before .before .before .before in
+    let room = work .before .before .before in
+    let in-pool = room .before .before .before in
+    let start = in-pool .before .before .before .before .before .before .before .before .before in
+    let taken = in-pool .before .take-in .ensures in
+    let pool-taken = not-false _ (in-pool .if1 .left) in
+    let a = start .args in
+    may-finish taken pool-taken limit (two-grows (a .op) (a .lhs) (a .rhs)) (on-lent taken pool-taken (twoWork (a .op) (a .lhs) (a .rhs)) (room .room-between .ensures) (work .two-in .ensures))
 
 same-length-5 : tie.Need-same-length-5
 same-length-5 c = search needs
@@ -92,14 +92,17 @@ same-length-6 c = search needs
 
 returns-3 : tie.Need-returns-3
 returns-3 c =
-    let op = c .before .before .before .before .before .before .before .before .before .before .before .before .before .before .before .before .before .before .before .before .before .before .before .before .args .op in
-    let lhs = c .before .before .before .before .before .before .before .before .before .before .before .before .before .before .before .before .before .before .before .before .before .before .before .before .args .lhs in
-    let rhs = c .before .before .before .before .before .before .before .before .before .before .before .before .before .before .before .before .before .before .before .before .before .before .before .before .args .rhs in
-    let taken = c .before .before .before .before .before .before .before .before .before .before .before .before .before .before .before .before .take-in .ensures in
-    let pool-taken = not-false _ (c .before .before .before .before .before .before .before .before .before .before .before .before .before .before .before .if1 .left) in
-    let run = twoWork op lhs rhs in
-    let given = sym (c .before .before .before .before .before .before .before .before .before .before .before .before .before .before .both-given .ensures) ∙ not-false _ (c .before .before .before .before .before .before .before .before .before .before .before .before .before .if2 .left) in
-    worked taken (onTwo op lhs rhs) pool-taken (c .before .before .before .before .finish .ensures) (on-lent taken run pool-taken (c .before .before .before .before .before .before .before .before .before .before .two-in .ensures) ∙ met unknownNode given)
+    let done = c .before .before .before .before in
+    let work = done .before .before .before .before .before .before in
+    let room = work .before .before .before in
+    let given = room .before in
+    let in-pool = given .before .before in
+    let start = in-pool .before .before .before .before .before .before .before .before .before in
+    let taken = in-pool .before .take-in .ensures in
+    let pool-taken = not-false _ (in-pool .if1 .left) in
+    let a = start .args in
+    worked taken pool-taken Node Refused limit (onTwo (a .op) (a .lhs) (a .rhs)) (done .finish .ensures)
+    (on-lent taken pool-taken (twoWork (a .op) (a .lhs) (a .rhs)) (room .room-between .ensures) (work .two-in .ensures) ∙ met unknownNode (test-holds (given .before .both-given .ensures) (given .if2 .left)))
 
 pub on-two-spec : {M : Type 1} → statement M
 on-two-spec =
@@ -113,7 +116,9 @@ on-two-spec =
     same-length-3
     same-length-4
     returns-2
-    add-t20
+    cast-room-between
+    cast-room-between-2
+    room-between-requires
     cast-two-in
     cast-two-in-2
     two-in-requires

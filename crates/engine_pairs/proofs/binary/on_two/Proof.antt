@@ -1,19 +1,20 @@
 -- `engine_pairs::binary::on_two` meets its contract: the pool, the numbers and the lengths are looked at first, then the operation works on the copies.
 -- Assumes nothing.
 use borrow.Author.Needs.{needs}
-use mathlib.Core.Path.{_≡_, sym, _∙_}
+use mathlib.Core.Path.{_≡_, _∙_}
 use native.Mathlib.Omega.{arith}
 use borrow.Author.Tests.{not-true, not-false}
 use lib.ListN.{length}
 use Rattle.refusals.specs.Refusals.{unknownNode, wrongOrder}
 use Rattle.pool.specs.Nodes.{allBelow}
+use Rattle.pool.specs.Pool.{limit}
 use Rattle.taylor_base.specs.Answers.{terms}
 use Rattle.lent.proofs.Finishing.{and-left, and-right}
-use Rattle.lent.proofs.Calling.{is-pool, sizes}
+use Rattle.lent.proofs.Calling.{test-fails, test-holds, met, broken, demanded, sizes, on-lent, may-finish, worked}
 use Rattle.lent_series.specs.Series.{nodesOf, given}
+use Rattle.lent_series.specs.Call.{accepted, refusedOutcome}
 use Rattle.lent_series.proofs.Numbers.{usable}
-use Rattle.lent_series.proofs.Calling.{met, broken, demanded, on-lent, worked, appends}
-use Rattle.engine_pairs.specs.Pairs.{binaryWork, onTwo}
+use Rattle.engine_pairs.specs.Pairs.{binaryWork, onExpansions}
 use Rattle.engine_pairs.proofs.Lengths.{both-lengths}
 use Rattle.engine_pairs.proofs.Growing.{binary-grows}
 use Rattle.engine_pairs.proofs.binary.on_two.Statement.{statement}
@@ -39,10 +40,9 @@ same-length-2 c = search needs
 
 returns : tie.Need-returns
 returns c =
-    let op = c .before .before .before .before .before .before .before .before .before .before .args .op in
-    let s = c .before .before .before .before .before .before .before .before .before .before .args .s in
-    let t = c .before .before .before .before .before .before .before .before .before .before .args .t in
-    rw (c .refused .ensures) (broken (c .before .before .take-in .ensures) (onTwo op s t) (not-true _ (c .before .if1 .taken)))
+    let start = c .before .before .before .before .before .before .before .before .before .before in
+    let a = start .args in
+    rw (c .refused .ensures) (broken (c .before .before .take-in .ensures) accepted refusedOutcome limit (onExpansions (a .op) (a .s) (a .t)) (not-true _ (c .before .if1 .taken)))
 
 both-below-requires : tie.Need-both-below-requires
 both-below-requires c κs = search needs
@@ -58,12 +58,11 @@ same-length-4 c = search needs
 
 returns-2 : tie.Need-returns-2
 returns-2 c =
-    let op = c .before .before .before .before .before .before .before .before .before .before .before .before .args .op in
-    let s = c .before .before .before .before .before .before .before .before .before .before .before .before .args .s in
-    let t = c .before .before .before .before .before .before .before .before .before .before .before .before .args .t in
-    let taken = c .before .before .before .before .take-in .ensures in
-    let pool-taken = not-false _ (c .before .before .before .if1 .left) in
-    rw (c .refused2 .ensures) (demanded taken (onTwo op s t) pool-taken (rw (sym (c .before .before .both-below .ensures) ∙ not-true _ (c .before .if2 .taken))))
+    let in-pool = c .before .before .before in
+    let start = in-pool .before .before .before .before .before .before .before .before .before in
+    let a = start .args in
+    rw (c .refused2 .ensures)
+    (demanded (in-pool .before .take-in .ensures) (not-false _ (in-pool .if1 .left)) accepted refusedOutcome limit (onExpansions (a .op) (a .s) (a .t)) (rw (test-fails (c .before .before .both-below .ensures) (c .before .if2 .taken))))
 
 have-lengths-requires : tie.Need-have-lengths-requires
 have-lengths-requires c κs = search needs
@@ -79,57 +78,69 @@ same-length-6 c = search needs
 
 returns-3 : tie.Need-returns-3
 returns-3 c =
-    let op = c .before .before .before .before .before .before .before .before .before .before .before .before .before .before .args .op in
-    let s = c .before .before .before .before .before .before .before .before .before .before .before .before .before .before .args .s in
-    let t = c .before .before .before .before .before .before .before .before .before .before .before .before .before .before .args .t in
-    let taken = c .before .before .before .before .before .before .take-in .ensures in
-    let pool-taken = not-false _ (c .before .before .before .before .before .if1 .left) in
-    let given-nodes = sym (c .before .before .before .before .both-below .ensures) ∙ not-false _ (c .before .before .before .if2 .left) in
-    rw (c .refused3 .ensures) (demanded taken (onTwo op s t) pool-taken (rw (given-nodes, sym (c .before .before .have-lengths .ensures) ∙ not-true _ (c .before .if3 .taken))))
+    let nodes = c .before .before .before in
+    let in-pool = nodes .before .before in
+    let start = in-pool .before .before .before .before .before .before .before .before .before in
+    let a = start .args in
+    let below = test-holds (nodes .before .both-below .ensures) (nodes .if2 .left) in
+    rw (c .refused3 .ensures)
+    (demanded (in-pool .before .take-in .ensures) (not-false _ (in-pool .if1 .left)) accepted refusedOutcome limit (onExpansions (a .op) (a .s) (a .t)) (rw (below, test-fails (c .before .before .have-lengths .ensures) (c .before .if3 .taken))))
 
-add-t22 : tie.Need-add-t22
-add-t22 c =
-    let taken = c .before .before .before .before .before .take-in .ensures in
-    let pool-taken = not-false _ (c .before .before .before .before .if1 .left) in
-    omega (arith, sizes taken pool-taken .small)
+cast-room-between : tie.Need-cast-room-between
+cast-room-between c =
+    let in-pool = c .before .before .before .before in
+    record { fits = omega (arith, sizes (in-pool .before .take-in .ensures) (not-false _ (in-pool .if1 .left)) .small) }
+
+cast-room-between-2 : tie.Need-cast-room-between-2
+cast-room-between-2 c = search needs
+
+room-between-requires : tie.Need-room-between-requires
+room-between-requires c κs = search needs
 
 expansion-of-requires : tie.Need-expansion-of-requires
 expansion-of-requires c κs =
-    let op = c .before .before .before .before .before .before .before .before .before .before .before .before .before .args .op in
-    let s = c .before .before .before .before .before .before .before .before .before .before .before .before .before .args .s in
-    let t = c .before .before .before .before .before .before .before .before .before .before .before .before .before .args .t in
-    let taken = c .before .before .before .before .before .take-in .ensures in
-    let pool-taken = not-false _ (c .before .before .before .before .if1 .left) in
-    let given-nodes = sym (c .before .before .before .both-below .ensures) ∙ not-false _ (c .before .before .if2 .left) in
-    let lengths-given = sym (c .before .have-lengths .ensures) ∙ not-false _ (c .if3 .left) in
-    usable s (c .before .before .before .before .before .before .before .before .before .before .before .before .before .args .count .now) (long-s (c .before .before .before .before .before .before .before .before .before .before .before .before .before)) (sizes taken pool-taken .small) (and-left (allBelow (c .before .before .before .before .before .before .before .before .before .before .before .before .before .args .count .now) (nodesOf s)) _ given-nodes) (both-lengths s t op lengths-given .0)
+    let listed = c .before in
+    let nodes = listed .before .before in
+    let in-pool = nodes .before .before in
+    let start = in-pool .before .before .before .before .before .before .before .before .before in
+    let a = start .args in
+    let small = sizes (in-pool .before .take-in .ensures) (not-false _ (in-pool .if1 .left)) .small in
+    let below = test-holds (nodes .before .both-below .ensures) (nodes .if2 .left) in
+    let lengths = both-lengths (a .s) (a .t) (a .op) (test-holds (listed .before .have-lengths .ensures) (listed .if3 .left)) in
+    usable (a .s) (a .count .now) (long-s start) small (and-left (allBelow (a .count .now) (nodesOf (a .s))) _ below) (lengths .0)
 
 expansion-of-requires-2 : tie.Need-expansion-of-requires-2
 expansion-of-requires-2 c κs =
-    let op = c .before .before .before .before .before .before .before .before .before .before .before .before .before .before .args .op in
-    let s = c .before .before .before .before .before .before .before .before .before .before .before .before .before .before .args .s in
-    let t = c .before .before .before .before .before .before .before .before .before .before .before .before .before .before .args .t in
-    let taken = c .before .before .before .before .before .before .take-in .ensures in
-    let pool-taken = not-false _ (c .before .before .before .before .before .if1 .left) in
-    let given-nodes = sym (c .before .before .before .before .both-below .ensures) ∙ not-false _ (c .before .before .before .if2 .left) in
-    let lengths-given = sym (c .before .before .have-lengths .ensures) ∙ not-false _ (c .before .if3 .left) in
-    usable t (c .before .before .before .before .before .before .before .before .before .before .before .before .before .before .args .count .now) (long-t (c .before .before .before .before .before .before .before .before .before .before .before .before .before .before)) (sizes taken pool-taken .small) (and-right (allBelow (c .before .before .before .before .before .before .before .before .before .before .before .before .before .before .args .count .now) (nodesOf s)) _ given-nodes) (both-lengths s t op lengths-given .1)
+    let listed = c .before .before in
+    let nodes = listed .before .before in
+    let in-pool = nodes .before .before in
+    let start = in-pool .before .before .before .before .before .before .before .before .before in
+    let a = start .args in
+    let small = sizes (in-pool .before .take-in .ensures) (not-false _ (in-pool .if1 .left)) .small in
+    let below = test-holds (nodes .before .both-below .ensures) (nodes .if2 .left) in
+    let lengths = both-lengths (a .s) (a .t) (a .op) (test-holds (listed .before .have-lengths .ensures) (listed .if3 .left)) in
+    usable (a .t) (a .count .now) (long-t start) small (and-right (allBelow (a .count .now) (nodesOf (a .s))) _ below) (lengths .1)
 
 binary-in-requires : tie.Need-binary-in-requires
 binary-in-requires c κs = search needs
 
 finish-requires : tie.Need-finish-requires
 finish-requires c κs =
-    let op = c .before .before .before .before .before .before .before .before .before .before .before .before .before .before .before .before .before .before .before .before .before .before .before .args .op in
-    let s = c .before .before .before .before .before .before .before .before .before .before .before .before .before .before .before .before .before .before .before .before .before .before .before .args .s in
-    let t = c .before .before .before .before .before .before .before .before .before .before .before .before .before .before .before .before .before .before .before .before .before .before .before .args .t in
-    let taken = c .before .before .before .before .before .before .before .before .before .before .before .before .before .before .before .take-in .ensures in
-    let pool-taken = not-false _ (c .before .before .before .before .before .before .before .before .before .before .before .before .before .before .if1 .left) in
-    let e = c .before .before .before .before .before .before .before .before .before .expansion-of .ensures in
-    let d = c .before .before .before .before .before .before .before .before .expansion-of2 .ensures in
-    let result = c .before .before .before .before .before .binary-in .ensures in
-    let is = on-lent taken (binaryWork op (given s) (given t)) pool-taken (rw (e .is, d .is) at (result .is)) in
-    (is-pool taken pool-taken, (appends (binary-grows op (given s) (given t)) is, result .tidy))
+    let work = c .before .before .before .before .before in
+    let right = work .before .before .before in
+    let left = right .before in
+    let room = left .before in
+    let in-pool = room .before .before .before .before .before in
+    let start = in-pool .before .before .before .before .before .before .before .before .before in
+    let taken = in-pool .before .take-in .ensures in
+    let pool-taken = not-false _ (in-pool .if1 .left) in
+    let op = start .args .op in
+    let s = given (start .args .s) in
+    let t = given (start .args .t) in
+    let result = work .binary-in .ensures in
+    let is = on-lent taken pool-taken (binaryWork op s t) (room .room-between .ensures) (rw (left .expansion-of .ensures .is, right .expansion-of2 .ensures .is) at (result .is)) in
+    let asked = may-finish taken pool-taken limit (binary-grows op s t) is in
+    (asked .0, (asked .1, result .tidy))
 
 same-length-7 : tie.Need-same-length-7
 same-length-7 c = search needs
@@ -139,18 +150,24 @@ same-length-8 c = search needs
 
 returns-4 : tie.Need-returns-4
 returns-4 c =
-    let op = c .before .before .before .before .before .before .before .before .before .before .before .before .before .before .before .before .before .before .before .before .before .before .before .before .before .before .before .before .args .op in
-    let s = c .before .before .before .before .before .before .before .before .before .before .before .before .before .before .before .before .before .before .before .before .before .before .before .before .before .before .before .before .args .s in
-    let t = c .before .before .before .before .before .before .before .before .before .before .before .before .before .before .before .before .before .before .before .before .before .before .before .before .before .before .before .before .args .t in
-    let taken = c .before .before .before .before .before .before .before .before .before .before .before .before .before .before .before .before .before .before .before .before .take-in .ensures in
-    let pool-taken = not-false _ (c .before .before .before .before .before .before .before .before .before .before .before .before .before .before .before .before .before .before .before .if1 .left) in
-    let given-nodes = sym (c .before .before .before .before .before .before .before .before .before .before .before .before .before .before .before .before .before .before .both-below .ensures) ∙ not-false _ (c .before .before .before .before .before .before .before .before .before .before .before .before .before .before .before .before .before .if2 .left) in
-    let lengths-given = sym (c .before .before .before .before .before .before .before .before .before .before .before .before .before .before .before .before .have-lengths .ensures) ∙ not-false _ (c .before .before .before .before .before .before .before .before .before .before .before .before .before .before .before .if3 .left) in
-    let e = c .before .before .before .before .before .before .before .before .before .before .before .before .before .before .expansion-of .ensures in
-    let d = c .before .before .before .before .before .before .before .before .before .before .before .before .before .expansion-of2 .ensures in
-    let result = c .before .before .before .before .before .before .before .before .before .before .binary-in .ensures in
-    let is = on-lent taken (binaryWork op (given s) (given t)) pool-taken (rw (e .is, d .is) at (result .is)) in
-    worked taken (onTwo op s t) pool-taken (c .before .before .before .before .finish .ensures) (is ∙ met wrongOrder lengths-given ∙ met unknownNode given-nodes)
+    let done = c .before .before .before .before in
+    let work = done .before .before .before .before .before .before in
+    let right = work .before .before .before in
+    let left = right .before in
+    let room = left .before in
+    let listed = room .before in
+    let nodes = listed .before .before in
+    let in-pool = nodes .before .before in
+    let start = in-pool .before .before .before .before .before .before .before .before .before in
+    let taken = in-pool .before .take-in .ensures in
+    let pool-taken = not-false _ (in-pool .if1 .left) in
+    let below = test-holds (nodes .before .both-below .ensures) (nodes .if2 .left) in
+    let lengths = test-holds (listed .before .have-lengths .ensures) (listed .if3 .left) in
+    let op = start .args .op in
+    let s = start .args .s in
+    let t = start .args .t in
+    let is = on-lent taken pool-taken (binaryWork op (given s) (given t)) (room .room-between .ensures) (rw (left .expansion-of .ensures .is, right .expansion-of2 .ensures .is) at (work .binary-in .ensures .is)) in
+    worked taken pool-taken accepted refusedOutcome limit (onExpansions op s t) (done .finish .ensures) (is ∙ met wrongOrder lengths ∙ met unknownNode below)
 
 pub on-two-spec : {M : Type 1} → statement M
 on-two-spec =
@@ -171,7 +188,9 @@ on-two-spec =
     same-length-5
     same-length-6
     returns-3
-    add-t22
+    cast-room-between
+    cast-room-between-2
+    room-between-requires
     expansion-of-requires
     expansion-of-requires-2
     binary-in-requires
