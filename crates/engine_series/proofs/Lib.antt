@@ -1,3 +1,1 @@
 pub mod Growing
-pub mod Indices
-pub mod Reading

@@ -1,0 +1,2 @@
+pub mod Growing
+pub mod Indices
