@@ -17,12 +17,12 @@ use Rattle.taylor.specs.Work.{Result, Work, at}
 use Rattle.taylor.specs.Expansion.{Expansion, Constant, Polynomial, endless}
 use Rattle.taylor_base.specs.Answers.{terms}
 use Rattle.taylor_rules.specs.Kept.{Fits}
-use Rattle.lent.specs.Call.{lentPool, demand}
+use Rattle.lent.specs.Call.{Returned, returned, leaves, lentPool, demand}
 use Rattle.lent.proofs.Finishing.{and-left, and-right}
 use Rattle.lent_series.specs.declared.series.Series.{Series}
 use Rattle.lent_series.specs.declared.call.Outcome.{Outcome}
 use Rattle.lent_series.specs.Series.{isConstant, nodesOf, lengthOk, given, seriesOf}
-use Rattle.lent_series.specs.Call.{Left, accepted, left, leaves, givenSeries, givenTwo}
+use Rattle.lent_series.specs.Call.{accepted, refusedOutcome, givenSeries, givenTwo}
 use Rattle.lent_series.proofs.Numbers.{few-entries, length-between}
 use Rattle.book_calls.specs.Calls.{Array, Answered}
 
@@ -49,7 +49,7 @@ pub done-by : {work : Work Expansion} {ks ws : List ℕ} {n : ℕ} {r : Outcome}
 done-by {work} {ks} {ws} {n} {r} {ks′} {ws′} {n′} h = go (demand refused (isPool ks ws n) brokenPool (work (lentPool ks ws n))) refl (h .contract) (h .accepted)
   where
     go :
-        (x : Result Expansion) → demand refused (isPool ks ws n) brokenPool (work (lentPool ks ws n)) ≡ x → left r ks′ ws′ n′ ≡ leaves ks ws n x → 1 ≤ r .series .order
+        (x : Result Expansion) → demand refused (isPool ks ws n) brokenPool (work (lentPool ks ws n)) ≡ x → returned r ks′ ws′ n′ ≡ leaves accepted refusedOutcome ks ws n x → 1 ≤ r .series .order
         → Done work ks ws n r ks′ ws′ n′
     go (done e Q) d c some =
         let both = demanded (isPool ks ws n) brokenPool d in
@@ -58,12 +58,12 @@ done-by {work} {ks} {ws} {n} {r} {ks′} {ws′} {n′} h = go (demand refused (
           expansion = e;
           finish = Q;
           worked = both .1;
-          outcome = ap (λ (l : Left). l .outcome) c;
-          kinds = ap (λ (l : Left). l .kinds) c;
-          words = ap (λ (l : Left). l .words) c;
-          count = ap (λ (l : Left). l .count) c;
+          outcome = ap (λ (l : Returned Outcome). l .answer) c;
+          kinds = ap (λ (l : Returned Outcome). l .kinds) c;
+          words = ap (λ (l : Returned Outcome). l .words) c;
+          count = ap (λ (l : Returned Outcome). l .count) c;
         }
-    go (refused k) d c some = absurd (never (ap (λ (l : Left). l .outcome .series .order) c) some)
+    go (refused k) d c some = absurd (never (ap (λ (l : Returned Outcome). l .answer .series .order) c) some)
       where
         never : r .series .order ≡ 0 → 1 ≤ r .series .order → ⊥
         never e l = omega arith
@@ -85,8 +85,8 @@ pub holds-of-the-answer :
     → H (lentPool ks′ ws′ n′) (given (r .series))
 holds-of-the-answer {ks = ks} {ws} {n} {r} {ks′} {ws′} {n′} H d g fits h =
     let same : given (r .series) ≡ d .expansion = ap (λ (o : Outcome). given (o .series)) (d .outcome) ∙ answer-is (d .expansion) fits in
-    let left : lentPool ks′ ws′ n′ ≡ d .finish = rw (d .kinds, d .words, d .count, ← g .end) in
-    subst (λ P. H P (given (r .series))) (sym left) (subst (H (d .finish)) (sym same) h)
+    let same-pool : lentPool ks′ ws′ n′ ≡ d .finish = rw (d .kinds, d .words, d .count, ← g .end) in
+    subst (λ P. H P (given (r .series))) (sym same-pool) (subst (H (d .finish)) (sym same) h)
 
 -- ---- what is given
 

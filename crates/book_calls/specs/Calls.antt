@@ -9,7 +9,8 @@ use Rattle.taylor.specs.Expansion.{Expansion}
 use Rattle.taylor_base.specs.Answers.{terms}
 use Rattle.lent_series.specs.declared.series.Series.{Series}
 use Rattle.lent_series.specs.declared.call.Outcome.{Outcome}
-use Rattle.lent_series.specs.Call.{left, onPool}
+use Rattle.lent.specs.Call.{returned}
+use Rattle.lent_series.specs.Call.{seriesOnPool}
 
 -- "arrays of 25", as every value of the type has
 abbrev pub Array : Series → Type 0
@@ -18,6 +19,6 @@ Array s = length (s .coeffs) ≡ terms
 -- the call of this work on the lent tables ks, ws and count n left the outcome r, the tables ks′, ws′ and the count n′
 pub record Answered (work : Work Expansion) (ks ws : List ℕ) (n : ℕ) (r : Outcome) (ks′ ws′ : List ℕ) (n′ : ℕ) : Type 0 where
   -- the contract of the call
-  pub contract : left r ks′ ws′ n′ ≡ onPool work ks ws n
+  pub contract : returned r ks′ ws′ n′ ≡ seriesOnPool work ks ws n
   -- an expansion is answered: its order is 1 or more, and beside a refusal stands 0
   pub accepted : 1 ≤ r .series .order

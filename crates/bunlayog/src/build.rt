@@ -4,7 +4,7 @@ ghost use mathlib.Core.List.{[], _∷_};
 ghost use Rattle.constructors.specs.Build.{calls, depth};
 ghost use Rattle.lent.specs.Call.{onPool, givenNodes};
 ghost use Rattle.engine.specs.Build.{litWork, varWork};
-ghost use Rattle.c_answers.specs.Interface.{leftInC, inC};
+ghost use Rattle.c_answers.specs.Interface.{returnedInC, inC};
 use c_answers::answered;
 
 #[no_mangle]
@@ -15,7 +15,7 @@ pub extern "C" fn bunlayog_lit(
     value: i64,
     node: &mut u64,
 ) -> u32
-    ensures { λ r. ⌜ leftInC r (now (kinds .exit)) (now (words .exit)) (now (count .exit)) (now (node .exit)) ≡ inC (now (node .entry)) (onPool (litWork value) (now (kinds .entry)) (now (words .entry)) (now (count .entry))) ⌝ }
+    ensures { λ r. ⌜ returnedInC r (now (kinds .exit)) (now (words .exit)) (now (count .exit)) (now (node .exit)) ≡ inC (now (node .entry)) (onPool (litWork value) (now (kinds .entry)) (now (words .entry)) (now (count .entry))) ⌝ }
 {
     answered(engine::lit(kinds, words, count, value), node)
 }
@@ -28,7 +28,7 @@ pub extern "C" fn bunlayog_var(
     number: u64,
     node: &mut u64,
 ) -> u32
-    ensures { λ r. ⌜ leftInC r (now (kinds .exit)) (now (words .exit)) (now (count .exit)) (now (node .exit)) ≡ inC (now (node .entry)) (onPool (varWork number) (now (kinds .entry)) (now (words .entry)) (now (count .entry))) ⌝ }
+    ensures { λ r. ⌜ returnedInC r (now (kinds .exit)) (now (words .exit)) (now (count .exit)) (now (node .exit)) ≡ inC (now (node .entry)) (onPool (varWork number) (now (kinds .entry)) (now (words .entry)) (now (count .entry))) ⌝ }
 {
     answered(engine::var(kinds, words, count, number), node)
 }
@@ -42,7 +42,7 @@ pub extern "C" fn bunlayog_add(
     rhs: u64,
     node: &mut u64,
 ) -> u32
-    ensures { λ r. ⌜ leftInC r (now (kinds .exit)) (now (words .exit)) (now (count .exit)) (now (node .exit)) ≡ inC (now (node .entry)) (onPool (givenNodes (lhs ∷ rhs ∷ []) (calls depth .add-at lhs rhs)) (now (kinds .entry)) (now (words .entry)) (now (count .entry))) ⌝ }
+    ensures { λ r. ⌜ returnedInC r (now (kinds .exit)) (now (words .exit)) (now (count .exit)) (now (node .exit)) ≡ inC (now (node .entry)) (onPool (givenNodes (lhs ∷ rhs ∷ []) (calls depth .add-at lhs rhs)) (now (kinds .entry)) (now (words .entry)) (now (count .entry))) ⌝ }
 {
     answered(engine::add(kinds, words, count, lhs, rhs), node)
 }
@@ -56,7 +56,7 @@ pub extern "C" fn bunlayog_mul(
     rhs: u64,
     node: &mut u64,
 ) -> u32
-    ensures { λ r. ⌜ leftInC r (now (kinds .exit)) (now (words .exit)) (now (count .exit)) (now (node .exit)) ≡ inC (now (node .entry)) (onPool (givenNodes (lhs ∷ rhs ∷ []) (calls depth .mul-at lhs rhs)) (now (kinds .entry)) (now (words .entry)) (now (count .entry))) ⌝ }
+    ensures { λ r. ⌜ returnedInC r (now (kinds .exit)) (now (words .exit)) (now (count .exit)) (now (node .exit)) ≡ inC (now (node .entry)) (onPool (givenNodes (lhs ∷ rhs ∷ []) (calls depth .mul-at lhs rhs)) (now (kinds .entry)) (now (words .entry)) (now (count .entry))) ⌝ }
 {
     answered(engine::mul(kinds, words, count, lhs, rhs), node)
 }
@@ -70,7 +70,7 @@ pub extern "C" fn bunlayog_div(
     rhs: u64,
     node: &mut u64,
 ) -> u32
-    ensures { λ r. ⌜ leftInC r (now (kinds .exit)) (now (words .exit)) (now (count .exit)) (now (node .exit)) ≡ inC (now (node .entry)) (onPool (givenNodes (lhs ∷ rhs ∷ []) (calls depth .div-at lhs rhs)) (now (kinds .entry)) (now (words .entry)) (now (count .entry))) ⌝ }
+    ensures { λ r. ⌜ returnedInC r (now (kinds .exit)) (now (words .exit)) (now (count .exit)) (now (node .exit)) ≡ inC (now (node .entry)) (onPool (givenNodes (lhs ∷ rhs ∷ []) (calls depth .div-at lhs rhs)) (now (kinds .entry)) (now (words .entry)) (now (count .entry))) ⌝ }
 {
     answered(engine::div(kinds, words, count, lhs, rhs), node)
 }
@@ -84,7 +84,7 @@ pub extern "C" fn bunlayog_max(
     rhs: u64,
     node: &mut u64,
 ) -> u32
-    ensures { λ r. ⌜ leftInC r (now (kinds .exit)) (now (words .exit)) (now (count .exit)) (now (node .exit)) ≡ inC (now (node .entry)) (onPool (givenNodes (lhs ∷ rhs ∷ []) (calls depth .max-at lhs rhs)) (now (kinds .entry)) (now (words .entry)) (now (count .entry))) ⌝ }
+    ensures { λ r. ⌜ returnedInC r (now (kinds .exit)) (now (words .exit)) (now (count .exit)) (now (node .exit)) ≡ inC (now (node .entry)) (onPool (givenNodes (lhs ∷ rhs ∷ []) (calls depth .max-at lhs rhs)) (now (kinds .entry)) (now (words .entry)) (now (count .entry))) ⌝ }
 {
     answered(engine::max(kinds, words, count, lhs, rhs), node)
 }
@@ -97,7 +97,7 @@ pub extern "C" fn bunlayog_neg(
     arg: u64,
     node: &mut u64,
 ) -> u32
-    ensures { λ r. ⌜ leftInC r (now (kinds .exit)) (now (words .exit)) (now (count .exit)) (now (node .exit)) ≡ inC (now (node .entry)) (onPool (givenNodes (arg ∷ []) (calls depth .neg-at arg)) (now (kinds .entry)) (now (words .entry)) (now (count .entry))) ⌝ }
+    ensures { λ r. ⌜ returnedInC r (now (kinds .exit)) (now (words .exit)) (now (count .exit)) (now (node .exit)) ≡ inC (now (node .entry)) (onPool (givenNodes (arg ∷ []) (calls depth .neg-at arg)) (now (kinds .entry)) (now (words .entry)) (now (count .entry))) ⌝ }
 {
     answered(engine::neg(kinds, words, count, arg), node)
 }
@@ -110,7 +110,7 @@ pub extern "C" fn bunlayog_exp(
     arg: u64,
     node: &mut u64,
 ) -> u32
-    ensures { λ r. ⌜ leftInC r (now (kinds .exit)) (now (words .exit)) (now (count .exit)) (now (node .exit)) ≡ inC (now (node .entry)) (onPool (givenNodes (arg ∷ []) (calls depth .exp-at arg)) (now (kinds .entry)) (now (words .entry)) (now (count .entry))) ⌝ }
+    ensures { λ r. ⌜ returnedInC r (now (kinds .exit)) (now (words .exit)) (now (count .exit)) (now (node .exit)) ≡ inC (now (node .entry)) (onPool (givenNodes (arg ∷ []) (calls depth .exp-at arg)) (now (kinds .entry)) (now (words .entry)) (now (count .entry))) ⌝ }
 {
     answered(engine::exp(kinds, words, count, arg), node)
 }
@@ -123,7 +123,7 @@ pub extern "C" fn bunlayog_log(
     arg: u64,
     node: &mut u64,
 ) -> u32
-    ensures { λ r. ⌜ leftInC r (now (kinds .exit)) (now (words .exit)) (now (count .exit)) (now (node .exit)) ≡ inC (now (node .entry)) (onPool (givenNodes (arg ∷ []) (calls depth .log-at arg)) (now (kinds .entry)) (now (words .entry)) (now (count .entry))) ⌝ }
+    ensures { λ r. ⌜ returnedInC r (now (kinds .exit)) (now (words .exit)) (now (count .exit)) (now (node .exit)) ≡ inC (now (node .entry)) (onPool (givenNodes (arg ∷ []) (calls depth .log-at arg)) (now (kinds .entry)) (now (words .entry)) (now (count .entry))) ⌝ }
 {
     answered(engine::log(kinds, words, count, arg), node)
 }
@@ -137,7 +137,7 @@ pub extern "C" fn bunlayog_pow(
     exp: u32,
     node: &mut u64,
 ) -> u32
-    ensures { λ r. ⌜ leftInC r (now (kinds .exit)) (now (words .exit)) (now (count .exit)) (now (node .exit)) ≡ inC (now (node .entry)) (onPool (givenNodes (base ∷ []) (calls depth .pow-at base exp)) (now (kinds .entry)) (now (words .entry)) (now (count .entry))) ⌝ }
+    ensures { λ r. ⌜ returnedInC r (now (kinds .exit)) (now (words .exit)) (now (count .exit)) (now (node .exit)) ≡ inC (now (node .entry)) (onPool (givenNodes (base ∷ []) (calls depth .pow-at base exp)) (now (kinds .entry)) (now (words .entry)) (now (count .entry))) ⌝ }
 {
     answered(engine::pow(kinds, words, count, base, exp), node)
 }

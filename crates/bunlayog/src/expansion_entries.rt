@@ -1,9 +1,10 @@
 // What is asked of one expansion: an entry, its length, and the expansion of given coefficients.
 ghost use mathlib.Core.Path.{_≡_};
 ghost use Rattle.lent.specs.Call.{onPool};
-ghost use Rattle.engine_series.specs.Operations.{coeffCall, derivativeCall, countOf, coefficientsOf};
-ghost use Rattle.c_answers.specs.Interface.{leftInC, inC, valueInC};
-ghost use Rattle.c_answers.specs.Expansions.{series, countInC, outcomeLeftInC, outcomeInC};
+ghost use Rattle.engine_index.specs.Indices.{coeffCall, derivativeCall};
+ghost use Rattle.engine_given.specs.Read.{countOf, coefficientsOf};
+ghost use Rattle.c_answers.specs.Interface.{returnedInC, inC, valueInC};
+ghost use Rattle.c_answers.specs.Expansions.{series, countInC, outcomeReturnedInC, outcomeInC};
 use c_answers::answered;
 use c_answers::count_answered;
 use c_answers::outcome_answered;
@@ -21,14 +22,14 @@ pub extern "C" fn bunlayog_taylor_coeff(
     index: u64,
     node: &mut u64,
 ) -> u32
-    ensures { λ r. ⌜ leftInC r (now (kinds .exit)) (now (words .exit)) (now (count .exit)) (now (node .exit)) ≡ inC (now (node .entry)) (onPool (coeffCall (series order (now (coeffs .entry))) index) (now (kinds .entry)) (now (words .entry)) (now (count .entry))) ⌝ }
+    ensures { λ r. ⌜ returnedInC r (now (kinds .exit)) (now (words .exit)) (now (count .exit)) (now (node .exit)) ≡ inC (now (node .entry)) (onPool (coeffCall (series order (now (coeffs .entry))) index) (now (kinds .entry)) (now (words .entry)) (now (count .entry))) ⌝ }
 {
     let given = *coeffs;
     let s = Series {
         order,
         coeffs: given,
     };
-    answered(engine_series::coeff(kinds, words, count, s, index), node)
+    answered(engine_index::coeff(kinds, words, count, s, index), node)
 }
 
 // The derivative of order `index`.
@@ -42,7 +43,7 @@ pub extern "C" fn bunlayog_taylor_derivative(
     index: u64,
     node: &mut u64,
 ) -> u32
-    ensures { λ r. ⌜ leftInC r (now (kinds .exit)) (now (words .exit)) (now (count .exit)) (now (node .exit)) ≡ inC (now (node .entry)) (onPool (derivativeCall (series order (now (coeffs .entry))) index) (now (kinds .entry)) (now (words .entry)) (now (count .entry))) ⌝ }
+    ensures { λ r. ⌜ returnedInC r (now (kinds .exit)) (now (words .exit)) (now (count .exit)) (now (node .exit)) ≡ inC (now (node .entry)) (onPool (derivativeCall (series order (now (coeffs .entry))) index) (now (kinds .entry)) (now (words .entry)) (now (count .entry))) ⌝ }
 {
     let given = *coeffs;
     let s = Series {
@@ -50,7 +51,7 @@ pub extern "C" fn bunlayog_taylor_derivative(
         coeffs: given,
     };
     answered(
-        engine_series::derivative(kinds, words, count, s, index),
+        engine_index::derivative(kinds, words, count, s, index),
         node,
     )
 }
@@ -72,7 +73,7 @@ pub extern "C" fn bunlayog_taylor_order(
         order,
         coeffs: given,
     };
-    count_answered(engine_series::order(kinds, words, count, s), order_out)
+    count_answered(engine_given::order(kinds, words, count, s), order_out)
 }
 
 // The expansion of given coefficients.
@@ -86,7 +87,7 @@ pub extern "C" fn bunlayog_taylor_from_coefficients(
     order_out: &mut u64,
     coeffs_out: &mut [u64; TERMS],
 ) -> u32
-    ensures { λ r. ⌜ outcomeLeftInC r (now («order_out» .exit)) (now («coeffs_out» .exit)) ≡ outcomeInC (now («order_out» .entry)) (now («coeffs_out» .entry)) (coefficientsOf (now (kinds .entry)) (now (words .entry)) count (series order (now (coeffs .entry)))) ⌝ }
+    ensures { λ r. ⌜ outcomeReturnedInC r (now («order_out» .exit)) (now («coeffs_out» .exit)) ≡ outcomeInC (now («order_out» .entry)) (now («coeffs_out» .entry)) (coefficientsOf (now (kinds .entry)) (now (words .entry)) count (series order (now (coeffs .entry)))) ⌝ }
 {
     let given = *coeffs;
     let s = Series {
@@ -94,7 +95,7 @@ pub extern "C" fn bunlayog_taylor_from_coefficients(
         coeffs: given,
     };
     outcome_answered(
-        engine_series::from_coefficients(kinds, words, count, s),
+        engine_given::from_coefficients(kinds, words, count, s),
         order_out,
         coeffs_out,
     )

@@ -1,8 +1,9 @@
 // The operations on one expansion as C functions.
 ghost use mathlib.Core.Path.{_≡_};
-ghost use Rattle.lent_series.specs.Call.{onPool};
-ghost use Rattle.engine_series.specs.Operations.{varWork, negCall, expCall, logCall, powCall};
-ghost use Rattle.c_answers.specs.Expansions.{series, seriesLeftInC, seriesInC};
+ghost use Rattle.lent_series.specs.Call.{seriesOnPool};
+ghost use Rattle.engine_series.specs.Operations.{negCall, expCall, logCall, powCall};
+ghost use Rattle.engine_given.specs.Variable.{variableWork};
+ghost use Rattle.c_answers.specs.Expansions.{series, seriesReturnedInC, seriesInC};
 use c_answers::outcome_answered;
 use lent_series::Series;
 use taylor_base::TERMS;
@@ -18,7 +19,7 @@ pub extern "C" fn bunlayog_taylor_neg(
     order_out: &mut u64,
     coeffs_out: &mut [u64; TERMS],
 ) -> u32
-    ensures { λ r. ⌜ seriesLeftInC r (now (kinds .exit)) (now (words .exit)) (now (count .exit)) (now («order_out» .exit)) (now («coeffs_out» .exit)) ≡ seriesInC (now («order_out» .entry)) (now («coeffs_out» .entry)) (onPool (negCall (series order (now (coeffs .entry)))) (now (kinds .entry)) (now (words .entry)) (now (count .entry))) ⌝ }
+    ensures { λ r. ⌜ seriesReturnedInC r (now (kinds .exit)) (now (words .exit)) (now (count .exit)) (now («order_out» .exit)) (now («coeffs_out» .exit)) ≡ seriesInC (now («order_out» .entry)) (now («coeffs_out» .entry)) (seriesOnPool (negCall (series order (now (coeffs .entry)))) (now (kinds .entry)) (now (words .entry)) (now (count .entry))) ⌝ }
 {
     let given = *coeffs;
     let s = Series {
@@ -43,7 +44,7 @@ pub extern "C" fn bunlayog_taylor_exp(
     order_out: &mut u64,
     coeffs_out: &mut [u64; TERMS],
 ) -> u32
-    ensures { λ r. ⌜ seriesLeftInC r (now (kinds .exit)) (now (words .exit)) (now (count .exit)) (now («order_out» .exit)) (now («coeffs_out» .exit)) ≡ seriesInC (now («order_out» .entry)) (now («coeffs_out» .entry)) (onPool (expCall (series order (now (coeffs .entry)))) (now (kinds .entry)) (now (words .entry)) (now (count .entry))) ⌝ }
+    ensures { λ r. ⌜ seriesReturnedInC r (now (kinds .exit)) (now (words .exit)) (now (count .exit)) (now («order_out» .exit)) (now («coeffs_out» .exit)) ≡ seriesInC (now («order_out» .entry)) (now («coeffs_out» .entry)) (seriesOnPool (expCall (series order (now (coeffs .entry)))) (now (kinds .entry)) (now (words .entry)) (now (count .entry))) ⌝ }
 {
     let given = *coeffs;
     let s = Series {
@@ -68,7 +69,7 @@ pub extern "C" fn bunlayog_taylor_log(
     order_out: &mut u64,
     coeffs_out: &mut [u64; TERMS],
 ) -> u32
-    ensures { λ r. ⌜ seriesLeftInC r (now (kinds .exit)) (now (words .exit)) (now (count .exit)) (now («order_out» .exit)) (now («coeffs_out» .exit)) ≡ seriesInC (now («order_out» .entry)) (now («coeffs_out» .entry)) (onPool (logCall (series order (now (coeffs .entry)))) (now (kinds .entry)) (now (words .entry)) (now (count .entry))) ⌝ }
+    ensures { λ r. ⌜ seriesReturnedInC r (now (kinds .exit)) (now (words .exit)) (now (count .exit)) (now («order_out» .exit)) (now («coeffs_out» .exit)) ≡ seriesInC (now («order_out» .entry)) (now («coeffs_out» .entry)) (seriesOnPool (logCall (series order (now (coeffs .entry)))) (now (kinds .entry)) (now (words .entry)) (now (count .entry))) ⌝ }
 {
     let given = *coeffs;
     let s = Series {
@@ -94,7 +95,7 @@ pub extern "C" fn bunlayog_taylor_pow(
     order_out: &mut u64,
     coeffs_out: &mut [u64; TERMS],
 ) -> u32
-    ensures { λ r. ⌜ seriesLeftInC r (now (kinds .exit)) (now (words .exit)) (now (count .exit)) (now («order_out» .exit)) (now («coeffs_out» .exit)) ≡ seriesInC (now («order_out» .entry)) (now («coeffs_out» .entry)) (onPool (powCall (series order (now (coeffs .entry))) exp) (now (kinds .entry)) (now (words .entry)) (now (count .entry))) ⌝ }
+    ensures { λ r. ⌜ seriesReturnedInC r (now (kinds .exit)) (now (words .exit)) (now (count .exit)) (now («order_out» .exit)) (now («coeffs_out» .exit)) ≡ seriesInC (now («order_out» .entry)) (now («coeffs_out» .entry)) (seriesOnPool (powCall (series order (now (coeffs .entry))) exp) (now (kinds .entry)) (now (words .entry)) (now (count .entry))) ⌝ }
 {
     let given = *coeffs;
     let s = Series {
@@ -119,10 +120,10 @@ pub extern "C" fn bunlayog_taylor_var(
     order_out: &mut u64,
     coeffs_out: &mut [u64; TERMS],
 ) -> u32
-    ensures { λ r. ⌜ seriesLeftInC r (now (kinds .exit)) (now (words .exit)) (now (count .exit)) (now («order_out» .exit)) (now («coeffs_out» .exit)) ≡ seriesInC (now («order_out» .entry)) (now («coeffs_out» .entry)) (onPool (varWork x order) (now (kinds .entry)) (now (words .entry)) (now (count .entry))) ⌝ }
+    ensures { λ r. ⌜ seriesReturnedInC r (now (kinds .exit)) (now (words .exit)) (now (count .exit)) (now («order_out» .exit)) (now («coeffs_out» .exit)) ≡ seriesInC (now («order_out» .entry)) (now («coeffs_out» .entry)) (seriesOnPool (variableWork x order) (now (kinds .entry)) (now (words .entry)) (now (count .entry))) ⌝ }
 {
     outcome_answered(
-        engine_series::var(kinds, words, count, x, order),
+        engine_given::var(kinds, words, count, x, order),
         order_out,
         coeffs_out,
     )

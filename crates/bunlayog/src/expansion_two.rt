@@ -1,8 +1,8 @@
 // The operations on two expansions as C functions.
 ghost use mathlib.Core.Path.{_≡_};
-ghost use Rattle.lent_series.specs.Call.{onPool};
+ghost use Rattle.lent_series.specs.Call.{seriesOnPool};
 ghost use Rattle.engine_pairs.specs.Pairs.{addCall, subCall, mulCall, divCall, maxCall, substCall};
-ghost use Rattle.c_answers.specs.Expansions.{series, seriesLeftInC, seriesInC};
+ghost use Rattle.c_answers.specs.Expansions.{series, seriesReturnedInC, seriesInC};
 use c_answers::outcome_answered;
 use lent_series::Series;
 use taylor_base::TERMS;
@@ -20,7 +20,7 @@ pub extern "C" fn bunlayog_taylor_add(
     order_out: &mut u64,
     coeffs_out: &mut [u64; TERMS],
 ) -> u32
-    ensures { λ r. ⌜ seriesLeftInC r (now (kinds .exit)) (now (words .exit)) (now (count .exit)) (now («order_out» .exit)) (now («coeffs_out» .exit)) ≡ seriesInC (now («order_out» .entry)) (now («coeffs_out» .entry)) (onPool (addCall (series «lhs_order» (now (lhs .entry))) (series «rhs_order» (now (rhs .entry)))) (now (kinds .entry)) (now (words .entry)) (now (count .entry))) ⌝ }
+    ensures { λ r. ⌜ seriesReturnedInC r (now (kinds .exit)) (now (words .exit)) (now (count .exit)) (now («order_out» .exit)) (now («coeffs_out» .exit)) ≡ seriesInC (now («order_out» .entry)) (now («coeffs_out» .entry)) (seriesOnPool (addCall (series «lhs_order» (now (lhs .entry))) (series «rhs_order» (now (rhs .entry)))) (now (kinds .entry)) (now (words .entry)) (now (count .entry))) ⌝ }
 {
     let left = *lhs;
     let right = *rhs;
@@ -52,7 +52,7 @@ pub extern "C" fn bunlayog_taylor_sub(
     order_out: &mut u64,
     coeffs_out: &mut [u64; TERMS],
 ) -> u32
-    ensures { λ r. ⌜ seriesLeftInC r (now (kinds .exit)) (now (words .exit)) (now (count .exit)) (now («order_out» .exit)) (now («coeffs_out» .exit)) ≡ seriesInC (now («order_out» .entry)) (now («coeffs_out» .entry)) (onPool (subCall (series «lhs_order» (now (lhs .entry))) (series «rhs_order» (now (rhs .entry)))) (now (kinds .entry)) (now (words .entry)) (now (count .entry))) ⌝ }
+    ensures { λ r. ⌜ seriesReturnedInC r (now (kinds .exit)) (now (words .exit)) (now (count .exit)) (now («order_out» .exit)) (now («coeffs_out» .exit)) ≡ seriesInC (now («order_out» .entry)) (now («coeffs_out» .entry)) (seriesOnPool (subCall (series «lhs_order» (now (lhs .entry))) (series «rhs_order» (now (rhs .entry)))) (now (kinds .entry)) (now (words .entry)) (now (count .entry))) ⌝ }
 {
     let left = *lhs;
     let right = *rhs;
@@ -84,7 +84,7 @@ pub extern "C" fn bunlayog_taylor_mul(
     order_out: &mut u64,
     coeffs_out: &mut [u64; TERMS],
 ) -> u32
-    ensures { λ r. ⌜ seriesLeftInC r (now (kinds .exit)) (now (words .exit)) (now (count .exit)) (now («order_out» .exit)) (now («coeffs_out» .exit)) ≡ seriesInC (now («order_out» .entry)) (now («coeffs_out» .entry)) (onPool (mulCall (series «lhs_order» (now (lhs .entry))) (series «rhs_order» (now (rhs .entry)))) (now (kinds .entry)) (now (words .entry)) (now (count .entry))) ⌝ }
+    ensures { λ r. ⌜ seriesReturnedInC r (now (kinds .exit)) (now (words .exit)) (now (count .exit)) (now («order_out» .exit)) (now («coeffs_out» .exit)) ≡ seriesInC (now («order_out» .entry)) (now («coeffs_out» .entry)) (seriesOnPool (mulCall (series «lhs_order» (now (lhs .entry))) (series «rhs_order» (now (rhs .entry)))) (now (kinds .entry)) (now (words .entry)) (now (count .entry))) ⌝ }
 {
     let left = *lhs;
     let right = *rhs;
@@ -116,7 +116,7 @@ pub extern "C" fn bunlayog_taylor_div(
     order_out: &mut u64,
     coeffs_out: &mut [u64; TERMS],
 ) -> u32
-    ensures { λ r. ⌜ seriesLeftInC r (now (kinds .exit)) (now (words .exit)) (now (count .exit)) (now («order_out» .exit)) (now («coeffs_out» .exit)) ≡ seriesInC (now («order_out» .entry)) (now («coeffs_out» .entry)) (onPool (divCall (series «lhs_order» (now (lhs .entry))) (series «rhs_order» (now (rhs .entry)))) (now (kinds .entry)) (now (words .entry)) (now (count .entry))) ⌝ }
+    ensures { λ r. ⌜ seriesReturnedInC r (now (kinds .exit)) (now (words .exit)) (now (count .exit)) (now («order_out» .exit)) (now («coeffs_out» .exit)) ≡ seriesInC (now («order_out» .entry)) (now («coeffs_out» .entry)) (seriesOnPool (divCall (series «lhs_order» (now (lhs .entry))) (series «rhs_order» (now (rhs .entry)))) (now (kinds .entry)) (now (words .entry)) (now (count .entry))) ⌝ }
 {
     let left = *lhs;
     let right = *rhs;
@@ -148,7 +148,7 @@ pub extern "C" fn bunlayog_taylor_max(
     order_out: &mut u64,
     coeffs_out: &mut [u64; TERMS],
 ) -> u32
-    ensures { λ r. ⌜ seriesLeftInC r (now (kinds .exit)) (now (words .exit)) (now (count .exit)) (now («order_out» .exit)) (now («coeffs_out» .exit)) ≡ seriesInC (now («order_out» .entry)) (now («coeffs_out» .entry)) (onPool (maxCall (series «lhs_order» (now (lhs .entry))) (series «rhs_order» (now (rhs .entry)))) (now (kinds .entry)) (now (words .entry)) (now (count .entry))) ⌝ }
+    ensures { λ r. ⌜ seriesReturnedInC r (now (kinds .exit)) (now (words .exit)) (now (count .exit)) (now («order_out» .exit)) (now («coeffs_out» .exit)) ≡ seriesInC (now («order_out» .entry)) (now («coeffs_out» .entry)) (seriesOnPool (maxCall (series «lhs_order» (now (lhs .entry))) (series «rhs_order» (now (rhs .entry)))) (now (kinds .entry)) (now (words .entry)) (now (count .entry))) ⌝ }
 {
     let left = *lhs;
     let right = *rhs;
@@ -180,7 +180,7 @@ pub extern "C" fn bunlayog_taylor_subst(
     order_out: &mut u64,
     coeffs_out: &mut [u64; TERMS],
 ) -> u32
-    ensures { λ r. ⌜ seriesLeftInC r (now (kinds .exit)) (now (words .exit)) (now (count .exit)) (now («order_out» .exit)) (now («coeffs_out» .exit)) ≡ seriesInC (now («order_out» .entry)) (now («coeffs_out» .entry)) (onPool (substCall (series «lhs_order» (now (lhs .entry))) (series «rhs_order» (now (rhs .entry)))) (now (kinds .entry)) (now (words .entry)) (now (count .entry))) ⌝ }
+    ensures { λ r. ⌜ seriesReturnedInC r (now (kinds .exit)) (now (words .exit)) (now (count .exit)) (now («order_out» .exit)) (now («coeffs_out» .exit)) ≡ seriesInC (now («order_out» .entry)) (now («coeffs_out» .entry)) (seriesOnPool (substCall (series «lhs_order» (now (lhs .entry))) (series «rhs_order» (now (rhs .entry)))) (now (kinds .entry)) (now (words .entry)) (now (count .entry))) ⌝ }
 {
     let left = *lhs;
     let right = *rhs;

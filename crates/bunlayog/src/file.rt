@@ -3,7 +3,7 @@ ghost use mathlib.Core.Path.{_≡_};
 ghost use Rattle.shape.specs.File.{readFile};
 ghost use Rattle.lent.specs.Call.{onPool};
 ghost use Rattle.engine_file.specs.Write.{writeCall};
-ghost use Rattle.c_answers.specs.Interface.{leftInC, inC, outputInC, writtenInC};
+ghost use Rattle.c_answers.specs.Interface.{returnedInC, inC, outputInC, writtenInC};
 use c_answers::answered;
 use c_answers::written_answered;
 
@@ -29,7 +29,7 @@ pub extern "C" fn bunlayog_read(
     file: &[u8],
     root: &mut u64,
 ) -> u32
-    ensures { λ r. ⌜ leftInC r (now (kinds .exit)) (now (words .exit)) (now (count .exit)) (now (root .exit)) ≡ inC (now (root .entry)) (onPool (readFile (now (file .entry))) (now (kinds .entry)) (now (words .entry)) (now (count .entry))) ⌝ }
+    ensures { λ r. ⌜ returnedInC r (now (kinds .exit)) (now (words .exit)) (now (count .exit)) (now (root .exit)) ≡ inC (now (root .entry)) (onPool (readFile (now (file .entry))) (now (kinds .entry)) (now (words .entry)) (now (count .entry))) ⌝ }
 {
     answered(engine_file::read(kinds, words, count, file), root)
 }

@@ -3,7 +3,7 @@ ghost use mathlib.Core.Path.{_≡_};
 ghost use Rattle.pool.specs.Pool.{isPool};
 ghost use Rattle.lent.specs.Call.{onPool};
 ghost use Rattle.engine_walk.specs.Walks.{substituteWork, deriveWork};
-ghost use Rattle.c_answers.specs.Interface.{leftInC, inC, checkNumber};
+ghost use Rattle.c_answers.specs.Interface.{returnedInC, inC, checkNumber};
 use c_answers::answered;
 
 #[no_mangle]
@@ -26,7 +26,7 @@ pub extern "C" fn bunlayog_substitute_var(
     value: u64,
     node: &mut u64,
 ) -> u32
-    ensures { λ r. ⌜ leftInC r (now (kinds .exit)) (now (words .exit)) (now (count .exit)) (now (node .exit)) ≡ inC (now (node .entry)) (onPool (substituteWork root var value) (now (kinds .entry)) (now (words .entry)) (now (count .entry))) ⌝ }
+    ensures { λ r. ⌜ returnedInC r (now (kinds .exit)) (now (words .exit)) (now (count .exit)) (now (node .exit)) ≡ inC (now (node .entry)) (onPool (substituteWork root var value) (now (kinds .entry)) (now (words .entry)) (now (count .entry))) ⌝ }
 {
     answered(
         engine_walk::substitute_var(kinds, words, count, root, var, value),
@@ -43,7 +43,7 @@ pub extern "C" fn bunlayog_derive(
     var: u64,
     node: &mut u64,
 ) -> u32
-    ensures { λ r. ⌜ leftInC r (now (kinds .exit)) (now (words .exit)) (now (count .exit)) (now (node .exit)) ≡ inC (now (node .entry)) (onPool (deriveWork root var) (now (kinds .entry)) (now (words .entry)) (now (count .entry))) ⌝ }
+    ensures { λ r. ⌜ returnedInC r (now (kinds .exit)) (now (words .exit)) (now (count .exit)) (now (node .exit)) ≡ inC (now (node .entry)) (onPool (deriveWork root var) (now (kinds .entry)) (now (words .entry)) (now (count .entry))) ⌝ }
 {
     answered(engine_walk::derive(kinds, words, count, root, var), node)
 }

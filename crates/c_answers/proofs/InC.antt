@@ -10,11 +10,11 @@ use Rattle.double.specs.declared.Valued.{Valued}
 use Rattle.double.specs.declared.Valued.the-variants as valued
 use Rattle.residue.specs.declared.Divided.{Divided}
 use Rattle.residue.specs.declared.Divided.the-variants as divided
-use Rattle.lent.specs.Call.{Left, left}
+use Rattle.lent.specs.Call.{Returned, returned}
 use Rattle.lent.specs.declared.Answer.{Answer}
 use Rattle.lent.specs.Writing.{Put, put}
 use Rattle.lent.specs.declared.Written.{Written}
-use Rattle.c_answers.specs.Interface.{checkNumber, leftInC, inC, numberOf, nodeOr, valueInC, outputInC, writtenInC, writtenNumber, lengthOr}
+use Rattle.c_answers.specs.Interface.{checkNumber, returnedInC, inC, numberOf, nodeOr, valueInC, outputInC, writtenInC, writtenNumber, lengthOr}
 use Rattle.c_answers.specs.Values.{bitsInC, residueInC}
 
 -- the test of the pool came out true, or false
@@ -25,7 +25,7 @@ pub breaks : {r t : Bool} → r ≡ t → r ≡ false → brokenPool ≡ checkNu
 breaks e h = rw (sym e ∙ h)
 
 -- a call that works on the pool
-pub in-c : {a : Answer} {ks ws : List ℕ} {n : ℕ} (before : ℕ) {L : Left} {r i : ℕ} → left a ks ws n ≡ L → r ≡ numberOf a → i ≡ nodeOr a before → leftInC r ks ws n i ≡ inC before L
+pub in-c : {a : Answer} {ks ws : List ℕ} {n : ℕ} (before : ℕ) {L : Returned Answer} {r i : ℕ} → returned a ks ws n ≡ L → r ≡ numberOf a → i ≡ nodeOr a before → returnedInC r ks ws n i ≡ inC before L
 in-c before e p q = rw (p, q) (ap (inC before) e)
 
 -- a double, a residue, or the refusal of either

@@ -4,11 +4,11 @@ use mathlib.Core.Bool.{Bool, true, false}
 use mathlib.Core.List.{List}
 use Prim.Native.Nat.{ℕ}
 use lib.Dec.{eqb}
+use Rattle.lent.specs.Call.{Returned, returned}
 use Rattle.lent_series.specs.declared.series.Series.{Series}
 use Rattle.lent_series.specs.declared.call.Outcome.{Outcome}
-use Rattle.lent_series.specs.Call.{Left}
-use Rattle.engine_series.specs.declared.read.Counted.{Counted}
-use Rattle.engine_series.specs.declared.read.Counted.the-variants.{Count, Refused}
+use Rattle.engine_given.specs.declared.read.Counted.{Counted}
+use Rattle.engine_given.specs.declared.read.Counted.the-variants.{Count, Refused}
 use Rattle.c_answers.specs.Interface.{ValueInC, valueInC}
 
 abbrev pub series : ℕ → List ℕ → Series
@@ -25,25 +25,19 @@ pub record OutcomeInC : Type 0 where
   pub order : ℕ
   pub coeffs : List ℕ
 
-abbrev pub outcomeLeftInC : ℕ → ℕ → List ℕ → OutcomeInC
-outcomeLeftInC r n cs = record { answer = r; order = n; coeffs = cs }
+abbrev pub outcomeReturnedInC : ℕ → ℕ → List ℕ → OutcomeInC
+outcomeReturnedInC r n cs = record { answer = r; order = n; coeffs = cs }
 
 abbrev pub chosen : Bool → ℕ → List ℕ → Outcome → OutcomeInC
-chosen true n cs o = outcomeLeftInC 0 (o .series .order) (o .series .coeffs)
-chosen false n cs o = outcomeLeftInC (o .number) n cs
+chosen true n cs o = outcomeReturnedInC 0 (o .series .order) (o .series .coeffs)
+chosen false n cs o = outcomeReturnedInC (o .number) n cs
 
 abbrev pub outcomeInC : ℕ → List ℕ → Outcome → OutcomeInC
 outcomeInC n cs o = chosen (eqb (o .number) 0) n cs o
 
 -- the same of a call that works on the pool
-pub record SeriesInC : Type 0 where
-  pub outcome : OutcomeInC
-  pub kinds : List ℕ
-  pub words : List ℕ
-  pub count : ℕ
+abbrev pub seriesReturnedInC : ℕ → List ℕ → List ℕ → ℕ → ℕ → List ℕ → Returned OutcomeInC
+seriesReturnedInC r ks ws n order coeffs = returned (outcomeReturnedInC r order coeffs) ks ws n
 
-abbrev pub seriesLeftInC : ℕ → List ℕ → List ℕ → ℕ → ℕ → List ℕ → SeriesInC
-seriesLeftInC r ks ws n order coeffs = record { outcome = outcomeLeftInC r order coeffs; kinds = ks; words = ws; count = n }
-
-abbrev pub seriesInC : ℕ → List ℕ → Left → SeriesInC
-seriesInC order coeffs l = record { outcome = outcomeInC order coeffs (l .outcome); kinds = l .kinds; words = l .words; count = l .count }
+abbrev pub seriesInC : ℕ → List ℕ → Returned Outcome → Returned OutcomeInC
+seriesInC order coeffs l = returned (outcomeInC order coeffs (l .answer)) (l .kinds) (l .words) (l .count)

@@ -5,7 +5,7 @@ use mathlib.Core.Bool.{Bool, true, false}
 use mathlib.Core.List.{List}
 use Prim.Native.Nat.{ℕ}
 use Rattle.refusals.specs.Refusals.{brokenPool}
-use Rattle.lent.specs.Call.{Left}
+use Rattle.lent.specs.Call.{Returned, returned}
 use Rattle.lent.specs.Writing.{Put}
 use Rattle.lent.specs.declared.Answer.{Answer}
 use Rattle.lent.specs.declared.Answer.the-variants.{Node, Refused}
@@ -17,17 +17,6 @@ abbrev pub checkNumber : Bool → ℕ
 checkNumber true = 0
 checkNumber false = brokenPool
 
--- a call that works on the pool
-pub record LeftInC : Type 0 where
-  pub answer : ℕ
-  pub kinds : List ℕ
-  pub words : List ℕ
-  pub count : ℕ
-  pub node : ℕ
-
-abbrev pub leftInC : ℕ → List ℕ → List ℕ → ℕ → ℕ → LeftInC
-leftInC r ks ws n i = record { answer = r; kinds = ks; words = ws; count = n; node = i }
-
 -- 0, or the refusal number
 abbrev pub numberOf : Answer → ℕ
 numberOf (Node i) = 0
@@ -38,16 +27,20 @@ abbrev pub nodeOr : Answer → ℕ → ℕ
 nodeOr (Node i) before = i
 nodeOr (Refused k) before = before
 
-abbrev pub inC : ℕ → Left → LeftInC
-inC before l = leftInC (numberOf (l .answer)) (l .kinds) (l .words) (l .count) (nodeOr (l .answer) before)
-
--- a call that gives a number and changes nothing else
+-- an answer that is a number, and the place for it
 pub record ValueInC : Type 0 where
   pub answer : ℕ
   pub value : ℕ
 
 abbrev pub valueInC : ℕ → ℕ → ValueInC
 valueInC r x = record { answer = r; value = x }
+
+-- a call that works on the pool and gives a node
+abbrev pub returnedInC : ℕ → List ℕ → List ℕ → ℕ → ℕ → Returned ValueInC
+returnedInC r ks ws n i = returned (valueInC r i) ks ws n
+
+abbrev pub inC : ℕ → Returned Answer → Returned ValueInC
+inC before l = returnedInC (numberOf (l .answer)) (l .kinds) (l .words) (l .count) (nodeOr (l .answer) before)
 
 -- a call that writes to an output
 pub record OutputInC : Type 0 where

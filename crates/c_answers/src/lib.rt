@@ -2,9 +2,9 @@
 ghost use mathlib.Core.Path.{_≡_};
 ghost use Rattle.c_answers.specs.Interface.{numberOf, nodeOr, valueInC, writtenNumber, lengthOr};
 ghost use Rattle.c_answers.specs.Values.{bitsInC};
-ghost use Rattle.c_answers.specs.Expansions.{countInC, outcomeLeftInC, outcomeInC};
+ghost use Rattle.c_answers.specs.Expansions.{countInC, outcomeReturnedInC, outcomeInC};
 use double::Valued;
-use engine_series::Counted;
+use engine_given::Counted;
 use lent::Answer;
 use lent::Written;
 use lent_series::Outcome;
@@ -61,7 +61,7 @@ pub fn count_answered(answer: Counted, order: &mut u64) -> u32
 }
 
 pub fn outcome_answered(outcome: Outcome, order: &mut u64, coeffs: &mut [u64; TERMS]) -> u32
-    ensures { λ r. ⌜ outcomeLeftInC r (now (order .exit)) (now (coeffs .exit)) ≡ outcomeInC (now (order .entry)) (now (coeffs .entry)) outcome ⌝ }
+    ensures { λ r. ⌜ outcomeReturnedInC r (now (order .exit)) (now (coeffs .exit)) ≡ outcomeInC (now (order .entry)) (now (coeffs .entry)) outcome ⌝ }
 {
     let number = outcome.number;
     if number != 0 {

@@ -14,7 +14,7 @@ use Rattle.shape.proofs.Demand3.{same-file-for-one-shape, accepts-node-files, a
 use Rattle.lent.specs.Call.{leaves}
 use Rattle.lent.specs.declared.Answer.{Answer}
 use Rattle.lent.specs.declared.Answer.the-variants.{Node, Refused}
-use Rattle.engine_file.specs.Outcome.{writtenFrom, fileIn, Accepted, readInto, poolLeft, Gives}
+use Rattle.engine_file.specs.Outcome.{writtenFrom, fileIn, Accepted, readInto, poolReturned, Gives}
 use Rattle.engine_file.proofs.Accepting.{accepted-writes, file-is-there, accepted-where-the-file-fits}
 
 -- (a) "the written node files are equal byte for byte exactly when the expressions have one shape": of any two accepted calls, whatever their outputs' lengths and earlier contents
@@ -32,23 +32,23 @@ IsNode : Answer → Type 0
 IsNode (Node i) = Unit {0}
 IsNode (Refused k) = ⊥
 
-accepted-out : (ks ws : List ℕ) (n : ℕ) (out : Out) {i : ℕ} → Gives (leaves ks ws n out) i → (Q : Pool) × (out ≡ done i Q)
+accepted-out : (ks ws : List ℕ) (n : ℕ) (out : Out) {i : ℕ} → Gives (leaves Node Refused ks ws n out) i → (Q : Pool) × (out ≡ done i Q)
 unfolding IsNode
 accepted-out ks ws n (done j Q) e = (Q, cc)
 accepted-out ks ws n (refused m) e = absurd (subst⁻¹ IsNode e tt)
 
 module _ (P : Pool) (k : KeepsRules P) (whole : P .end ≡ limit) (bs : List ℕ) where
-  left-is : readInto P bs ≡ leaves (P .kinds) (P .words) (P .count) (readFile bs P)
-  left-is = rw (k .rules) (ap (λ m. leaves (P .kinds) (P .words) (P .count) (readFile bs (pool (P .kinds) (P .words) (P .count) m))) (sym whole))
+  returned-is : readInto P bs ≡ leaves Node Refused (P .kinds) (P .words) (P .count) (readFile bs P)
+  returned-is = rw (k .rules) (ap (λ m. leaves Node Refused (P .kinds) (P .words) (P .count) (readFile bs (pool (P .kinds) (P .words) (P .count) m))) (sym whole))
 
   accepted-gives : {i : ℕ} {Q : Pool} → readFile bs P ≡ done i Q → Gives (readInto P bs) i
-  accepted-gives e = ap (λ L. L .answer) (left-is ∙ ap (leaves (P .kinds) (P .words) (P .count)) e)
+  accepted-gives e = ap (λ L. L .answer) (returned-is ∙ ap (leaves Node Refused (P .kinds) (P .words) (P .count)) e)
 
   given-accepted : {i : ℕ} → Gives (readInto P bs) i → (Q : Pool) × (readFile bs P ≡ done i Q)
-  given-accepted {i} e = accepted-out (P .kinds) (P .words) (P .count) (readFile bs P) (subst (λ L. Gives L i) left-is e)
+  given-accepted {i} e = accepted-out (P .kinds) (P .words) (P .count) (readFile bs P) (subst (λ L. Gives L i) returned-is e)
 
-  left-pool-is : {i : ℕ} {Q : Pool} → readFile bs P ≡ done i Q → Q .end ≡ P .end → poolLeft (readInto P bs) ≡ Q
-  left-pool-is {i} {Q} e same = ap poolLeft (left-is ∙ ap (leaves (P .kinds) (P .words) (P .count)) e) ∙ ap (pool (Q .kinds) (Q .words) (Q .count)) (sym (same ∙ whole))
+  returned-pool-is : {i : ℕ} {Q : Pool} → readFile bs P ≡ done i Q → Q .end ≡ P .end → poolReturned (readInto P bs) ≡ Q
+  returned-pool-is {i} {Q} e same = ap poolReturned (returned-is ∙ ap (leaves Node Refused (P .kinds) (P .words) (P .count)) e) ∙ ap (pool (Q .kinds) (Q .words) (Q .count)) (sym (same ∙ whole))
 
 -- (b) "Whatever bytes are handed in, reading into an empty pool that keeps these rules accepts them exactly when they are the node file of some root in some such pool."
 pub reading-accepts-node-files : (bs : List ℕ) → AreBytes bs → (P : Pool) → KeepsRules P → P .count ≡ 0 → P .end ≡ limit → ((i : ℕ) × Gives (readInto P bs) i) ↔ IsNodeFile bs
@@ -59,30 +59,30 @@ reading-accepts-node-files bs are P k none whole =
     )
 
 -- (c) what an accepted call of reading leaves: the rules, the shapes of old expressions, and a root that is written again with the same bytes
-pub reading-leaves-the-rules : (bs : List ℕ) → AreBytes bs → (P : Pool) → KeepsRules P → P .end ≡ limit → (i : ℕ) → Gives (readInto P bs) i → Leaves bs P i (poolLeft (readInto P bs))
+pub reading-leaves-the-rules : (bs : List ℕ) → AreBytes bs → (P : Pool) → KeepsRules P → P .end ≡ limit → (i : ℕ) → Gives (readInto P bs) i → Leaves bs P i (poolReturned (readInto P bs))
 reading-leaves-the-rules bs are P k whole i given =
     let (Q, e) = given-accepted P k whole bs given in
-    let left = accepted-leaves-the-rules bs are P k i Q e in
-    subst⁻¹ (Leaves bs P i) (left-pool-is P k whole bs e (left .end-kept)) left
+    let after = accepted-leaves-the-rules bs are P k i Q e in
+    subst⁻¹ (Leaves bs P i) (returned-pool-is P k whole bs e (after .end-kept)) after
 
 module _ (bs : List ℕ) (are : AreBytes bs) (P : Pool) (k : KeepsRules P) (whole : P .end ≡ limit) (i : ℕ) (given : Gives (readInto P bs) i) (old : List ℕ) where
-  pub written-again-the-same : Accepted (writtenFrom (poolLeft (readInto P bs)) i old) → fileIn (writtenFrom (poolLeft (readInto P bs)) i old) ≡ bs
-  written-again-the-same a = file-is-there (poolLeft (readInto P bs)) i old a ∙ reading-leaves-the-rules bs are P k whole i given .same-bytes
+  pub written-again-the-same : Accepted (writtenFrom (poolReturned (readInto P bs)) i old) → fileIn (writtenFrom (poolReturned (readInto P bs)) i old) ≡ bs
+  written-again-the-same a = file-is-there (poolReturned (readInto P bs)) i old a ∙ reading-leaves-the-rules bs are P k whole i given .same-bytes
 
-  pub written-again-where-it-fits : Accepted (writtenFrom (poolLeft (readInto P bs)) i old) ↔ (length bs ≤ length old)
+  pub written-again-where-it-fits : Accepted (writtenFrom (poolReturned (readInto P bs)) i old) ↔ (length bs ≤ length old)
   written-again-where-it-fits =
-      let left = reading-leaves-the-rules bs are P k whole i given in
-      let last : i + 1 ≡ poolLeft (readInto P bs) .count = left .root-last in
-      subst (λ file. Accepted (writtenFrom (poolLeft (readInto P bs)) i old) ↔ (length file ≤ length old)) (left .same-bytes)
-      (accepted-where-the-file-fits (poolLeft (readInto P bs)) i old (left .keeps-rules) (omega arith))
+      let after = reading-leaves-the-rules bs are P k whole i given in
+      let last : i + 1 ≡ poolReturned (readInto P bs) .count = after .root-last in
+      subst (λ file. Accepted (writtenFrom (poolReturned (readInto P bs)) i old) ↔ (length file ≤ length old)) (after .same-bytes)
+      (accepted-where-the-file-fits (poolReturned (readInto P bs)) i old (after .keeps-rules) (omega arith))
 
 -- "A node file reads back to the expression it came from": what an accepted `write` has written, `read` accepts into any pool with room, and the shape is the same
 pub written-reads-back :
     (P Q : Pool) → KeepsRules P → KeepsRules Q → (r : ℕ) → Q .end ≡ limit → (old : List ℕ) → Accepted (writtenFrom P r old) → HasRoom (sizeOf (fileIn (writtenFrom P r old))) Q
-    → (s : ℕ) × Gives (readInto Q (fileIn (writtenFrom P r old))) s × SameShape P r (poolLeft (readInto Q (fileIn (writtenFrom P r old)))) s
+    → (s : ℕ) × Gives (readInto Q (fileIn (writtenFrom P r old))) s × SameShape P r (poolReturned (readInto Q (fileIn (writtenFrom P r old)))) s
 written-reads-back P Q k m r whole old a room =
     let there = file-is-there P r old a in
-    let (s, R, e, shape, left) = reads-back P Q k m r (accepted-writes P r old a .given) (subst (λ bs. HasRoom (sizeOf bs) Q) there room) in
-    let same = left-pool-is Q m whole (fileFrom P r) e (left .end-kept) in
-    subst⁻¹ (λ bs. (s : ℕ) × Gives (readInto Q bs) s × SameShape P r (poolLeft (readInto Q bs)) s) there
+    let (s, R, e, shape, after) = reads-back P Q k m r (accepted-writes P r old a .given) (subst (λ bs. HasRoom (sizeOf bs) Q) there room) in
+    let same = returned-pool-is Q m whole (fileFrom P r) e (after .end-kept) in
+    subst⁻¹ (λ bs. (s : ℕ) × Gives (readInto Q bs) s × SameShape P r (poolReturned (readInto Q bs)) s) there
     (s, accepted-gives Q m whole (fileFrom P r) e, subst⁻¹ (λ T. SameShape P r T s) same shape)

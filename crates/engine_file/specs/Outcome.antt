@@ -1,4 +1,4 @@
--- What demand 3 says of the calls speaks of these: the file that a call of writing has written, and the pool that a call of reading has left.
+-- What demand 3 says of the calls speaks of these: the file that a call of writing has written, and the pool that a call of reading returns.
 -- Assumes nothing.
 use mathlib.Core.Path.{_≡_}
 use mathlib.Core.List.{List, []}
@@ -6,7 +6,8 @@ use Prim.Native.Nat.{ℕ}
 use lib.ListN.{take}
 use Rattle.pool.specs.Pool.{Pool}
 use Rattle.shape.specs.File.{readFile}
-use Rattle.lent.specs.Call.{Left, lentPool, onPool}
+use Rattle.lent.specs.Call.{Returned, lentPool, onPool}
+use Rattle.lent.specs.declared.Answer.{Answer}
 use Rattle.lent.specs.declared.Answer.the-variants.{Node}
 use Rattle.engine_file.specs.Write.{writeCall}
 use Rattle.lent.specs.Writing.{Put}
@@ -30,13 +31,13 @@ abbrev pub Accepted : Put → Type 0
 Accepted o = (m : ℕ) × (o .answer ≡ Length m)
 
 -- reading into a lent pool, that is full at the limit
-abbrev pub readInto : Pool → List ℕ → Left
+abbrev pub readInto : Pool → List ℕ → Returned Answer
 readInto P bs = onPool (readFile bs) (P .kinds) (P .words) (P .count)
 
--- the pool that a call has left
-abbrev pub poolLeft : Left → Pool
-poolLeft L = lentPool (L .kinds) (L .words) (L .count)
+-- the pool that a call returns
+abbrev pub poolReturned : Returned Answer → Pool
+poolReturned L = lentPool (L .kinds) (L .words) (L .count)
 
 -- the call is accepted, with the root i
-abbrev pub Gives : Left → ℕ → Type 0
+abbrev pub Gives : Returned Answer → ℕ → Type 0
 Gives L i = L .answer ≡ Node i

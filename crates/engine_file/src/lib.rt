@@ -1,7 +1,7 @@
 // The node file as calls from outside: writing from a root, and reading into the pool.
 ghost use mathlib.Core.Path.{_≡_};
 ghost use Rattle.shape.specs.File.{readFile};
-ghost use Rattle.lent.specs.Call.{left, onPool};
+ghost use Rattle.lent.specs.Call.{returned, onPool};
 ghost use Rattle.engine_file.specs.Write.{writeCall};
 ghost use Rattle.lent.specs.Writing.{put};
 use lent::Answer;
@@ -29,7 +29,7 @@ pub fn write(kinds: &[u8], words: &[u64], count: u64, root: u64, out: &mut [u8])
 
 // A node file, read into the pool: its root.
 pub fn read(kinds: &mut [u8], words: &mut [u64], count: &mut u64, file: &[u8]) -> Answer
-    ensures { λ r. ⌜ left r (now (kinds .exit)) (now (words .exit)) (now (count .exit)) ≡ onPool (readFile (now (file .entry))) (now (kinds .entry)) (now (words .entry)) (now (count .entry)) ⌝ }
+    ensures { λ r. ⌜ returned r (now (kinds .exit)) (now (words .exit)) (now (count .exit)) ≡ onPool (readFile (now (file .entry))) (now (kinds .entry)) (now (words .entry)) (now (count .entry)) ⌝ }
 {
     let mut k = [0u8; LIMIT];
     let mut w = [0u64; LIMIT];

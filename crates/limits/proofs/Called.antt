@@ -20,10 +20,11 @@ use Rattle.taylor.specs.Work.{Work}
 use Rattle.taylor.specs.Expansion.{Expansion}
 use Rattle.shape.specs.File.{writtenFile}
 use Rattle.lent.specs.Call.{leaves, lentPool, demand}
+use Rattle.lent.specs.declared.Answer.the-variants as answered
 use Rattle.lent_series.specs.declared.series.Series.{Series}
 use Rattle.lent_series.specs.Series.{nodesOf, lengthOk}
-use Rattle.lent_series.specs.Call as series
-use Rattle.engine_series.specs.Operations as operations
+use Rattle.lent_series.specs.Call.{accepted, refusedOutcome}
+use Rattle.engine_given.specs.Read as operations
 use Rattle.engine_values.specs.Values.{mostValues, evaluateCall, areResidues, evaluateResidueCall}
 use Rattle.lent.specs.Writing.{Put, unwritten, writes}
 use Rattle.engine_print.specs.Printing.{textFits, printCall}
@@ -34,10 +35,10 @@ use Rattle.limits.proofs.Pools.{Passes, fits, by-rules}
 
 -- each call with 1 passed, on two tables and a count
 abbrev pub worked : Run → List ℕ → List ℕ → ℕ → Answer
-worked work ks ws n = nodeGiven (leaves ks ws n (work (lentPool ks ws n)) .answer)
+worked work ks ws n = nodeGiven (leaves answered.Node answered.Refused ks ws n (work (lentPool ks ws n)) .answer)
 
 abbrev pub expansionWorked : Work Expansion → List ℕ → List ℕ → ℕ → Answer
-expansionWorked work ks ws n = orderGiven (series.leaves ks ws n (work (lentPool ks ws n)) .outcome)
+expansionWorked work ks ws n = orderGiven (leaves accepted refusedOutcome ks ws n (work (lentPool ks ws n)) .answer)
 
 abbrev pub refusalOfList : Series → ℕ → ℕ
 refusalOfList s n = cond (allBelow n (nodesOf s)) (cond (lengthOk s) 0 wrongOrder) unknownNode

@@ -18,8 +18,8 @@ use Rattle.lent.specs.declared.Answer as lent-answer
 use Rattle.lent.specs.declared.Answer.the-variants as answered
 use Rattle.lent_series.specs.declared.series.Series.{Series}
 use Rattle.lent_series.specs.declared.call.Outcome.{Outcome}
-use Rattle.lent_series.specs.Call as series
-use Rattle.engine_series.specs.Operations.{coefficientsOf}
+use Rattle.lent_series.specs.Call.{seriesOnPool}
+use Rattle.engine_given.specs.Read.{coefficientsOf}
 use Rattle.engine_values.specs.Values.{evaluateCall, evaluateResidueCall}
 use Rattle.lent.specs.declared.Written.{Written}
 use Rattle.lent.specs.declared.Written.the-variants as written-as
@@ -49,7 +49,7 @@ abbrev pub orderGiven : Outcome → Answer
 orderGiven r = orderUnless (eqb (r .number) 0) r
 
 unfoldable pub expanded : Work Expansion → Lent → Answer
-expanded work P = orderGiven (series.onPool work (P .kinds) (P .words) (P .count) .outcome)
+expanded work P = orderGiven (seriesOnPool work (P .kinds) (P .words) (P .count) .answer)
 
 -- an expansion that is lent: an array of 25 node numbers, all 0, of which so many are its list; 2^64 - 1 for the constant
 abbrev pub listOf : ℕ → Series

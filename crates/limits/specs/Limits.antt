@@ -12,10 +12,12 @@ use Rattle.taylor.specs.Expand.{none, point}
 use Rattle.shape.specs.File.{readFile}
 use Rattle.engine.specs.Build.{litWork, varWork, onOne, onTwo}
 use Rattle.engine_walk.specs.Walks.{substituteWork, deriveWork}
-use Rattle.engine_series.specs.Operations as series
-use Rattle.engine_series.specs.declared.unary.Unary.the-variants as unary
-use Rattle.engine_series.specs.declared.indexed.Indexed.the-variants as indexed
-use Rattle.engine_pairs.specs.Pairs as pairs
+use Rattle.engine_series.specs.Operations.{onExpansion}
+use Rattle.engine_series.specs.declared.Unary.the-variants as unary
+use Rattle.engine_index.specs.Indices.{onIndex}
+use Rattle.engine_index.specs.declared.Indexed.the-variants as indexed
+use Rattle.engine_given.specs.Variable.{variableWork}
+use Rattle.engine_pairs.specs.Pairs.{onExpansions}
 use Rattle.engine_pairs.specs.declared.binary.Binary.the-variants as binary
 use Rattle.engine_expand.specs.Expressions.{expandWork}
 use Rattle.limits.specs.Lent.{Lent, lent, tables, variable, literal, sum, product, quotient, greater, exponential, logarithm, power, full, underMul}
@@ -94,29 +96,29 @@ pub record Arguments : Type 0 where
   -- 5. "An order is above 24"
   pub order-24 : expanded (expandWork 0 0 none 24) x0 ≡ gives 25
   pub order-25 : expanded (expandWork 0 0 none 25) x0 ≡ refuses 5
-  pub var-of-order-24 : expanded (series.varWork 0 24) x0 ≡ gives 25
-  pub var-of-order-25 : expanded (series.varWork 0 25) x0 ≡ refuses 5
+  pub var-of-order-24 : expanded (variableWork 0 24) x0 ≡ gives 25
+  pub var-of-order-25 : expanded (variableWork 0 25) x0 ≡ refuses 5
   -- "an expansion's list has 0 or more than 25 entries"
   pub entries-0 : listed (listOf 0) x0 ≡ refuses 5
   pub entries-1 : listed (listOf 1) x0 ≡ gives 1
   pub entries-25 : listed (listOf 25) x0 ≡ gives 25
   pub entries-26 : listed (listOf 26) x0 ≡ refuses 5
-  pub negated-25 : expanded (series.onOne unary.Neg (listOf 25)) x0 ≡ gives 25
-  pub negated-26 : expanded (series.onOne unary.Neg (listOf 26)) x0 ≡ refuses 5
+  pub negated-25 : expanded (onExpansion unary.Neg (listOf 25)) x0 ≡ gives 25
+  pub negated-26 : expanded (onExpansion unary.Neg (listOf 26)) x0 ≡ refuses 5
   -- "a coefficient index is outside its list"
-  pub index-24 : called (series.onIndex indexed.Coeff (listOf 25) 24) x0 ≡ gives 0
-  pub index-25 : called (series.onIndex indexed.Coeff (listOf 25) 25) x0 ≡ refuses 5
-  pub derivative-0 : called (series.onIndex indexed.Derivative (listOf 1) 0) x0 ≡ gives 0
-  pub derivative-1 : called (series.onIndex indexed.Derivative (listOf 1) 1) x0 ≡ refuses 5
+  pub index-24 : called (onIndex indexed.Coeff (listOf 25) 24) x0 ≡ gives 0
+  pub index-25 : called (onIndex indexed.Coeff (listOf 25) 25) x0 ≡ refuses 5
+  pub derivative-0 : called (onIndex indexed.Derivative (listOf 1) 0) x0 ≡ gives 0
+  pub derivative-1 : called (onIndex indexed.Derivative (listOf 1) 1) x0 ≡ refuses 5
   -- "of a constant, 2^64 - 1"; "The indices of `coeff` and `derivative` have no limit for a constant."
   pub constant-order : listed (listOf 18446744073709551615) x0 ≡ gives 18446744073709551615
   pub no-constant-order : listed (listOf 18446744073709551614) x0 ≡ refuses 5
-  pub constant-index : called (series.onIndex indexed.Coeff (listOf 18446744073709551615) 25) x0 ≡ gives 1
+  pub constant-index : called (onIndex indexed.Coeff (listOf 18446744073709551615) 25) x0 ≡ gives 1
   -- "or `subst` gets two lists of unequal length", and no other operation of two does
-  pub subst-of-2-in-2 : expanded (pairs.onTwo binary.Subst (listOf 2) (listOf 2)) x0 ≡ gives 2
-  pub subst-of-3-in-2 : expanded (pairs.onTwo binary.Subst (listOf 2) (listOf 3)) x0 ≡ refuses 5
-  pub subst-of-2-in-3 : expanded (pairs.onTwo binary.Subst (listOf 3) (listOf 2)) x0 ≡ refuses 5
-  pub sum-of-2-and-3 : expanded (pairs.onTwo binary.Add (listOf 2) (listOf 3)) x0 ≡ gives 2
+  pub subst-of-2-in-2 : expanded (onExpansions binary.Subst (listOf 2) (listOf 2)) x0 ≡ gives 2
+  pub subst-of-3-in-2 : expanded (onExpansions binary.Subst (listOf 2) (listOf 3)) x0 ≡ refuses 5
+  pub subst-of-2-in-3 : expanded (onExpansions binary.Subst (listOf 3) (listOf 2)) x0 ≡ refuses 5
+  pub sum-of-2-and-3 : expanded (onExpansions binary.Add (listOf 2) (listOf 3)) x0 ≡ gives 2
   -- 6. "A table of values has more than 65,536 entries, or a residue in it is 2,147,483,647 or more."
   pub values-65536 : (x : Float) → evaluated (replicate 65536 x) 0 (lent (variable 65535 ∷ [])) ≡ gives (toBits binary64 x)
   pub values-65537 : (x : Float) → evaluated (replicate 65537 x) 0 (lent (variable 65535 ∷ [])) ≡ refuses 6
@@ -152,7 +154,7 @@ pub record Working : Type 0 where
   pub max-derived : called (deriveWork 1 0) (lent (variable 0 ∷ greater 0 0 ∷ [])) ≡ refuses 10
   pub max-expanded : expanded (expandWork 1 0 none 2) (lent (variable 0 ∷ greater 0 0 ∷ [])) ≡ refuses 10
   pub max-printed : printed 64 2 (lent (variable 0 ∷ greater 0 0 ∷ exponential 1 ∷ [])) ≡ refuses 10
-  pub max-of-a-list : expanded (pairs.onTwo binary.Max (listOf 1) (listOf 1)) x0 ≡ refuses 10
+  pub max-of-a-list : expanded (onExpansions binary.Max (listOf 1) (listOf 1)) x0 ≡ refuses 10
   -- 11. "`exp` or `log` of a literal is needed that has none."
   pub exp-of-0 : called (onOne one.Exp 0) (lent (literal 0 ∷ [])) ≡ gives 1
   pub exp-of-1 : called (onOne one.Exp 0) (lent (literal 1 ∷ [])) ≡ refuses 11
@@ -162,8 +164,8 @@ pub record Working : Type 0 where
   pub sum-greatest : called (onTwo two.Add 0 1) (lent (literal 9007199254740990 ∷ literal 1 ∷ [])) ≡ gives 2
   pub sum-above : called (onTwo two.Add 0 1) (lent (literal 9007199254740991 ∷ literal 1 ∷ [])) ≡ refuses 12
   -- "The factorials 0! to 18! are a constant table .. From 19! on the answer is 12"
-  pub derivative-18 : called (series.onIndex indexed.Derivative (listOf 25) 18) x0 ≡ gives 36
-  pub derivative-19 : called (series.onIndex indexed.Derivative (listOf 25) 19) x0 ≡ refuses 12
+  pub derivative-18 : called (onIndex indexed.Derivative (listOf 25) 18) x0 ≡ gives 36
+  pub derivative-19 : called (onIndex indexed.Derivative (listOf 25) 19) x0 ≡ refuses 12
   -- 13. "An exponent sum is above 4,294,967,295.": (x1 × x0) × x0^4294967294, then from x0^4294967295
   pub exponents-4294967295 : called (onTwo two.Mul 2 3) (lent (variable 0 ∷ variable 1 ∷ product 1 0 ∷ power 0 4294967294 ∷ [])) ≡ gives 5
   pub exponents-4294967296 : called (onTwo two.Mul 2 3) (lent (variable 0 ∷ variable 1 ∷ product 1 0 ∷ power 0 4294967295 ∷ [])) ≡ refuses 13

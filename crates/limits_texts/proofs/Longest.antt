@@ -21,6 +21,7 @@ use Rattle.shape.proofs.Pools.{empty-keeps-rules}
 use Rattle.shape.proofs.Demand3.{length-of-a-file, size-of-a-file, reads-back, reads-into-no-full-pool}
 use Rattle.engine_file.specs.Write.{fileOver}
 use Rattle.lent.specs.Call.{leaves}
+use Rattle.lent.specs.declared.Answer.the-variants as answered
 use Rattle.limits.specs.Lent.{lent, chain, variable, kindsOf, wordsOf}
 use Rattle.limits.specs.Calls.{Answer, gives, refuses, called, nodeGiven, output, lengthWritten, written, file}
 use Rattle.limits_texts.specs.Outputs.{Longest}
@@ -99,12 +100,12 @@ file-is : file 36868 4095 chain ≡ fileFrom chainPool 4095
 unfolding chain chainPool
 file-is = file-by chain chain-by-rules 36868 4095 ∙ taken-whole (fileFrom chainPool 4095) chain-length
 
-into-empty : nodeGiven (leaves (empty .kinds) (empty .words) 0 (readFile (fileFrom chainPool 4095) empty) .answer) ≡ gives 4095
+into-empty : nodeGiven (leaves answered.Node answered.Refused (empty .kinds) (empty .words) 0 (readFile (fileFrom chainPool 4095) empty) .answer) ≡ gives 4095
 unfolding empty
 into-empty =
-    let (s, R, e, shape, left) = reads-back chainPool empty chain-keeps empty-keeps-rules 4095 last-there (room, room) in
-    let last : s + 1 ≡ R .count = left .root-last in
-    let grown : R .count ≡ 0 + sizeOf (fileFrom chainPool 4095) = left .grows in
+    let (s, R, e, shape, after) = reads-back chainPool empty chain-keeps empty-keeps-rules 4095 last-there (room, room) in
+    let last : s + 1 ≡ R .count = after .root-last in
+    let grown : R .count ≡ 0 + sizeOf (fileFrom chainPool 4095) = after .grows in
     rw e (ap gives (omega (arith, chain-size)))
   where
     room : 0 + sizeOf (fileFrom chainPool 4095) ≤ 4096
@@ -128,7 +129,7 @@ after-one = reads-into-no-full-pool chainPool oneNode chain-keeps 4095 last-ther
 longest-read-after-one : called (readFile (file 36868 4095 chain)) (lent (variable 0 ∷ [])) ≡ refuses 18
 unfolding oneNode mayStandAt decode each
 longest-read-after-one =
-    rw file-is (called-on (variable 0 ∷ []) refl (readFile (fileFrom chainPool 4095)) ∙ ap (λ (o : Out). nodeGiven (leaves (kindsOf (variable 0 ∷ [])) (wordsOf (variable 0 ∷ [])) 1 o .answer)) after-one)
+    rw file-is (called-on (variable 0 ∷ []) refl (readFile (fileFrom chainPool 4095)) ∙ ap (λ (o : Out). nodeGiven (leaves answered.Node answered.Refused (kindsOf (variable 0 ∷ [])) (wordsOf (variable 0 ∷ [])) 1 o .answer)) after-one)
 
 pub longest : Longest
 longest = record { file-in-36868 = longest-file; file-in-36867 = longest-file-in-36867; read-into-nothing = longest-read; read-after-one = longest-read-after-one }

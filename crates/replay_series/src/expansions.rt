@@ -49,7 +49,7 @@ pub fn expansion_is_right(
 // `from_coefficients`, which leaves the pool alone.
 pub fn list_is_right(text: &[u8], at: &mut usize, k: &[u8], w: &[u64], count: u64) -> bool {
     let s = next_series(text, at);
-    let got = engine_series::from_coefficients(k, w, count, s);
+    let got = engine_given::from_coefficients(k, w, count, s);
     let number = next(text, at);
     let want = wanted(text, at, number);
     is_right(got, number, want)

@@ -32,7 +32,7 @@ pub const COEFFS: u64 = 45;
 fn of_node(text: &[u8], at: &mut usize, k: &mut [u8], w: &mut [u64], count: &mut u64) -> Outcome {
     let x = next(text, at);
     let order = next(text, at);
-    engine_series::var(k, w, count, x, order)
+    engine_given::var(k, w, count, x, order)
 }
 
 fn power(text: &[u8], at: &mut usize, k: &mut [u8], w: &mut [u64], count: &mut u64) -> Outcome {

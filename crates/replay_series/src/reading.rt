@@ -1,6 +1,6 @@
 // What is read of an expansion: a coefficient, a derivative, the order.
 use crate::given::next_series;
-use engine_series::Counted;
+use engine_given::Counted;
 use lent::Answer;
 use number_list::next;
 use replay_calls::Got;
@@ -30,13 +30,13 @@ pub fn indexed(
     let s = next_series(text, at);
     let index = next(text, at);
     if op == COEFF {
-        return engine_series::coeff(k, w, count, s, index);
+        return engine_index::coeff(k, w, count, s, index);
     }
-    engine_series::derivative(k, w, count, s, index)
+    engine_index::derivative(k, w, count, s, index)
 }
 
 // `order`, which leaves the pool alone.
 pub fn length(text: &[u8], at: &mut usize, k: &[u8], w: &[u64], count: u64) -> Got {
     let s = next_series(text, at);
-    of_counted(engine_series::order(k, w, count, s))
+    of_counted(engine_given::order(k, w, count, s))
 }

@@ -17,12 +17,13 @@ use Rattle.taylor.specs.Work.{Result, Work}
 use Rattle.taylor.specs.Expansion.{Expansion, var, coeff, derivative, negate, exponential, logarithm, power, addTo, subFrom, times, quotient, maximum, subst}
 use Rattle.taylor.specs.Expand.{Point, none, point, expand}
 use Rattle.taylor_base.specs.Answers.{terms}
-use Rattle.lent.specs.Call as nodes
-use Rattle.lent.specs.Call.{lentPool, demand}
+use Rattle.lent.specs.Call.{leaves, lentPool, demand, onPool}
 use Rattle.lent_series.specs.declared.series.Series.{Series}
 use Rattle.lent_series.specs.Series.{nodesOf, lengthOk, given}
-use Rattle.lent_series.specs.Call.{leaves, onPool, givenSeries, givenTwo, out, asRun}
-use Rattle.engine_series.specs.Operations.{hasIndex, givenIndex, varWork, counted, countOf, expansionOr, coefficientsOf}
+use Rattle.lent_series.specs.Call.{accepted, refusedOutcome, seriesOnPool, givenSeries, givenTwo}
+use Rattle.engine_index.specs.Indices.{hasIndex, givenIndex}
+use Rattle.engine_given.specs.Variable.{variableWork}
+use Rattle.engine_given.specs.Read.{counted, countOf, expansionOr, coefficientsOf}
 use Rattle.engine_pairs.specs.Pairs.{agree}
 use Rattle.engine_expand.specs.Expressions.{expandWork}
 use Rattle.situations.specs.Refusal.{Among, ofOut, ofResult}
@@ -30,7 +31,7 @@ use Rattle.situations.specs.Situations.{OfExpansions}
 use Rattle.situations.proofs.Situations.{of-walks, of-expansions}
 use Rattle.situation_calls.specs.Table as table
 use Rattle.situation_calls.specs.Table.{Call, checked, met}
-use Rattle.situation_calls.specs.Answers.{Situated, Answers, Gives, ofAnswer, ofCounted, oneTested, twoTested, OfSeries}
+use Rattle.situation_calls.specs.Answers.{Situated, ByTable, ExpansionByTable, ofAnswer, ofCounted, oneTested, twoTested, OfSeries}
 use Rattle.situation_calls.proofs.Laws.{working, passing, failing, demanded, numbers, not-zero, no-zero}
 use Rattle.situation_calls.proofs.Nodes.{rules, root-below, node-call}
 
@@ -38,23 +39,18 @@ module _ {checks meets : List ℕ} {tests : List Bool} where
   asked : {A : Type 0} (t : Bool) (k : ℕ) (x : Result A) → (t ≡ true → Situated checks meets tests (ofResult x)) → Situated (k ∷ checks) meets (t ∷ tests) (ofResult (demand refused t k x))
   asked = demanded ofResult refused (λ k. refl)
 
-  -- an answer that is a node
-  as-out : (x : Result ℕ) → Situated checks meets tests (ofResult x) → Situated checks meets tests (ofOut (out x))
-  as-out (done i P) s = s
-  as-out (refused k) s = s
-
 -- an answer that is an expansion
-given-out : (c : Call) {tests : List Bool} (ks ws : List ℕ) (n : ℕ) (x : Result Expansion) → Answers c tests (ofResult x) → Gives c tests (leaves ks ws n x .outcome)
-given-out c ks ws n (done e P) s = record { answers = s; zero-accepts = λ z. (e, refl) }
+given-out : (c : Call) {tests : List Bool} (ks ws : List ℕ) (n : ℕ) (x : Result Expansion) → ByTable c tests (ofResult x) → ExpansionByTable c tests (leaves accepted refusedOutcome ks ws n x .answer)
+given-out c ks ws n (done e P) s = record { by-table = s; zero-accepts = λ z. (e, refl) }
 given-out c ks ws n (refused zero) s = absurd (not-zero (checked c ++ met c) (no-zero c) (numbers s))
-given-out c ks ws n (refused (suc k)) s = record { answers = s; zero-accepts = λ z. absurd (omega arith) }
+given-out c ks ws n (refused (suc k)) s = record { by-table = s; zero-accepts = λ z. absurd (omega arith) }
 
 module _ (ks ws : List ℕ) (n : ℕ) (fit : (i : ℕ) → getD ws i 0 < 2 ^ 64) where
   abbrev P : Pool
   P = lentPool ks ws n
 
   -- 1, then the rest
-  series-call : (c : Call) {tests : List Bool} (work : Work Expansion) → Answers c tests (ofResult (demand refused (isPool ks ws n) brokenPool (work P))) → Gives c tests (onPool work ks ws n .outcome)
+  series-call : (c : Call) {tests : List Bool} (work : Work Expansion) → ByTable c tests (ofResult (demand refused (isPool ks ws n) brokenPool (work P))) → ExpansionByTable c tests (seriesOnPool work ks ws n .answer)
   series-call c work s = given-out c ks ws n (demand refused (isPool ks ws n) brokenPool (work P)) s
 
   -- nodes, then 5: of a variable, of one expansion, of two
@@ -66,9 +62,9 @@ module _ (ks ws : List ℕ) (n : ℕ) (fit : (i : ℕ) → getD ws i 0 < 2 ^ 64)
     three-checks = asked (isPool ks ws n) brokenPool (demand refused below unknownNode (demand refused fits wrongOrder (work P))) (λ e. two-checks (rules ks ws n fit e))
 
   -- a coefficient or a derivative: the answer is a node
-  index-call : {meets : List ℕ} (s : Series) (k : ℕ) (work : Work ℕ) → (KeepsRules P → Among meets (ofResult (work P))) → Situated (brokenPool ∷ unknownNode ∷ wrongOrder ∷ []) meets (oneTested ks ws n s (hasIndex s k)) (ofAnswer (nodes.onPool (asRun (givenIndex s k work)) ks ws n .answer))
+  index-call : {meets : List ℕ} (s : Series) (k : ℕ) (work : Work ℕ) → (KeepsRules P → Among meets (ofResult (work P))) → Situated (brokenPool ∷ unknownNode ∷ wrongOrder ∷ []) meets (oneTested ks ws n s (hasIndex s k)) (ofAnswer (onPool (givenIndex s k work) ks ws n .answer))
   index-call s k work h =
-      node-call ks ws n fit (asRun (givenIndex s k work)) (λ r. as-out (givenIndex s k work P) (two-checks (allBelow n (nodesOf s)) (hasIndex s k) work h r))
+      node-call ks ws n fit (givenIndex s k work) (λ r. two-checks (allBelow n (nodesOf s)) (hasIndex s k) work h r)
 
   -- one expansion, and two
   one-call : {meets : List ℕ} (s : Series) (work : Work Expansion) → (KeepsRules P → Among meets (ofResult (work P))) → Situated (brokenPool ∷ unknownNode ∷ wrongOrder ∷ []) meets (oneTested ks ws n s (lengthOk s)) (ofResult (demand refused (isPool ks ws n) brokenPool (givenSeries s work P)))
@@ -81,23 +77,23 @@ module _ (ks ws : List ℕ) (n : ℕ) (fit : (i : ℕ) → getD ws i 0 < 2 ^ 64)
   abbrev first : Bool → Bool → Bool → ℕ
   first p b l = cond p (cond b (cond l 0 wrongOrder) unknownNode) brokenPool
 
-  order-answers : (s : Series) → Answers table.of-order (oneTested ks ws n s (lengthOk s)) (ofCounted (countOf ks ws n s))
+  order-answers : (s : Series) → ByTable table.of-order (oneTested ks ws n s (lengthOk s)) (ofCounted (countOf ks ws n s))
   order-answers s = go (isPool ks ws n) (allBelow n (nodesOf s)) (lengthOk s)
     where
-      go : (p b l : Bool) → Answers table.of-order (p ∷ b ∷ l ∷ []) (ofCounted (counted (eqb (first p b l) 0) (first p b l) s))
+      go : (p b l : Bool) → ByTable table.of-order (p ∷ b ∷ l ∷ []) (ofCounted (counted (eqb (first p b l) 0) (first p b l) s))
       go true true true = passing 1 (passing 2 (passing 5 (working tt)))
       go true true false = passing 1 (passing 2 (failing 5))
       go true false l = passing 1 (failing 2)
       go false b l = failing 1
 
-  read-answers : (s : Series) → Gives table.of-from-coefficients (oneTested ks ws n s (lengthOk s)) (coefficientsOf ks ws n s)
+  read-answers : (s : Series) → ExpansionByTable table.of-from-coefficients (oneTested ks ws n s (lengthOk s)) (coefficientsOf ks ws n s)
   read-answers s = go (isPool ks ws n) (allBelow n (nodesOf s)) (lengthOk s)
     where
-      go : (p b l : Bool) → Gives table.of-from-coefficients (p ∷ b ∷ l ∷ []) (expansionOr (eqb (first p b l) 0) (first p b l) s)
-      go true true true = record { answers = passing 1 (passing 2 (passing 5 (working tt))); zero-accepts = λ z. (given s, refl) }
-      go true true false = record { answers = passing 1 (passing 2 (failing 5)); zero-accepts = λ z. absurd (omega arith) }
-      go true false l = record { answers = passing 1 (failing 2); zero-accepts = λ z. absurd (omega arith) }
-      go false b l = record { answers = failing 1; zero-accepts = λ z. absurd (omega arith) }
+      go : (p b l : Bool) → ExpansionByTable table.of-from-coefficients (p ∷ b ∷ l ∷ []) (expansionOr (eqb (first p b l) 0) (first p b l) s)
+      go true true true = record { by-table = passing 1 (passing 2 (passing 5 (working tt))); zero-accepts = λ z. (given s, refl) }
+      go true true false = record { by-table = passing 1 (passing 2 (failing 5)); zero-accepts = λ z. absurd (omega arith) }
+      go true false l = record { by-table = passing 1 (failing 2); zero-accepts = λ z. absurd (omega arith) }
+      go false b l = record { by-table = failing 1; zero-accepts = λ z. absurd (omega arith) }
 
   -- an expression: 1, 2, 3, then 4 of a point, then 5
   module _ (root v order : ℕ) where
@@ -107,13 +103,13 @@ module _ (ks ws : List ℕ) (n : ℕ) (fit : (i : ℕ) → getD ws i 0 < 2 ^ 64)
     last-checked : isPool ks ws n ≡ true → allBelow n (root ∷ []) ≡ true → (x : Point) → Situated (wrongOrder ∷ []) (met table.coeffs) (ltb order terms ∷ []) (ofResult (last x))
     last-checked r e x = asked (ltb order terms) wrongOrder (expand root v x order P) (λ f. working (of-walks P (rules ks ws n fit r) root (root-below ks ws n fit root [] e) .expansion v x order))
 
-    coeffs-answers : Answers table.coeffs (isPool ks ws n ∷ allBelow n (root ∷ []) ∷ leb v greatestVariable ∷ ltb order terms ∷ []) (ofResult (demand refused (isPool ks ws n) brokenPool (expandWork root v none order P)))
+    coeffs-answers : ByTable table.coeffs (isPool ks ws n ∷ allBelow n (root ∷ []) ∷ leb v greatestVariable ∷ ltb order terms ∷ []) (ofResult (demand refused (isPool ks ws n) brokenPool (expandWork root v none order P)))
     coeffs-answers =
         asked (isPool ks ws n) brokenPool _ (λ r.
         asked (allBelow n (root ∷ [])) unknownNode _ (λ e.
         asked (leb v greatestVariable) unknownVariable (last none) (λ f. last-checked r e none)))
 
-    coeffs-at-answers : (z : ℤ) → Answers table.coeffs-at (isPool ks ws n ∷ allBelow n (root ∷ []) ∷ leb v greatestVariable ∷ isLiteral z ∷ ltb order terms ∷ []) (ofResult (demand refused (isPool ks ws n) brokenPool (expandWork root v (point z) order P)))
+    coeffs-at-answers : (z : ℤ) → ByTable table.coeffs-at (isPool ks ws n ∷ allBelow n (root ∷ []) ∷ leb v greatestVariable ∷ isLiteral z ∷ ltb order terms ∷ []) (ofResult (demand refused (isPool ks ws n) brokenPool (expandWork root v (point z) order P)))
     coeffs-at-answers z =
         asked (isPool ks ws n) brokenPool _ (λ r.
         asked (allBelow n (root ∷ [])) unknownNode _ (λ e.
@@ -124,7 +120,7 @@ module _ (ks ws : List ℕ) (n : ℕ) (fit : (i : ℕ) → getD ws i 0 < 2 ^ 64)
   of-series =
       let E : KeepsRules P → OfExpansions P = of-expansions P in
       record {
-        var-call = λ x order. series-call table.of-var (varWork x order) (three-checks (allBelow n (x ∷ [])) (ltb order terms) (var x order) (λ r. E r .var-meets x order));
+        var-call = λ x order. series-call table.of-var (variableWork x order) (three-checks (allBelow n (x ∷ [])) (ltb order terms) (var x order) (λ r. E r .var-meets x order));
         coeff-call = λ s k. index-call s k (coeff (given s) k) (λ r. E r .coeff-meets (given s) k);
         derivative-call = λ s k. index-call s k (derivative (given s) k) (λ r. E r .derivative-meets (given s) k);
         order-call = order-answers;

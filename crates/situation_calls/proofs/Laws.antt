@@ -10,7 +10,7 @@ use Rattle.lent.specs.Call.{demand}
 use Rattle.situations.specs.Refusal.{Refusal, none, by, OneOf, Among}
 use Rattle.situation_calls.specs.Table as table
 use Rattle.situation_calls.specs.Table.{Call, checked, met}
-use Rattle.situation_calls.specs.Answers.{firstFailed, Situated, Answers}
+use Rattle.situation_calls.specs.Answers.{firstFailed, Situated, ByTable}
 
 -- ---- checks
 
@@ -62,7 +62,7 @@ numbers {checks} {meets} {tests} {r} s = go (firstFailed tests checks) refl
     go (by k) e = subst⁻¹ (λ x. Among (checks ++ meets) x) (s .first k e) (in-first checks meets k (is-checked tests checks k e))
 
 -- a call answers no number but those that its row of the table has
-pub refuses-by-the-table : (c : Call) {tests : List Bool} {r : Refusal} → Answers c tests r → Among (checked c ++ met c) r
+pub refuses-by-the-table : (c : Call) {tests : List Bool} {r : Refusal} → ByTable c tests r → Among (checked c ++ met c) r
 refuses-by-the-table c a = numbers a
 
 abbrev pub positive : List ℕ → Bool
@@ -113,5 +113,5 @@ no-zero table.coeffs = refl
 no-zero table.coeffs-at = refl
 
 -- a refusal is never 0
-pub never-by-zero : (c : Call) {tests : List Bool} → Answers c tests (by 0) → ⊥
+pub never-by-zero : (c : Call) {tests : List Bool} → ByTable c tests (by 0) → ⊥
 never-by-zero c a = not-zero (checked c ++ met c) (no-zero c) (refuses-by-the-table c a)

@@ -30,6 +30,7 @@ use Rattle.shape.specs.Demand.{KeepsRules}
 use Rattle.shape.specs.Shape.{rename}
 use Rattle.shape.specs.File.{sizeOf, entryOf, isSized, areNodes, isInOrder, passes, appendFirst, appendShifted, writtenFile, readFile}
 use Rattle.lent.specs.Call.{demand, leaves, lentPool, onPool, givenNodes}
+use Rattle.lent.specs.declared.Answer.the-variants as answer
 use Rattle.engine_walk.specs.Walks.{givenVariable}
 use Rattle.engine_values.specs.Values.{mostValues, areResidues, evaluateCall, evaluateResidueCall}
 use Rattle.lent.specs.Writing.{Put, unwritten, writes}
@@ -40,7 +41,7 @@ use Rattle.situations.proofs.Steps.{Refusing, _>>=_, append-refuses}
 use Rattle.situations.proofs.Situations.{of-constructors, of-walks}
 use Rattle.situation_calls.specs.Table as table
 use Rattle.situation_calls.specs.Table.{met}
-use Rattle.situation_calls.specs.Answers.{Situated, Answers, ofAnswer, ofWritten, OfCalls}
+use Rattle.situation_calls.specs.Answers.{Situated, ByTable, ofAnswer, ofWritten, OfCalls}
 use Rattle.situation_calls.proofs.Laws.{working, passing, failing, demanded}
 
 -- ---- checks of calls that give a node
@@ -53,9 +54,9 @@ module _ {checks meets : List ℕ} {tests : List Bool} where
   passed true k next P h = passing k (h refl)
   passed false k next P h = failing k
 
-  left : (ks ws : List ℕ) (n : ℕ) (o : Out) → Situated checks meets tests (ofOut o) → Situated checks meets tests (ofAnswer (leaves ks ws n o .answer))
-  left ks ws n (done i P) s = s
-  left ks ws n (refused k) s = s
+  answered : (ks ws : List ℕ) (n : ℕ) (o : Out) → Situated checks meets tests (ofOut o) → Situated checks meets tests (ofAnswer (leaves answer.Node answer.Refused ks ws n o .answer))
+  answered ks ws n (done i P) s = s
+  answered ks ws n (refused k) s = s
 
 appends : (n : ℕ) (p : ℕ → Node) → Refusing (met table.read) (appendFirst n p)
 unfolding appendFirst
@@ -75,7 +76,7 @@ module _ (ks ws : List ℕ) (n : ℕ) (fit : (i : ℕ) → getD ws i 0 < 2 ^ 64)
 
   -- 1, then the rest
   pub node-call : {checks meets : List ℕ} {tests : List Bool} (work : Run) → (KeepsRules P → Situated checks meets tests (ofOut (work P))) → Situated (brokenPool ∷ checks) meets (isPool ks ws n ∷ tests) (ofAnswer (onPool work ks ws n .answer))
-  node-call work h = left ks ws n (demand refused (isPool ks ws n) brokenPool (work P)) (asked (isPool ks ws n) brokenPool (work P) (λ e. h (rules e)))
+  node-call work h = answered ks ws n (demand refused (isPool ks ws n) brokenPool (work P)) (asked (isPool ks ws n) brokenPool (work P) (λ e. h (rules e)))
 
   leaf-call : {meets : List ℕ} (allowed : Bool) (k : ℕ) (x : Node) → Among meets (ofOut (append x P)) → Situated (brokenPool ∷ k ∷ []) meets (isPool ks ws n ∷ allowed ∷ []) (ofAnswer (onPool (λ Q. demand refused allowed k (append x Q)) ks ws n .answer))
   leaf-call allowed k x h = node-call (λ Q. demand refused allowed k (append x Q)) (λ r. asked allowed k (append x P) (λ e. working h))
@@ -91,7 +92,7 @@ module _ (ks ws : List ℕ) (n : ℕ) (fit : (i : ℕ) → getD ws i 0 < 2 ^ 64)
       asked (allBelow n nodes) unknownNode (givenVariable v run P) (λ e.
       asked (leb v greatestVariable) unknownVariable (run P) (λ f. working (h r e))))
 
-  evaluate-answers : (root : ℕ) (values : List Float) → Answers table.evaluate (isPool ks ws n ∷ allBelow n (root ∷ []) ∷ leb (length values) mostValues ∷ []) (ofValued (evaluateCall ks ws n root values))
+  evaluate-answers : (root : ℕ) (values : List Float) → ByTable table.evaluate (isPool ks ws n ∷ allBelow n (root ∷ []) ∷ leb (length values) mostValues ∷ []) (ofValued (evaluateCall ks ws n root values))
   unfolding evaluateCall
   evaluate-answers root values =
       let value = evaluate (nodeIn ks ws) values root in
@@ -102,7 +103,7 @@ module _ (ks ws : List ℕ) (n : ℕ) (fit : (i : ℕ) → getD ws i 0 < 2 ^ 64)
       valued : {checks meets : List ℕ} {tests : List Bool} (t : Bool) (k : ℕ) (v : Valued) → (t ≡ true → Situated checks meets tests (ofValued v)) → Situated (k ∷ checks) meets (t ∷ tests) (ofValued (demand valued-as.Refused t k v))
       valued = demanded ofValued valued-as.Refused (λ k. refl)
 
-  residue-answers : (root : ℕ) (values : List ℕ) → Answers table.evaluate-residue (isPool ks ws n ∷ allBelow n (root ∷ []) ∷ areResidues values ∷ []) (ofDivided (evaluateResidueCall ks ws n root values))
+  residue-answers : (root : ℕ) (values : List ℕ) → ByTable table.evaluate-residue (isPool ks ws n ∷ allBelow n (root ∷ []) ∷ areResidues values ∷ []) (ofDivided (evaluateResidueCall ks ws n root values))
   unfolding evaluateResidueCall
   residue-answers root values =
       let value = evaluateResidue fixedModulus (nodeIn ks ws) values root in
@@ -117,7 +118,7 @@ module _ (ks ws : List ℕ) (n : ℕ) (fit : (i : ℕ) → getD ws i 0 < 2 ^ 64)
   written-to : {checks meets : List ℕ} {tests : List Bool} (out : List ℕ) (t : Bool) (k : ℕ) (p : Put) → (t ≡ true → Situated checks meets tests (ofWritten (p .answer))) → Situated (k ∷ checks) meets (t ∷ tests) (ofWritten (demand (unwritten out) t k p .answer))
   written-to out = demanded (λ p. ofWritten (p .answer)) (unwritten out) (λ k. refl)
 
-  print-answers : (root : ℕ) (out : List ℕ) → Answers table.print (isPool ks ws n ∷ allBelow n (root ∷ []) ∷ []) (ofWritten (printCall ks ws n root out .answer))
+  print-answers : (root : ℕ) (out : List ℕ) → ByTable table.print (isPool ks ws n ∷ allBelow n (root ∷ []) ∷ []) (ofWritten (printCall ks ws n root out .answer))
   unfolding printCall
   print-answers root out =
       let text = textOf (nodeIn ks ws) root in
@@ -130,7 +131,7 @@ module _ (ks ws : List ℕ) (n : ℕ) (fit : (i : ℕ) → getD ws i 0 < 2 ^ 64)
       work true false bytes = inr (inl refl)
       work false fits bytes = inl refl
 
-  write-answers : (root : ℕ) (out : List ℕ) → Answers table.write (isPool ks ws n ∷ allBelow n (root ∷ []) ∷ []) (ofWritten (writeCall ks ws n root out .answer))
+  write-answers : (root : ℕ) (out : List ℕ) → ByTable table.write (isPool ks ws n ∷ allBelow n (root ∷ []) ∷ []) (ofWritten (writeCall ks ws n root out .answer))
   unfolding writeCall
   write-answers root out =
       let file = writtenFile ks ws root in
@@ -142,7 +143,7 @@ module _ (ks ws : List ℕ) (n : ℕ) (fit : (i : ℕ) → getD ws i 0 < 2 ^ 64)
       work true bytes = tt
       work false bytes = inl refl
 
-  read-answers : (bs : List ℕ) → Answers table.read (isPool ks ws n ∷ isSized bs ∷ areNodes bs ∷ isInOrder bs ∷ []) (ofAnswer (onPool (readFile bs) ks ws n .answer))
+  read-answers : (bs : List ℕ) → ByTable table.read (isPool ks ws n ∷ isSized bs ∷ areNodes bs ∷ isInOrder bs ∷ []) (ofAnswer (onPool (readFile bs) ks ws n .answer))
   unfolding readFile
   read-answers bs =
       let append-all : ℕ → Run = λ i. appendShifted (sizeOf bs) (entryOf bs) in
