@@ -1,4 +1,4 @@
 pub mod Lent
 pub mod Calls
-pub mod Written
+pub mod Digits
 pub mod Limits

@@ -22,7 +22,7 @@ use Rattle.engine_pairs.specs.declared.binary.Binary.the-variants as binary
 use Rattle.engine_expand.specs.Expressions.{expandWork}
 use Rattle.limits.specs.Lent.{Lent, lent, tables, variable, literal, sum, product, quotient, greater, exponential, logarithm, power, full, underMul}
 use Rattle.limits.specs.Calls.{Answer, gives, refuses, called, expanded, listed, listOf, evaluated, evaluatedByResidues, printed, written}
-use Rattle.limits.specs.Written.{hex}
+use Rattle.limits.specs.Digits.{hex}
 
 -- "An empty pool has count 0."
 abbrev pub nothing : Lent

@@ -18,7 +18,7 @@ use Rattle.sheet_text.specs.Line.{digitsFrom, decimalOf, pointOf, fields, parse
 use Rattle.sheet_text.specs.Sheet.{empty, coefficients, linesFrom, sheet}
 use Rattle.limits.specs.Lent.{lent, text65535, text65536}
 use Rattle.limits.specs.Calls.{file}
-use Rattle.limits.specs.Written.{bytes}
+use Rattle.text.specs.Text.{bytes}
 use Rattle.limits_texts.specs.Sheets.{Sheets}
 use Rattle.limits.proofs.Called.{file-on}
 

@@ -4,7 +4,7 @@ use mathlib.Core.Path.{_≡_}
 use mathlib.Core.List.{List, [], _∷_}
 use Rattle.limits.specs.Lent.{Entry, Lent, lent, variable, literal, sum, product, quotient, exponential, logarithm, power}
 use Rattle.limits.specs.Calls.{text}
-use Rattle.limits.specs.Written.{bytes}
+use Rattle.text.specs.Text.{bytes}
 
 -- nodes 0, 1 and 2 are x0, x1 and x2, printed a, b and c; then these
 abbrev pub withLetters : List Entry → Lent

@@ -7,7 +7,8 @@ use lib.ListN.{length, replicate}
 use Rattle.sheet_text.specs.Sheet.{sheet}
 use Rattle.limits.specs.Lent.{lent, text65535, text65536}
 use Rattle.limits.specs.Calls.{file}
-use Rattle.limits.specs.Written.{bytes, hex}
+use Rattle.text.specs.Text.{bytes}
+use Rattle.limits.specs.Digits.{hex}
 
 -- the file of the literal 7
 abbrev pub seven : List ℕ

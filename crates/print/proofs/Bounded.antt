@@ -1,13 +1,12 @@
--- Texts and the search for a Max at a part: below the bound a part has what its own node gives, and from the bound on there is nothing.
+-- Texts at a part: below the bound a part has the text of its own node, and from the bound on there is none.
 -- Assumes nothing.
 use mathlib.Core.Path.{_≡_, sym, ap, _∙_}
-use mathlib.Core.Bool.{Bool, false}
 use mathlib.Core.List.{List, []}
 use Prim.Native.Nat.{ℕ, _<_, _≤_}
 use lib.Dec.{ltb}
 use Rattle.pool.specs.declared.node.Node.{Node}
 use Rattle.pool.specs.Fold.{foldNodes}
-use Rattle.walks.specs.Print.{precedence, bracketed, nodeText, textNode, textBelow, nodeHasMax, hasMaxBelow, hasMax}
+use Rattle.walks.specs.Print.{precedence, bracketed, nodeText, textNode, textBelow}
 use Rattle.pool.proofs.Folds.{visits, below, above}
 
 module _ (at : ℕ → Node) where
@@ -23,15 +22,3 @@ module _ (at : ℕ → Node) where
 
   pub no-text-above : (k parent a : ℕ) → k ≤ a → textBelow at k parent a ≡ []
   no-text-above k parent a h = ap (λ (text : ℕ → List ℕ). text parent) (sym (above (λ around. []) (foldNodes (λ around. []) textNode at) k a h))
-
-  abbrev pub maxAt : ℕ → Bool
-  maxAt a = nodeHasMax (hasMaxBelow at a) (at a)
-
-  pub max-is : (a : ℕ) → hasMax at a ≡ maxAt a
-  max-is a = visits false nodeHasMax at a
-
-  pub max-below : (k a : ℕ) → a < k → hasMaxBelow at k a ≡ maxAt a
-  max-below k a h = sym (below false (hasMax at) k a h) ∙ visits false nodeHasMax at a
-
-  pub no-max-above : (k a : ℕ) → k ≤ a → hasMaxBelow at k a ≡ false
-  no-max-above k a h = sym (above false (hasMax at) k a h)

@@ -7,7 +7,7 @@ use Prim.Native.Nat.{ℕ}
 use lib.ListN.{getD}
 use Rattle.pool.specs.declared.node.Node.{Node}
 use Rattle.pool.specs.declared.node.Node.the-variants.{Empty, Variable, Add, Mul, Div, Exp, Pow, Max}
-use Rattle.text.specs.Text.{decimal, digitsWithin, display}
+use Rattle.text.specs.Text.{bytes, decimal, digitsWithin, display}
 use Rattle.pool.specs.Fold.{under, foldNodesWithin, foldNodes}
 use Rattle.walks.specs.Print.{textOf, hasMax}
 
@@ -29,20 +29,15 @@ nodes i =
     i
     Empty
 
--- "a/(b*c)"
-pub a-product-below : textOf nodes 4 ≡ 97 ∷ 47 ∷ 40 ∷ 98 ∷ 42 ∷ 99 ∷ 41 ∷ []
+pub a-product-below : textOf nodes 4 ≡ bytes "a/(b*c)"
 unfolding nodes foldNodes foldNodesWithin under display decimal digitsWithin
 a-product-below = refl
 
--- "(a + b)*c"
-pub a-sum-as-factor : textOf nodes 6 ≡ 40 ∷ 97 ∷ 32 ∷ 43 ∷ 32 ∷ 98 ∷ 41 ∷ 42 ∷ 99 ∷ []
+pub a-sum-as-factor : textOf nodes 6 ≡ bytes "(a + b)*c"
 unfolding nodes foldNodes foldNodesWithin under display decimal digitsWithin
 a-sum-as-factor = refl
 
--- "exp((a/(b*c))^12)"
-pub a-quotient-as-base :
-    textOf nodes 8
-    ≡ 101 ∷ 120 ∷ 112 ∷ 40 ∷ 40 ∷ 97 ∷ 47 ∷ 40 ∷ 98 ∷ 42 ∷ 99 ∷ 41 ∷ 41 ∷ 94 ∷ 49 ∷ 50 ∷ 41 ∷ []
+pub a-quotient-as-base : textOf nodes 8 ≡ bytes "exp((a/(b*c))^12)"
 unfolding nodes foldNodes foldNodesWithin under display decimal digitsWithin
 a-quotient-as-base = refl
 

@@ -17,4 +17,5 @@ pub mod Writing
 pub mod ReadBack
 pub mod Demand3
 pub mod Walked
+pub mod Reached
 pub mod Examples

@@ -1,7 +1,6 @@
 -- Evaluation and printing unfold: what is given at a node is what is done there with what is given at its parts, with no bound, on tables whose parts fall.
 -- Assumes nothing.
 use mathlib.Core.Path.{_≡_, refl, sym, ap, _∙_}
-use mathlib.Core.Bool.{false}
 use mathlib.Core.List.{List, []}
 use Prim.Native.Nat.{ℕ}
 use lib.Dec.{ltb}
@@ -10,15 +9,17 @@ use Rattle.refusals.specs.Refusals.{brokenPool}
 use Rattle.double.specs.declared.Valued.the-variants as valued
 use Rattle.residue.specs.declared.Divided.the-variants as divided
 use Rattle.pool.specs.declared.node.Node.{Node}
+use Rattle.pool.specs.Reaches.{reachesAt, isMax}
 use Rattle.pool.specs.Fold.{under, foldNodes}
 use Rattle.pool.proofs.Folds.{visits, below}
 use Rattle.walks.specs.Evaluate.{evaluateNode, evaluate}
 use Rattle.walks.specs.EvaluateResidue.{residueNode, evaluateResidue}
-use Rattle.walks.specs.Print.{precedence, bracketed, nodeText, nodeHasMax, hasMax}
+use Rattle.walks.specs.Print.{precedence, bracketed, nodeText, hasMax}
 use Rattle.shape.specs.Walked.{Falls}
 use Rattle.shape.proofs.Renaming.{rename-same}
+use Rattle.shape.proofs.Reached.{reaches-unfolds}
 use Rattle.shape_values.specs.Printing.{textUnder}
-use Rattle.shape_values.proofs.SameShape.{GoesByShape, value-by-shape, residue-by-shape, text-by-shape, max-by-shape}
+use Rattle.shape_values.proofs.SameShape.{GoesByShape, value-by-shape, residue-by-shape, text-by-shape}
 
 -- every recursion over node numbers whose visits look only at parts
 unfolds :
@@ -38,5 +39,5 @@ module _ (at : ℕ → Node) (falls : Falls at) (i : ℕ) where
   pub text-unfolds : (parent : ℕ) → textUnder at parent i ≡ bracketed (ltb (precedence (at i)) parent) (nodeText (textUnder at) (at i))
   text-unfolds parent = ap (λ text. text parent) (unfolds (λ around. []) at text-by-shape falls i)
 
-  pub max-unfolds : hasMax at i ≡ nodeHasMax (hasMax at) (at i)
-  max-unfolds = unfolds false at max-by-shape falls i
+  pub max-unfolds : hasMax at i ≡ reachesAt isMax (hasMax at) (at i)
+  max-unfolds = reaches-unfolds isMax at falls i

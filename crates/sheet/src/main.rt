@@ -9,7 +9,7 @@ use libc::STDOUT_FILENO;
 use pool::LIMIT;
 use sheet_line::Line;
 use sheet_lines::LINE_ROOM;
-use sheet_page::PARTS;
+use sheet_page::PIECES;
 use sheet_page::Page;
 
 // nodes.bin, a missing one counting as 0 bytes.
@@ -56,7 +56,7 @@ fn print_line(
     out: &mut [u8],
 ) -> bool {
     let mut part = 0;
-    while part < PARTS {
+    while part < PIECES {
         if !print_part(page, kinds, words, line, part, out) {
             return false;
         }

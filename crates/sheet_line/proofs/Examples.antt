@@ -1,19 +1,12 @@
 -- Lines worked out by hand from document 01's sentence on the input line, computed from the definitions.
 -- Assumes nothing.
 use mathlib.Core.Path.{_≡_, refl}
-use mathlib.Core.List.{List, [], _∷_}
-use Prim.Native.Nat.{ℕ}
-use Prim.Native.Char.{code}
-use Prim.Native.String as String
 use lib.IntN.{pos, negℤ}
+use Rattle.text.specs.Text.{bytes}
 use Rattle.sheet_text.specs.Line.{digitsFrom, decimalOf, pointOf, fields, parse}
 use Rattle.sheet_line.specs.declared.Place.the-variants.{None, At}
 use Rattle.sheet_line.specs.declared.Line.the-variants.{Usage, Asks}
 use Rattle.sheet_line.specs.Cut.{cutAt, cutLine}
-
-abbrev bytes : String.String → List ℕ
-bytes String.[] = []
-bytes (String._∷_ c s) = code c ∷ bytes s
 
 -- a line end or none
 pub with-a-line-end : cutLine (parse (bytes "0 2\n")) ≡ Asks 0 2 None

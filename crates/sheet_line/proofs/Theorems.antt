@@ -11,7 +11,8 @@ use Rattle.shape.specs.File.{readFile}
 use Rattle.taylor.specs.Expand.{Point, isPoint}
 use Rattle.sheet_text.specs.Line.{Line, usage, asks, parse}
 use Rattle.taylor.specs.Expansion.{greatestOrder}
-use Rattle.sheet_text.specs.Sheet.{demand, empty, expandRoot, coefficients, sheetText, answerTo, sheet}
+use Rattle.refusals.specs.Demand.{demand}
+use Rattle.sheet_text.specs.Sheet.{refusal, empty, expandRoot, coefficients, sheetText, answerTo, sheet}
 use Rattle.sheet_line.specs.Cut.{cut, cutPlace, cutLine, pointIn, lineIn}
 use Rattle.sheet_line.proofs.Cutting.{same-variable-test, whole-variable, same-order-test, whole-order, same-point-test, whole-point}
 
@@ -24,9 +25,9 @@ record Asked : Type 0 where
 abbrev answer : List ℕ → Asked → Bool → Bool → Bool → List ℕ
 answer file a s t u =
     sheetText (a .v) (a .order) (a .x)
-    (demand s unknownVariable
-    (demand t notLiteral
-    (demand u wrongOrder (expandRoot (a .v) (a .order) (a .x) (readFile file empty)))))
+    (demand refusal s unknownVariable
+    (demand refusal t notLiteral
+    (demand refusal u wrongOrder (expandRoot (a .v) (a .order) (a .x) (readFile file empty)))))
 
 -- a refusal names none of the numbers
 same-answer : (file : List ℕ) (a b : Asked) (s t u : Bool) → (s ≡ true → t ≡ true → u ≡ true → a ≡ b) → answer file a s t u ≡ answer file b s t u

@@ -20,24 +20,24 @@ use Rattle.taylor.specs.Expand.{Point, none, point}
 use Rattle.taylor_base.specs.Answers.{terms}
 use Rattle.expand.specs.Points.{pointOf}
 use Rattle.sheet_text.specs.Sheet.{lineEnd, space, colon, refusedText, pointText, linesFrom}
-use Rattle.sheet_page.specs.Pages.{refusedLine, firstLine, headBy, headOf, partOf, textAt, pieceOf, lineOf, linesUpTo, wholeOf, short, putOf, Printable, Put}
+use Rattle.sheet_page.specs.Pages.{refusedLine, firstLine, headBy, headOf, pieceOfLine, textAt, pieceOf, wholeLine, linesUpTo, wholeOf, short, putOf, Printable, AtFront}
 use Rattle.sheet_page.specs.declared.first.Page.{Page}
 use Rattle.sheet_page.specs.declared.first.Verdict.{Verdict}
 use Rattle.sheet_page.specs.declared.first.Verdict.the-variants.{Usage, Refused, Lines}
 
 -- ---- what is written is put
-pub wrote-put : {l l′ : List ℕ} {to : ℕ} (text : List ℕ) → Wrote 0 l text to l′ → length text ≤ longestText → longestText ≤ length l → Put text l to l′
+pub wrote-put : {l l′ : List ℕ} {to : ℕ} (text : List ℕ) → Wrote 0 l text to l′ → length text ≤ longestText → longestText ≤ length l → AtFront text l to l′
 wrote-put text w short room =
     record { long = counted text w ∙ min-eq-left (omega arith); bytes = in-place text w (omega arith) short }
 
-pub nothing-put : (l : List ℕ) {text : List ℕ} → [] ≡ text → Put text l 0 l
+pub nothing-put : (l : List ℕ) {text : List ℕ} → [] ≡ text → AtFront text l 0 l
 nothing-put l e = rw (← e) (record { long = refl; bytes = refl })
 
-pub put-as : {x y before after : List ℕ} {n : ℕ} → x ≡ y → Put x before n after → Put y before n after
+pub put-as : {x y before after : List ℕ} {n : ℕ} → x ≡ y → AtFront x before n after → AtFront y before n after
 put-as e p = rw e at p
 
 -- a piece that is short is put whole, a longer one not at all
-pub put-short : {text before after : List ℕ} {n : ℕ} → length text ≤ longestText → Put text before n after → Put (short text) before n after
+pub put-short : {text before after : List ℕ} {n : ℕ} → length text ≤ longestText → AtFront text before n after → AtFront (short text) before n after
 put-short {text} h p = rw (le-leb (length text) longestText h) p
 
 -- a text by its counted length
@@ -50,12 +50,12 @@ module _ (text : List ℕ) {n : ℕ} (length-counted : n ≡ min (length text) (
 
 -- a text that was printed into an output with room for the longest
 module _ (text : List ℕ) {before after : List ℕ} {n : ℕ} (w : Printed text before n after) where
-  pub long-not-put : longestText < n → Put (short text) before 0 after
+  pub long-not-put : longestText < n → AtFront (short text) before 0 after
   long-not-put h =
       let long : longestText < length text = is-long text (w .counted) h in
       rw (lt-leb (length text) longestText long, w .too-long long) (record { long = refl; bytes = refl })
 
-  pub short-put : n ≤ longestText → longestText ≤ length before → Put (short text) before n after
+  pub short-put : n ≤ longestText → longestText ≤ length before → AtFront (short text) before n after
   short-put h room =
       let few : length text ≤ longestText = is-short text (w .counted) h in
       let same : n ≡ length text = omega (arith, w .counted, few) in
@@ -133,9 +133,9 @@ module _ (page : Page) (ks ws : List ℕ) where
       below : line - 1 < page .lines
       below = omega (arith, there, some)
 
-      of-line : (part : ℕ) → partOf (textAt page ks ws (line - 1)) (line - 1) part ≡ pieceOf page ks ws line part
+      of-line : (part : ℕ) → pieceOfLine (textAt page ks ws (line - 1)) (line - 1) part ≡ pieceOf page ks ws line part
       unfolding pieceOf
-      of-line part = ap (λ (t : Bool). cond t (partOf (textAt page ks ws (line - 1)) (line - 1) part) []) (sym (lt-ltb (line - 1) (page .lines) below)) ∙ ap (λ (n : ℕ). pieceOf page ks ws n part) next
+      of-line part = ap (λ (t : Bool). cond t (pieceOfLine (textAt page ks ws (line - 1)) (line - 1) part) []) (sym (lt-ltb (line - 1) (page .lines) below)) ∙ ap (λ (n : ℕ). pieceOf page ks ws n part) next
 
       pub index-piece : {part : ℕ} → part ≡ 0 → decimal (line - 1) ++ colon ≡ pieceOf page ks ws line part
       index-piece e = rw e (of-line 0)
@@ -149,7 +149,7 @@ module _ (page : Page) (ks ws : List ℕ) where
       pub no-part : {part : ℕ} → part ≢ 0 → part ≢ 1 → part ≢ 2 → [] ≡ pieceOf page ks ws line part
       no-part {part} a b c = go part a b c ∙ of-line part
         where
-          go : (part : ℕ) → part ≢ 0 → part ≢ 1 → part ≢ 2 → [] ≡ partOf (textAt page ks ws (line - 1)) (line - 1) part
+          go : (part : ℕ) → part ≢ 0 → part ≢ 1 → part ≢ 2 → [] ≡ pieceOfLine (textAt page ks ws (line - 1)) (line - 1) part
           go zero a b c = absurd (a refl)
           go (suc zero) a b c = absurd (b refl)
           go (suc (suc zero)) a b c = absurd (c refl)
@@ -163,11 +163,11 @@ textsFrom page ks ws i (suc todo) = textAt page ks ws i ∷ textsFrom page ks ws
 
 module _ (page : Page) (ks ws : List ℕ) where
   -- the line of a coefficient
-  line-is : (i : ℕ) → i < page .lines → lineOf page ks ws (suc i) ≡ decimal i ++ colon ++ textAt page ks ws i ++ lineEnd
+  line-is : (i : ℕ) → i < page .lines → wholeLine page ks ws (suc i) ≡ decimal i ++ colon ++ textAt page ks ws i ++ lineEnd
   unfolding pieceOf
   line-is i h = rw (lt-ltb i (page .lines) h) refl
 
-  first-is : lineOf page ks ws 0 ≡ headOf page
+  first-is : wholeLine page ks ws 0 ≡ headOf page
   unfolding pieceOf
   first-is = append-nil (headOf page ++ []) ∙ append-nil (headOf page)
 
@@ -200,7 +200,7 @@ module _ (page : Page) (ks ws : List ℕ) (p : Printable page ks ws) where
   piece-short zero (suc part) = omega arith
   piece-short (suc i) part = go (ltb i (page .lines)) refl part
     where
-      go : (t : Bool) → ltb i (page .lines) ≡ t → (part : ℕ) → length (cond t (partOf (textAt page ks ws i) i part) []) ≤ longestText
+      go : (t : Bool) → ltb i (page .lines) ≡ t → (part : ℕ) → length (cond t (pieceOfLine (textAt page ks ws i) i part) []) ≤ longestText
       go true e zero = label-short i
       go true e (suc zero) = p .short i (ltb-true i (page .lines) e)
       go true e (suc (suc zero)) = end-short

@@ -36,15 +36,15 @@ abbrev pub headOf : Page → List ℕ
 headOf page = headBy (page .verdict) page
 
 -- how many pieces a line has at most
-abbrev pub parts : ℕ
-parts = 3
+abbrev pub pieces : ℕ
+pieces = 3
 
 -- the pieces of the line of coefficient i
-abbrev pub partOf : List ℕ → ℕ → ℕ → List ℕ
-partOf text i zero = decimal i ++ colon
-partOf text i (suc zero) = text
-partOf text i (suc (suc zero)) = lineEnd
-partOf text i (suc (suc (suc part))) = []
+abbrev pub pieceOfLine : List ℕ → ℕ → ℕ → List ℕ
+pieceOfLine text i zero = decimal i ++ colon
+pieceOfLine text i (suc zero) = text
+pieceOfLine text i (suc (suc zero)) = lineEnd
+pieceOfLine text i (suc (suc (suc part))) = []
 
 -- the text of coefficient i
 abbrev pub textAt : Page → List ℕ → List ℕ → ℕ → List ℕ
@@ -53,15 +53,15 @@ textAt page ks ws i = textOf (nodeIn ks ws) (at (page .nodes) i)
 unfoldable pub pieceOf : Page → List ℕ → List ℕ → ℕ → ℕ → List ℕ
 pieceOf page ks ws zero zero = headOf page
 pieceOf page ks ws zero (suc part) = []
-pieceOf page ks ws (suc i) part = cond (ltb i (page .lines)) (partOf (textAt page ks ws i) i part) []
+pieceOf page ks ws (suc i) part = cond (ltb i (page .lines)) (pieceOfLine (textAt page ks ws i) i part) []
 
 -- the pieces of a line, and of the first n lines
-abbrev pub lineOf : Page → List ℕ → List ℕ → ℕ → List ℕ
-lineOf page ks ws line = pieceOf page ks ws line 0 ++ pieceOf page ks ws line 1 ++ pieceOf page ks ws line 2
+abbrev pub wholeLine : Page → List ℕ → List ℕ → ℕ → List ℕ
+wholeLine page ks ws line = pieceOf page ks ws line 0 ++ pieceOf page ks ws line 1 ++ pieceOf page ks ws line 2
 
 unfoldable pub linesUpTo : Page → List ℕ → List ℕ → ℕ → List ℕ
 linesUpTo page ks ws zero = []
-linesUpTo page ks ws (suc n) = linesUpTo page ks ws n ++ lineOf page ks ws n
+linesUpTo page ks ws (suc n) = linesUpTo page ks ws n ++ wholeLine page ks ws n
 
 -- all pieces in order: the first line and those of the coefficients
 abbrev pub wholeOf : Page → List ℕ → List ℕ → List ℕ
@@ -81,6 +81,6 @@ pub record Printable (page : Page) (ks ws : List ℕ) : Type 0 where
   pub short : (i : ℕ) → i < page .lines → length (textAt page ks ws i) ≤ longestText
 
 -- a piece at the front of the output, which is otherwise as before
-pub record Put (text before : List ℕ) (n : ℕ) (after : List ℕ) : Type 0 where
+pub record AtFront (text before : List ℕ) (n : ℕ) (after : List ℕ) : Type 0 where
   pub long : n ≡ length text
   pub bytes : after ≡ text ++ drop (length text) before

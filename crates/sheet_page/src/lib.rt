@@ -4,5 +4,5 @@ mod pieces;
 
 pub use first::Page;
 pub use first::Verdict;
-pub use pieces::PARTS;
+pub use pieces::PIECES;
 pub use pieces::piece;

@@ -5,7 +5,7 @@ ghost use Rattle.low_bytes.specs.Output.{longestText};
 ghost use Rattle.pool.specs.Pool.{nodeIn};
 ghost use Rattle.walks.specs.Print.{textOf};
 ghost use Rattle.taylor_base.specs.Answers.{terms};
-ghost use Rattle.sheet_page.specs.Pages.{pieceOf, short, putOf, Put};
+ghost use Rattle.sheet_page.specs.Pages.{pieceOf, short, putOf, AtFront};
 use crate::first::Page;
 use crate::first::head;
 use crate::first::label;
@@ -13,12 +13,12 @@ use pool::LIMIT;
 use taylor_base::TERMS;
 
 // How many pieces a line has at most.
-pub const PARTS: u32 = 3;
+pub const PIECES: u32 = 3;
 
 // The text of a node, unless it is too long.
 fn text_of(kinds: &[u8; LIMIT], words: &[u64; LIMIT], node: u32, out: &mut [u8]) -> usize
     requires { ⌜ longestText ≤ length (now out) ⌝ }
-    ensures { λ r. ⌜ Put (short (textOf (nodeIn (now (kinds .entry)) (now (words .entry))) node)) (now (out .entry)) r (now (out .exit)) ⌝ }
+    ensures { λ r. ⌜ AtFront (short (textOf (nodeIn (now (kinds .entry)) (now (words .entry))) node)) (now (out .entry)) r (now (out .exit)) ⌝ }
 {
     let n = print::print_into(kinds, words, node, out) as usize;
     if n > low_bytes::TEXT_MAX {
@@ -38,7 +38,7 @@ fn piece_of(
 ) -> usize
     requires { ⌜ page .lines ≤ terms ⌝ }
     requires { ⌜ longestText ≤ length (now out) ⌝ }
-    ensures { λ r. ⌜ Put (short (pieceOf page (now (kinds .entry)) (now (words .entry)) line part)) (now (out .entry)) r (now (out .exit)) ⌝ }
+    ensures { λ r. ⌜ AtFront (short (pieceOf page (now (kinds .entry)) (now (words .entry)) line part)) (now (out .entry)) r (now (out .exit)) ⌝ }
 {
     if line == 0 {
         if part == 0 {
@@ -73,7 +73,7 @@ pub fn piece(
     part: u32,
     out: &mut [u8],
 ) -> usize
-    ensures { λ r. ⌜ Put (putOf page (now (kinds .entry)) (now (words .entry)) line part (length (now (out .entry)))) (now (out .entry)) r (now (out .exit)) ⌝ }
+    ensures { λ r. ⌜ AtFront (putOf page (now (kinds .entry)) (now (words .entry)) line part (length (now (out .entry)))) (now (out .entry)) r (now (out .exit)) ⌝ }
 {
     if out.len() < low_bytes::TEXT_MAX {
         return 0;

@@ -1,13 +1,10 @@
 -- The sheet that document 01 prints, computed from the definition.
 -- Assumes nothing.
 use mathlib.Core.Path.{_≡_, refl}
-use mathlib.Core.List.{List, [], _∷_, _++_}
-use Prim.Native.Nat.{ℕ}
-use Prim.Native.Char.{code}
-use Prim.Native.String as String
+use mathlib.Core.List.{[], _∷_}
 use lib.ListN.{replicate}
 use Rattle.literal.specs.Literal.{folded, expOf, logOf}
-use Rattle.text.specs.Text.{digitsWithin, decimal, signedDecimal, display}
+use Rattle.text.specs.Text.{bytes, digitsWithin, decimal, signedDecimal, display}
 use Rattle.pool.specs.Nodes.{decode, mayStandAt}
 use Rattle.pool.specs.Pool.{append, nodeIn, each}
 use Rattle.shape.specs.Order.{walk, numbered}
@@ -20,10 +17,6 @@ use Rattle.taylor.specs.Expansion.{times, powFrom}
 use Rattle.taylor.specs.Expand.{expandBelow}
 use Rattle.sheet_text.specs.Line.{digitsFrom, decimalOf, pointOf, fields, parse}
 use Rattle.sheet_text.specs.Sheet.{empty, coefficients, linesFrom, sheet}
-
-abbrev bytes : String.String → List ℕ
-bytes String.[] = []
-bytes (String._∷_ c s) = code c ∷ bytes s
 
 -- "For the 22-byte file 02 00 00 00, 01 04, then sixteen 00 (hexadecimal), and the line `0 2`, it prints"
 pub the-example : sheet (2 ∷ 0 ∷ 0 ∷ 0 ∷ 1 ∷ 4 ∷ replicate 16 0) (bytes "0 2\n") ≡ bytes "0 2 none\n0: a*a\n1: a + a\n2: 1\n"

@@ -1,6 +1,5 @@
 -- The coefficient sheet, from the bytes of nodes.bin and of the line: the whole text that the program `sheet` prints.
 -- Assumes nothing.
-use mathlib.Core.Bool.{Bool, true, false}
 use mathlib.Core.List.{List, [], _∷_, _++_}
 use Prim.Native.Nat.{ℕ, suc}
 use lib.Dec.{leb}
@@ -8,7 +7,8 @@ use lib.IntN.{ℤ}
 use lib.ListN.{length}
 use Rattle.low_bytes.specs.Output.{longestText}
 use Rattle.refusals.specs.Refusals.{unknownVariable, notLiteral, wrongOrder, noRoom}
-use Rattle.text.specs.Text.{decimal, signedDecimal}
+use Rattle.refusals.specs.Demand.{demand}
+use Rattle.text.specs.Text.{bytes, decimal, signedDecimal}
 use Rattle.pool.specs.Nodes.{greatestVariable}
 use Rattle.pool.specs.Pool.{Pool, Out, done, refused, nodeAt}
 unfoldable pub use Rattle.pool.specs.Pool.{empty}
@@ -24,13 +24,9 @@ pub data Coefficients : Type 0 where
   texts : List (List ℕ) → Coefficients
   refusal : ℕ → Coefficients
 
-abbrev pub demand : Bool → ℕ → Coefficients → Coefficients
-demand true k c = c
-demand false k c = refusal k
-
 -- "19 here means one coefficient's text above 65,535 bytes"
 abbrev pub printed : List ℕ → Coefficients → Coefficients
-printed text (texts more) = demand (leb (length text) longestText) noRoom (texts (text ∷ more))
+printed text (texts more) = demand refusal (leb (length text) longestText) noRoom (texts (text ∷ more))
 printed text (refusal k) = refusal k
 
 abbrev pub printAll : Pool → List ℕ → Coefficients
@@ -51,29 +47,28 @@ expandRoot v order x (refused k) = refusal k
 unfoldable pub coefficients : List ℕ → ℕ → ℕ → Point → Coefficients
 unfolding empty
 coefficients file v order x =
-    demand (leb v greatestVariable) unknownVariable
-    (demand (isPoint x) notLiteral
-    (demand (leb order greatestOrder) wrongOrder
+    demand refusal (leb v greatestVariable) unknownVariable
+    (demand refusal (isPoint x) notLiteral
+    (demand refusal (leb order greatestOrder) wrongOrder
     (expandRoot v order x (readFile file empty))))
 
--- the bytes of a line end, " ", ": ", "usage", "refused " and "none"
 abbrev pub lineEnd : List ℕ
-lineEnd = 10 ∷ []
+lineEnd = bytes "\n"
 
 abbrev pub space : List ℕ
-space = 32 ∷ []
+space = bytes " "
 
 abbrev pub colon : List ℕ
-colon = 58 ∷ 32 ∷ []
+colon = bytes ": "
 
 abbrev pub usageText : List ℕ
-usageText = 117 ∷ 115 ∷ 97 ∷ 103 ∷ 101 ∷ []
+usageText = bytes "usage"
 
 abbrev pub refusedText : List ℕ
-refusedText = 114 ∷ 101 ∷ 102 ∷ 117 ∷ 115 ∷ 101 ∷ 100 ∷ 32 ∷ []
+refusedText = bytes "refused "
 
 abbrev pub pointText : Point → List ℕ
-pointText none = 110 ∷ 111 ∷ 110 ∷ 101 ∷ []
+pointText none = bytes "none"
 pointText (point z) = signedDecimal z
 
 -- "each further line an index and its coefficient"

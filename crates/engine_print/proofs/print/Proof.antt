@@ -40,8 +40,8 @@ cast-node c =
     let g = sym (c .before .one-given .ensures) ∙ not-false _ (c .if2 .left) in
     record { fits = omega (arith, one-is-below (a .count) (a .root) g, pool-sized (a .kinds .now) (a .words .now) (a .count) p .small) }
 
-has-max-requires : tie.Need-has-max-requires
-has-max-requires c κs = search needs
+reaches-requires : tie.Need-reaches-requires
+reaches-requires c κs = search needs
 
 returns-3 : tie.Need-returns-3
 returns-3 c =
@@ -50,7 +50,7 @@ returns-3 c =
     let ok = not-false _ (c .before .before .before .before .before .before .if1 .left) in
     let p = sym (taken .tested) ∙ ok in
     let g = sym (c .before .before .before .before .before .one-given .ensures) ∙ not-false _ (c .before .before .before .before .if2 .left) in
-    let m : hasMax (nodeIn (a .kinds .now) (a .words .now)) (a .root) ≡ true = rw (taken .kinds-copied ok, taken .words-copied ok) at (sym (c .before .has-max .ensures) ∙ c .if3 .taken) in
+    let m : hasMax (nodeIn (a .kinds .now) (a .words .now)) (a .root) ≡ true = rw (taken .kinds-copied ok, taken .words-copied ok) at (sym (c .before .reaches .ensures) ∙ c .if3 .taken) in
     has-a-max (a .kinds .now) (a .words .now) (a .count) (a .root) (a .out .now) p g m
 
 print-into-requires : tie.Need-print-into-requires
@@ -69,7 +69,7 @@ returns-4 c =
     let ok = not-false _ (c .before .before .before .before .before .before .before .before .before .before .before .before .before .if1 .left) in
     let p = sym (taken .tested) ∙ ok in
     let g = sym (c .before .before .before .before .before .before .before .before .before .before .before .before .one-given .ensures) ∙ not-false _ (c .before .before .before .before .before .before .before .before .before .before .before .if2 .left) in
-    let m : hasMax (nodeIn (a .kinds .now) (a .words .now)) (a .root) ≡ false = rw (taken .kinds-copied ok, taken .words-copied ok) at (sym (c .before .before .before .before .before .before .before .before .has-max .ensures) ∙ c .before .before .before .before .before .before .before .if3 .left) in
+    let m : hasMax (nodeIn (a .kinds .now) (a .words .now)) (a .root) ≡ false = rw (taken .kinds-copied ok, taken .words-copied ok) at (sym (c .before .before .before .before .before .before .before .before .reaches .ensures) ∙ c .before .before .before .before .before .before .before .if3 .left) in
     let w = rw (taken .kinds-copied ok, taken .words-copied ok) at (c .before .before .before .print-into .ensures) in
     too-long (a .kinds .now) (a .words .now) (a .count) (a .root) (a .out .now) p g m w (c .if4 .taken)
 
@@ -83,7 +83,7 @@ returns-5 c =
     let ok = not-false _ (c .before .before .before .before .before .before .before .before .before .before .before .before .before .before .if1 .left) in
     let p = sym (taken .tested) ∙ ok in
     let g = sym (c .before .before .before .before .before .before .before .before .before .before .before .before .before .one-given .ensures) ∙ not-false _ (c .before .before .before .before .before .before .before .before .before .before .before .before .if2 .left) in
-    let m : hasMax (nodeIn (a .kinds .now) (a .words .now)) (a .root) ≡ false = rw (taken .kinds-copied ok, taken .words-copied ok) at (sym (c .before .before .before .before .before .before .before .before .before .has-max .ensures) ∙ c .before .before .before .before .before .before .before .before .if3 .left) in
+    let m : hasMax (nodeIn (a .kinds .now) (a .words .now)) (a .root) ≡ false = rw (taken .kinds-copied ok, taken .words-copied ok) at (sym (c .before .before .before .before .before .before .before .before .before .reaches .ensures) ∙ c .before .before .before .before .before .before .before .before .if3 .left) in
     let w = rw (taken .kinds-copied ok, taken .words-copied ok) at (c .before .before .before .before .print-into .ensures) in
     no-room-for-it (a .kinds .now) (a .words .now) (a .count) (a .root) (a .out .now) p g m w (c .before .if4 .left) (omega (arith, c .before .before .before .before .print-into .kept .1 .1 .1 .0, c .if5 .taken))
 
@@ -97,7 +97,7 @@ returns-6 c =
     let ok = not-false _ (c .before .before .before .before .before .before .before .before .before .before .before .before .before .before .if1 .left) in
     let p = sym (taken .tested) ∙ ok in
     let g = sym (c .before .before .before .before .before .before .before .before .before .before .before .before .before .one-given .ensures) ∙ not-false _ (c .before .before .before .before .before .before .before .before .before .before .before .before .if2 .left) in
-    let m : hasMax (nodeIn (a .kinds .now) (a .words .now)) (a .root) ≡ false = rw (taken .kinds-copied ok, taken .words-copied ok) at (sym (c .before .before .before .before .before .before .before .before .before .has-max .ensures) ∙ c .before .before .before .before .before .before .before .before .if3 .left) in
+    let m : hasMax (nodeIn (a .kinds .now) (a .words .now)) (a .root) ≡ false = rw (taken .kinds-copied ok, taken .words-copied ok) at (sym (c .before .before .before .before .before .before .before .before .before .reaches .ensures) ∙ c .before .before .before .before .before .before .before .before .if3 .left) in
     let w = rw (taken .kinds-copied ok, taken .words-copied ok) at (c .before .before .before .before .print-into .ensures) in
     printed (a .kinds .now) (a .words .now) (a .count) (a .root) (a .out .now) p g m w (c .before .if4 .left) (omega (arith, c .before .before .before .before .print-into .kept .1 .1 .1 .0, c .if5 .left))
 
@@ -110,7 +110,7 @@ print-spec =
     one-given-requires
     returns-2
     cast-node
-    has-max-requires
+    reaches-requires
     returns-3
     print-into-requires
     cast-length

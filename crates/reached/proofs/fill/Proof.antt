@@ -1,29 +1,28 @@
--- `print::max::fill` meets its contract: after each turn the table has the answers of the nodes that were passed.
+-- `reached::fill` meets its contract: after each turn the table has the answers of the nodes that were passed.
 -- Assumes nothing.
 use native.Mathlib.Omega.{arith}
-use mathlib.Core.Path.{_≡_, _∙_, ap}
+use mathlib.Core.Path.{_≡_}
 use Prim.Native.Nat.{_≤_, _-_}
 use Rattle.pool.specs.Pool.{nodeIn}
-use Rattle.walks.specs.Print.{nodeHasMax}
-use Rattle.print.specs.Kept.{FoundBelow}
-use Rattle.print.proofs.Found.{none-found, one-more-found}
-use Rattle.print.proofs.max.fill.Statement.{statement}
-use Rattle.print.proofs.max.fill.Tie as tie
+use Rattle.reached.specs.Kept.{testOf, FoundBelow}
+use Rattle.reached.proofs.Found.{none-found, one-more-found}
+use Rattle.reached.proofs.fill.Statement.{statement}
+use Rattle.reached.proofs.fill.Tie as tie
 
 abbrev Inv-loop : tie.InvT-loop
-Inv-loop kinds words found₀ end i₀ found i = (i ≤ end) × FoundBelow (nodeIn kinds words) i found
+Inv-loop kinds words test found₀ end i₀ found i = (i ≤ end) × FoundBelow (testOf test) (nodeIn kinds words) i found
 
 abbrev μ-loop : tie.MeasureT-loop
-μ-loop kinds words found₀ end i₀ found i = end - i
+μ-loop kinds words test found₀ end i₀ found i = end - i
 
 loop-holds : tie.Need-loop-holds Inv-loop μ-loop
-loop-holds c = (omega arith, none-found _ _ (c .pre .0))
+loop-holds c = (omega arith, none-found _ _ _ (c .pre .0))
 
 node-at-requires : tie.Need-node-at-requires Inv-loop μ-loop
 node-at-requires c κs = tt
 
-node-has-max-requires : tie.Need-node-has-max-requires Inv-loop μ-loop
-node-has-max-requires c κs = omega (arith, c .before .before .loop-test .taken, c .before .before .before .before .pre .1)
+node-reaches-requires : tie.Need-node-reaches-requires Inv-loop μ-loop
+node-reaches-requires c κs = omega (arith, c .before .before .loop-test .taken, c .before .before .before .before .pre .1)
 
 cast-found : tie.Need-cast-found Inv-loop μ-loop
 cast-found c = omega (arith, c .before .before .before .loop-test .taken, c .before .before .before .before .before .pre .1)
@@ -41,7 +40,7 @@ loop-again : tie.Need-loop-again Inv-loop μ-loop
 loop-again c =
     let turn = c .before .before .before .loop-test .taken in
     let inv = c .before .before .before .before .loop .inv in
-    (omega (arith, turn), one-more-found (inv .1) _ (omega (arith, turn, c .before .before .before .before .before .pre .1)) (c .node-has-max .ensures ∙ ap (nodeHasMax _) (c .before .node-at .ensures)))
+    (omega (arith, turn), one-more-found _ (inv .1) _ (omega (arith, turn, c .before .before .before .before .before .pre .1)) (c .before .node-at .ensures) (c .node-reaches .ensures))
 
 returns : tie.Need-returns Inv-loop μ-loop
 returns c =
@@ -56,7 +55,7 @@ fill-spec =
     μ-loop
     loop-holds
     node-at-requires
-    node-has-max-requires
+    node-reaches-requires
     cast-found
     element-write-found
     add-i

@@ -1,9 +1,9 @@
--- `print::max::kept` meets its contract: a smaller part has its answer in the table, and any other has none.
+-- `reached::kept` meets its contract: a smaller part has its answer in the table, and any other has none.
 -- Assumes nothing.
 use borrow.Author.Needs.{needs}
-use Rattle.print.proofs.Found.{kept-smaller, kept-other}
-use Rattle.print.proofs.max.kept.Statement.{statement}
-use Rattle.print.proofs.max.kept.Tie as tie
+use Rattle.reached.proofs.Found.{kept-smaller, kept-other}
+use Rattle.reached.proofs.kept.Statement.{statement}
+use Rattle.reached.proofs.kept.Tie as tie
 
 element-copy-out-result : tie.Need-element-copy-out-result
 element-copy-out-result c = search needs

@@ -5,7 +5,7 @@ use native.Mathlib.Omega.{arith}
 use mathlib.Core.Path.{_≡_, refl, _∙_}
 use Prim.Native.Nat.{_-_}
 use lib.ListN.{length}
-use Rattle.sheet_page.specs.Pages.{parts}
+use Rattle.sheet_page.specs.Pages.{pieces}
 use Rattle.sheet.proofs.print_line.Statement.{statement}
 use Rattle.sheet.proofs.print_line.Tie as tie
 
@@ -13,7 +13,7 @@ abbrev Inv-loop : tie.InvT-loop
 Inv-loop page kinds words line out₀ part₀ out part = length out ≡ length out₀
 
 abbrev μ-loop : tie.MeasureT-loop
-μ-loop page kinds words line out₀ part₀ out part = parts - part
+μ-loop page kinds words line out₀ part₀ out part = pieces - part
 
 loop-holds : tie.Need-loop-holds Inv-loop μ-loop
 loop-holds c = refl

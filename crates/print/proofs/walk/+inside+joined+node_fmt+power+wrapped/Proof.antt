@@ -27,8 +27,8 @@ use Rattle.print.proofs.walk.wrapped.Reads as wrapped
 use Rattle.print.proofs.walk.wrapped.Kinds as wrapped-kinds
 use Rattle.print.proofs.walk.+inside+joined+node_fmt+power+wrapped.Lts-wrapped as wrapped-lts
 use Rattle.pool.proofs.node_at.Reads as node-at-reads
-use Rattle.print.proofs.output.put.Reads as put-reads
-use Rattle.print.proofs.output.write.Reads as write-reads
+use Rattle.low_bytes.proofs.put.Reads as put-reads
+use Rattle.low_bytes.proofs.write.Reads as write-reads
 use Rattle.print.proofs.output.write_exponent.Reads as write-exponent-reads
 use Rattle.print.proofs.output.write_literal.Reads as write-literal-reads
 use Rattle.print.proofs.output.write_variable.Reads as write-variable-reads
