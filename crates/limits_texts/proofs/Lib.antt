@@ -1,4 +1,5 @@
 pub mod Longest
+pub mod LongTexts
 pub mod Outputs
 pub mod Printing
 pub mod Files
