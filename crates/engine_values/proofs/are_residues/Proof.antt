@@ -33,7 +33,10 @@ shared-slice-read-if2 : tie.Need-shared-slice-read-if2 Inv-loop μ-loop
 shared-slice-read-if2 c = c .before .loop-test .taken
 
 returns-2 : tie.Need-returns-2 Inv-loop μ-loop
-returns-2 c = no-residue (c .before .before .before .before .before .args .values .now) (c .before .before .before .before .if1 .left) (c .before .before .before .loop .i) (c .before .before .loop-test .taken) (c .if2 .taken)
+returns-2 c =
+    let at-if1 = c .before .before .before .before in
+    no-residue (at-if1 .before .args .values .now) (at-if1 .if1 .left) (c .before .before .before .loop .i) (c .before .before .loop-test .taken)
+    (c .if2 .taken)
 
 add-i : tie.Need-add-i Inv-loop μ-loop
 add-i c = omega (arith, c .before .before .loop-test .taken, c .before .before .before .before .if1 .left)
@@ -46,8 +49,10 @@ loop-again c = (omega (arith, c .before .before .loop-test .taken), each-more _ 
 
 returns-3 : tie.Need-returns-3 Inv-loop μ-loop
 returns-3 c =
-    let ended : c .before .loop .i ≡ length (c .before .before .before .args .values .now) = omega (arith, c .before .loop .inv .0, c .loop-test .left) in
-    all-residues (c .before .before .before .args .values .now) (c .before .before .if1 .left) (rw ended at (c .before .loop .inv .1))
+    let at-loop = c .before in
+    let start = at-loop .before .before in
+    let ended : at-loop .loop .i ≡ length (start .args .values .now) = omega (arith, at-loop .loop .inv .0, c .loop-test .left) in
+    all-residues (start .args .values .now) (at-loop .before .if1 .left) (rw ended at (at-loop .loop .inv .1))
 
 pub are-residues-spec : {M : Type 1} → statement M
 are-residues-spec =

@@ -33,37 +33,46 @@ are-residues-requires c κs = search needs
 
 returns-3 : tie.Need-returns-3
 returns-3 c =
-    let a = c .before .before .before .before .before .before .before .before .before .before .before .args in
-    let taken = c .before .before .before .before .before .take-whole .ensures in
-    let ok = not-false _ (c .before .before .before .before .if1 .left) in
+    let at-if1 = c .before .before .before .before in
+    let a = at-if1 .before .before .before .before .before .before .before .args in
+    let taken = at-if1 .before .take-whole .ensures in
+    let ok = not-false _ (at-if1 .if1 .left) in
     let p = sym (taken .tested) ∙ ok in
     let g = sym (c .before .before .before .one-given .ensures) ∙ not-false _ (c .before .before .if2 .left) in
     no-residues (a .kinds .now) (a .words .now) (a .count) (a .root) (a .values .now) p g (sym (c .before .are-residues .ensures) ∙ not-true _ (c .if3 .taken))
 
 cast-evaluate-residue-from : tie.Need-cast-evaluate-residue-from
 cast-evaluate-residue-from c =
-    let a = c .before .before .before .before .before .before .before .before .before .before .before .before .before .args in
-    let taken = c .before .before .before .before .before .before .before .take-whole .ensures in
-    let ok = not-false _ (c .before .before .before .before .before .before .if1 .left) in
+    let at-if2 = c .before .before .before .before in
+    let a = at-if2 .before .before .before .before .before .before .before .before .before .args in
+    let taken = at-if2 .before .before .before .take-whole .ensures in
+    let ok = not-false _ (at-if2 .before .before .if1 .left) in
     let p = sym (taken .tested) ∙ ok in
-    let g = sym (c .before .before .before .before .before .one-given .ensures) ∙ not-false _ (c .before .before .before .before .if2 .left) in
+    let g = sym (at-if2 .before .one-given .ensures) ∙ not-false _ (at-if2 .if2 .left) in
     record { fits = omega (arith, one-is-below (a .count) (a .root) g, pool-sized (a .kinds .now) (a .words .now) (a .count) p .small) }
 
 evaluate-residue-from-requires : tie.Need-evaluate-residue-from-requires
 evaluate-residue-from-requires c κs =
-    let values = c .before .before .before .before .before .before .before .before .before .before .before .before .before .args .values .now in
-    let r = sym (c .before .before .before .are-residues .ensures) ∙ not-false _ (c .before .before .if3 .left) in
+    let at-are-residues = c .before .before .before in
+    let earlier = at-are-residues .before .before .before .before .before in
+    let start = earlier .before .before .before .before .before in
+    let values = start .args .values .now in
+    let r = sym (at-are-residues .are-residues .ensures) ∙ not-false _ (c .before .before .if3 .left) in
     (record { least = omega arith; most = omega arith }, residues-below values r)
 
 returns-4 : tie.Need-returns-4
 returns-4 c =
-    let a = c .before .before .before .before .before .before .before .before .before .before .before .before .before .before .args in
-    let taken = c .before .before .before .before .before .before .before .before .take-whole .ensures in
-    let ok = not-false _ (c .before .before .before .before .before .before .before .if1 .left) in
+    let at-are-residues = c .before .before .before .before in
+    let at-take-whole = at-are-residues .before .before .before .before in
+    let start = at-take-whole .before .before .before .before .before .before in
+    let a = start .args in
+    let taken = at-take-whole .take-whole .ensures in
+    let ok = not-false _ (at-are-residues .before .before .before .if1 .left) in
     let p = sym (taken .tested) ∙ ok in
-    let g = sym (c .before .before .before .before .before .before .one-given .ensures) ∙ not-false _ (c .before .before .before .before .before .if2 .left) in
-    let r = sym (c .before .before .before .before .are-residues .ensures) ∙ not-false _ (c .before .before .before .if3 .left) in
-    reduced (a .kinds .now) (a .words .now) (a .count) (a .root) (a .values .now) p g r (rw (taken .kinds-copied ok, taken .words-copied ok) at (c .evaluate-residue-from .ensures))
+    let g = sym (at-are-residues .before .before .one-given .ensures) ∙ not-false _ (at-are-residues .before .if2 .left) in
+    let r = sym (at-are-residues .are-residues .ensures) ∙ not-false _ (c .before .before .before .if3 .left) in
+    reduced (a .kinds .now) (a .words .now) (a .count) (a .root) (a .values .now) p g r
+    (rw (taken .kinds-copied ok, taken .words-copied ok) at (c .evaluate-residue-from .ensures))
 
 pub evaluate-residue-spec : {M : Type 1} → statement M
 evaluate-residue-spec =

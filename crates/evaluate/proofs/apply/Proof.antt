@@ -32,16 +32,24 @@ max-requires : tie.Need-max-requires
 max-requires c κs = search needs
 
 returns : tie.Need-returns
-returns c = ap Double (c .sum .ensures) ∙ ap (λ op. applied op (c .before .before .before .args .x) (c .before .before .before .args .y)) (sym (c .before .enum-told .given .1))
+returns c =
+    let start = c .before .before .before in
+    ap Double (c .sum .ensures) ∙ ap (λ op. applied op (start .args .x) (start .args .y)) (sym (c .before .enum-told .given .1))
 
 returns-2 : tie.Need-returns-2
-returns-2 c = ap Double (c .product .ensures) ∙ ap (λ op. applied op (c .before .before .before .args .x) (c .before .before .before .args .y)) (sym (c .before .enum-told2 .given .1))
+returns-2 c =
+    let start = c .before .before .before in
+    ap Double (c .product .ensures) ∙ ap (λ op. applied op (start .args .x) (start .args .y)) (sym (c .before .enum-told2 .given .1))
 
 returns-3 : tie.Need-returns-3
-returns-3 c = ap Double (c .quotient .ensures) ∙ ap (λ op. applied op (c .before .before .before .args .x) (c .before .before .before .args .y)) (sym (c .before .enum-told3 .given .1))
+returns-3 c =
+    let start = c .before .before .before in
+    ap Double (c .quotient .ensures) ∙ ap (λ op. applied op (start .args .x) (start .args .y)) (sym (c .before .enum-told3 .given .1))
 
 returns-4 : tie.Need-returns-4
-returns-4 c = ap Double (c .max .ensures) ∙ ap (λ op. applied op (c .before .before .before .args .x) (c .before .before .before .args .y)) (sym (c .before .enum-told4 .given .1))
+returns-4 c =
+    let start = c .before .before .before in
+    ap Double (c .max .ensures) ∙ ap (λ op. applied op (start .args .x) (start .args .y)) (sym (c .before .enum-told4 .given .1))
 
 pub apply-spec : {M : Type 1} → statement M
 apply-spec =

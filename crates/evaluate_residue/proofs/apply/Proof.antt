@@ -29,13 +29,19 @@ enum-told-4 : tie.Need-enum-told-4
 enum-told-4 c = search needs
 
 returns : tie.Need-returns
-returns c = ap Residue (c .sum .ensures) ∙ ap (λ op. applied (c .before .before .before .args .m) op (c .before .before .before .args .x) (c .before .before .before .args .y)) (sym (c .before .enum-told .given .1))
+returns c =
+    let start = c .before .before .before in
+    ap Residue (c .sum .ensures) ∙ ap (λ op. applied (start .args .m) op (start .args .x) (start .args .y)) (sym (c .before .enum-told .given .1))
 
 returns-2 : tie.Need-returns-2
-returns-2 c = ap Residue (c .product .ensures) ∙ ap (λ op. applied (c .before .before .before .args .m) op (c .before .before .before .args .x) (c .before .before .before .args .y)) (sym (c .before .enum-told2 .given .1))
+returns-2 c =
+    let start = c .before .before .before in
+    ap Residue (c .product .ensures) ∙ ap (λ op. applied (start .args .m) op (start .args .x) (start .args .y)) (sym (c .before .enum-told2 .given .1))
 
 returns-3 : tie.Need-returns-3
-returns-3 c = c .quotient .ensures ∙ ap (λ op. applied (c .before .before .before .args .m) op (c .before .before .before .args .x) (c .before .before .before .args .y)) (sym (c .before .enum-told3 .given .1))
+returns-3 c =
+    let start = c .before .before .before in
+    c .quotient .ensures ∙ ap (λ op. applied (start .args .m) op (start .args .x) (start .args .y)) (sym (c .before .enum-told3 .given .1))
 
 returns-4 : tie.Need-returns-4
 returns-4 c = ap (λ op. applied (c .before .before .args .m) op (c .before .before .args .x) (c .before .before .args .y)) (sym (c .enum-told4 .given .1))

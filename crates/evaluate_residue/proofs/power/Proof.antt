@@ -21,7 +21,9 @@ power-requires : tie.Need-power-requires
 power-requires c κs = (c .before .before .before .pre .0, rw (c .before .part .given .1) at (c .before .before .before .pre .1))
 
 returns-2 : tie.Need-returns-2
-returns-2 c = onward (raised (c .before .before .before .before .args .m) (c .before .before .before .before .args .e)) (c .before .before .part .given .1) refl (ap Residue (c .power .ensures))
+returns-2 c =
+    let start = c .before .before .before .before in
+    onward (raised (start .args .m) (start .args .e)) (c .before .before .part .given .1) refl (ap Residue (c .power .ensures))
 
 pub power-spec : {M : Type 1} → statement M
 power-spec = tie.close (tie.spec enum-known-part enum-told returns power-requires returns-2)

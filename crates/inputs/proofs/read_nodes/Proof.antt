@@ -37,7 +37,10 @@ close-requires : tie.Need-close-requires
 close-requires c κs = search needs
 
 returns-3 : tie.Need-returns-3
-returns-3 c = bytes-decide (c .before .read-input .result) (c .before .read-input .last .1 .1 .0) (omega (arith, c .before .read-input .kept .1 .1 .0)) (c .before .read-input .ensures)
+returns-3 c =
+    let at-read-input = c .before in
+    bytes-decide (at-read-input .read-input .result) (at-read-input .read-input .last .1 .1 .0)
+    (omega (arith, at-read-input .read-input .kept .1 .1 .0)) (at-read-input .read-input .ensures)
 
 pub read-nodes-spec : {M : Type 1} → statement M
 read-nodes-spec =

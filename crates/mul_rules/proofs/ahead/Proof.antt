@@ -30,12 +30,13 @@ lit-ahead-requires-2 c κs = search needs
 
 returns : tie.Need-returns
 returns c =
-    let start = c .before .before .before .before .before .before .before in
+    let at-left = c .before .before .before .before .before in
+    let start = at-left .before .before in
     let at = nodeIn (now (start .args .kinds)) (now (start .args .words)) in
     let lhs = start .args .lhs in
     let rhs = start .args .rhs in
     products at lhs rhs
-    (sym (start .pre .0) ∙ c .before .before .before .before .before .left .given .1)
+    (sym (start .pre .0) ∙ at-left .left .given .1)
     (sym (start .pre .1) ∙ c .before .before .right .given .1) (c .lits-ahead .ensures)
 
 returns-2 : tie.Need-returns-2
@@ -50,12 +51,13 @@ returns-2 c =
 
 returns-3 : tie.Need-returns-3
 returns-3 c =
-    let start = c .before .before .before .before .before in
+    let at-match = c .before .before .before .before in
+    let start = at-match .before in
     let at = nodeIn (now (start .args .kinds)) (now (start .args .words)) in
     let lhs = start .args .lhs in
     let rhs = start .args .rhs in
     product-right at lhs rhs
-    (mul-missed (at lhs) (start .pre .0) (0 ∷ 1 ∷ 3 ∷ 4 ∷ 5 ∷ []) tt (c .before .before .before .before .match .keys2))
+    (mul-missed (at lhs) (start .pre .0) (0 ∷ 1 ∷ 3 ∷ 4 ∷ 5 ∷ []) tt (at-match .match .keys2))
     (sym (start .pre .1) ∙ c .before .before .right2 .given .1) (c .lit-ahead2 .ensures)
 
 returns-4 : tie.Need-returns-4

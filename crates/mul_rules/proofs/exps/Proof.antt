@@ -36,20 +36,22 @@ one-exp-requires-2 c κs = search needs
 
 returns : tie.Need-returns
 returns c =
-    let start = c .before .before .before .before .before .before .before in
+    let at-left = c .before .before .before .before .before in
+    let start = at-left .before .before in
     let at = nodeIn (now (start .args .kinds)) (now (start .args .words)) in
     let lhs = start .args .lhs in
     let rhs = start .args .rhs in
-    mul-exp at lhs rhs (sym (start .pre .0) ∙ c .before .before .before .before .before .left .given .1)
+    mul-exp at lhs rhs (sym (start .pre .0) ∙ at-left .left .given .1)
     (sym (start .pre .1) ∙ c .before .before .right .given .1) (c .one-exp .ensures)
 
 returns-2 : tie.Need-returns-2
 returns-2 c =
-    let start = c .before .before .before .before .before .before .before in
+    let at-left = c .before .before .before .before .before in
+    let start = at-left .before .before in
     let at = nodeIn (now (start .args .kinds)) (now (start .args .words)) in
     let lhs = start .args .lhs in
     let rhs = start .args .rhs in
-    mul-mul at lhs rhs (sym (start .pre .0) ∙ c .before .before .before .before .before .left .given .1)
+    mul-mul at lhs rhs (sym (start .pre .0) ∙ at-left .left .given .1)
     (sym (start .pre .1) ∙ c .before .before .right2 .given .1) (c .two-exps .ensures)
 
 returns-3 : tie.Need-returns-3
@@ -64,12 +66,13 @@ returns-3 c =
 
 returns-4 : tie.Need-returns-4
 returns-4 c =
-    let start = c .before .before .before .before .before .before .before in
+    let at-left2 = c .before .before .before .before .before in
+    let start = at-left2 .before .before in
     let at = nodeIn (now (start .args .kinds)) (now (start .args .words)) in
     let lhs = start .args .lhs in
     let rhs = start .args .rhs in
     exp-mul at lhs rhs
-    (sym (start .pre .0) ∙ c .before .before .before .before .before .left2 .given .1)
+    (sym (start .pre .0) ∙ at-left2 .left2 .given .1)
     (sym (start .pre .1) ∙ c .before .before .right3 .given .1) (c .one-exp2 .ensures)
 
 returns-5 : tie.Need-returns-5

@@ -45,48 +45,53 @@ one-lit-requires-3 c κs = search needs
 
 returns : tie.Need-returns
 returns c =
-    let start = c .before .before .before .before .before .before .before in
+    let at-right = c .before .before in
+    let at-left = at-right .before .before .before in
+    let start = at-left .before .before in
     let at = nodeIn (now (start .args .kinds)) (now (start .args .words)) in
     let lhs = start .args .lhs in
     let rhs = start .args .rhs in
-    let a = c .before .before .before .before .before .left .given .0 .0 in
-    let ea : toZ w64 (ofZ w64 a) ≡ a = toZ-ofZ w64 a (record { sfits = c .before .before .before .before .known-told .given .0 .1 }) in
-    let b = c .before .before .right .given .0 .0 in
+    let a = at-left .left .given .0 .0 in
+    let ea : toZ w64 (ofZ w64 a) ≡ a = toZ-ofZ w64 a (record { sfits = at-right .before .before .known-told .given .0 .1 }) in
+    let b = at-right .right .given .0 .0 in
     let eb : toZ w64 (ofZ w64 b) ≡ b = toZ-ofZ w64 b (record { sfits = c .before .known-told2 .given .0 .1 }) in
-    lit-lit at lhs rhs (sym (start .pre .0) ∙ c .before .before .before .before .before .left .given .1)
-    (sym (start .pre .1) ∙ c .before .before .right .given .1) (rw (ea, eb) at (c .two-lits .ensures))
+    lit-lit at lhs rhs (sym (start .pre .0) ∙ at-left .left .given .1)
+    (sym (start .pre .1) ∙ at-right .right .given .1) (rw (ea, eb) at (c .two-lits .ensures))
 
 returns-2 : tie.Need-returns-2
 returns-2 c =
-    let start = c .before .before .before .before .before in
+    let at-left = c .before .before .before in
+    let start = at-left .before .before in
     let at = nodeIn (now (start .args .kinds)) (now (start .args .words)) in
     let lhs = start .args .lhs in
     let rhs = start .args .rhs in
-    let a = c .before .before .before .left .given .0 .0 in
+    let a = at-left .left .given .0 .0 in
     let ea : toZ w64 (ofZ w64 a) ≡ a = toZ-ofZ w64 a (record { sfits = c .before .before .known-told .given .0 .1 }) in
-    lit-other at lhs rhs (sym (start .pre .0) ∙ c .before .before .before .left .given .1)
+    lit-other at lhs rhs (sym (start .pre .0) ∙ at-left .left .given .1)
     (lit-missed (at rhs) (start .pre .1) (1 ∷ 2 ∷ 3 ∷ 4 ∷ 5 ∷ []) tt (c .before .match2 .keys2))
     (rw ea at (c .one-lit .ensures))
 
 returns-3 : tie.Need-returns-3
 returns-3 c =
-    let start = c .before .before .before .before .before .before .before in
+    let at-right2 = c .before .before in
+    let start = at-right2 .before .before .before .before .before in
     let at = nodeIn (now (start .args .kinds)) (now (start .args .words)) in
     let lhs = start .args .lhs in
     let rhs = start .args .rhs in
-    let b = c .before .before .right2 .given .0 .0 in
+    let b = at-right2 .right2 .given .0 .0 in
     let eb : toZ w64 (ofZ w64 b) ≡ b = toZ-ofZ w64 b (record { sfits = c .before .known-told4 .given .0 .1 }) in
     exp-lit at lhs rhs
-    (sym (start .pre .0) ∙ c .before .before .before .before .before .left2 .given .1)
-    (sym (start .pre .1) ∙ c .before .before .right2 .given .1) (rw eb at (c .one-lit2 .ensures))
+    (sym (start .pre .0) ∙ at-right2 .before .before .before .left2 .given .1)
+    (sym (start .pre .1) ∙ at-right2 .right2 .given .1) (rw eb at (c .one-lit2 .ensures))
 
 returns-4 : tie.Need-returns-4
 returns-4 c =
-    let start = c .before .before .before .before .before .before in
+    let at-left2 = c .before .before .before .before in
+    let start = at-left2 .before .before in
     let at = nodeIn (now (start .args .kinds)) (now (start .args .words)) in
     let lhs = start .args .lhs in
     let rhs = start .args .rhs in
-    exp-exp at lhs rhs (sym (start .pre .0) ∙ c .before .before .before .before .left2 .given .1) (sym (start .pre .1) ∙ c .before .right3 .given .1)
+    exp-exp at lhs rhs (sym (start .pre .0) ∙ at-left2 .left2 .given .1) (sym (start .pre .1) ∙ c .before .right3 .given .1)
 
 returns-5 : tie.Need-returns-5
 returns-5 c =
@@ -100,16 +105,18 @@ returns-5 c =
 
 returns-6 : tie.Need-returns-6
 returns-6 c =
-    let start = c .before .before .before .before .before in
+    let at-right4 = c .before .before in
+    let at-match = at-right4 .before .before in
+    let start = at-match .before in
     let at = nodeIn (now (start .args .kinds)) (now (start .args .words)) in
     let lhs = start .args .lhs in
     let rhs = start .args .rhs in
-    let b = c .before .before .right4 .given .0 .0 in
+    let b = at-right4 .right4 .given .0 .0 in
     let eb : toZ w64 (ofZ w64 b) ≡ b = toZ-ofZ w64 b (record { sfits = c .before .known-told6 .given .0 .1 }) in
     other-lit at lhs rhs
-    (lit-missed (at lhs) (start .pre .0) (1 ∷ 2 ∷ 4 ∷ 5 ∷ []) tt (c .before .before .before .before .match .keys3))
-    (exp-missed (at lhs) (start .pre .0) (1 ∷ 2 ∷ 4 ∷ 5 ∷ []) tt (c .before .before .before .before .match .keys3))
-    (sym (start .pre .1) ∙ c .before .before .right4 .given .1) (rw eb at (c .one-lit3 .ensures))
+    (lit-missed (at lhs) (start .pre .0) (1 ∷ 2 ∷ 4 ∷ 5 ∷ []) tt (at-match .match .keys3))
+    (exp-missed (at lhs) (start .pre .0) (1 ∷ 2 ∷ 4 ∷ 5 ∷ []) tt (at-match .match .keys3))
+    (sym (start .pre .1) ∙ at-right4 .right4 .given .1) (rw eb at (c .one-lit3 .ensures))
 
 returns-7 : tie.Need-returns-7
 returns-7 c =

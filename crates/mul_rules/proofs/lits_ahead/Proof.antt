@@ -42,30 +42,33 @@ enum-told-2 c = search needs
 
 returns-2 : tie.Need-returns-2
 returns-2 c =
-    let start = c .before .before .before .before .before .before .before in
+    let at-x = c .before .before .before .before in
+    let start = at-x .before .before .before in
     let at = nodeIn (now (start .args .kinds)) (now (start .args .words)) in
     let a1 = start .args .a1 in
     let a2 = start .args .a2 in
     let b1 = start .args .b1 in
     let b2 = start .args .b2 in
     right-not at a1 a2 b1 b2
-    (sym (c .before .before .before .before .before .before .lit-at .ensures) ∙ ap litArm (c .before .before .before .before .x .given .1))
+    (sym (at-x .before .before .lit-at .ensures) ∙ ap litArm (at-x .x .given .1))
     (sym (c .before .before .lit-at2 .ensures) ∙ ap litArm (c .enum-told2 .given .1))
 
 returns-3 : tie.Need-returns-3
 returns-3 c =
-    let start = c .before .before .before .before .before .before .before .before in
+    let at-known-told = c .before .before .before .before in
+    let start = at-known-told .before .before .before .before in
     let at = nodeIn (now (start .args .kinds)) (now (start .args .words)) in
     let a1 = start .args .a1 in
     let a2 = start .args .a2 in
     let b1 = start .args .b1 in
     let b2 = start .args .b2 in
-    let x = c .before .before .before .before .before .x .given .0 .0 in
-    let ex : toZ w64 (ofZ w64 x) ≡ x = toZ-ofZ w64 x (record { sfits = c .before .before .before .before .known-told .given .0 .1 }) in
+    let x = at-known-told .before .x .given .0 .0 in
+    let ex : toZ w64 (ofZ w64 x) ≡ x = toZ-ofZ w64 x (record { sfits = at-known-told .known-told .given .0 .1 }) in
     let y = c .before .y .given .0 .0 in
     let ey : toZ w64 (ofZ w64 y) ≡ y = toZ-ofZ w64 y (record { sfits = c .known-told2 .given .0 .1 }) in
     rw (ex, ey)
-    (both-ahead at a1 a2 b1 b2 (sym (c .before .before .before .before .before .before .before .lit-at .ensures) ∙ ap litArm (c .before .before .before .before .before .x .given .1)) (sym (c .before .before .before .lit-at2 .ensures) ∙ ap litArm (c .before .y .given .1)))
+    (both-ahead at a1 a2 b1 b2 (sym (at-known-told .before .before .before .lit-at .ensures) ∙ ap litArm (at-known-told .before .x .given .1))
+    (sym (c .before .before .before .lit-at2 .ensures) ∙ ap litArm (c .before .y .given .1)))
 
 pub lits-ahead-spec : {M : Type 1} → statement M
 lits-ahead-spec =

@@ -32,10 +32,11 @@ enum-known-x-2 c = search needs
 
 returns-2 : tie.Need-returns-2
 returns-2 c =
-    let start = c .before .before .before .before .before .before .before in
+    let at-enum-told = c .before .before .before .before in
+    let start = at-enum-told .before .before .before in
     let at = nodeIn (now (start .args .kinds)) (now (start .args .words)) in
     first-exp at (start .args .a1) (start .args .a2) _
-    (sym (c .before .before .before .before .before .before .exp-at .ensures) ∙ ap expArm (c .before .before .before .before .enum-told .given .1))
+    (sym (at-enum-told .before .before .exp-at .ensures) ∙ ap expArm (at-enum-told .enum-told .given .1))
     (sym (c .before .before .before .exp-at2 .ensures) ∙ ap expArm (c .before .x2 .given .1))
 
 enum-told-2 : tie.Need-enum-told-2
@@ -43,10 +44,11 @@ enum-told-2 c = search needs
 
 returns-3 : tie.Need-returns-3
 returns-3 c =
-    let start = c .before .before .before .before .before .before in
+    let at-exp-at = c .before .before .before .before .before in
+    let start = at-exp-at .before in
     let at = nodeIn (now (start .args .kinds)) (now (start .args .words)) in
     no-exp at (start .args .a1) (start .args .a2) _
-    (sym (c .before .before .before .before .before .exp-at .ensures) ∙ ap expArm (c .before .before .before .enum-told .given .1))
+    (sym (at-exp-at .exp-at .ensures) ∙ ap expArm (c .before .before .before .enum-told .given .1))
     (sym (c .before .before .exp-at2 .ensures) ∙ ap expArm (c .enum-told2 .given .1))
 
 pub one-exp-spec : {M : Type 1} → statement M

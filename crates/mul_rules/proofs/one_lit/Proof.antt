@@ -47,13 +47,14 @@ enum-known-b1 c = search needs
 
 returns-3 : tie.Need-returns-3
 returns-3 c =
-    let start = c .before .before .before .before .before .before in
+    let at-if1 = c .before .before .before .before in
+    let start = at-if1 .before .before in
     let at = nodeIn (now (start .args .kinds)) (now (start .args .words)) in
     let a = start .args .a in
     let ea : toZ w64 (ofZ w64 a) ≡ a = toZ-ofZ w64 a (start .fits .a) in
     let other = start .args .other in
     no-product at a other
-    (tested isZero ea (c .before .before .before .before .before .is-zero .ensures) (c .before .before .before .before .if1 .left))
+    (tested isZero ea (at-if1 .before .is-zero .ensures) (at-if1 .if1 .left))
     (tested isOne ea (c .before .before .before .is-one .ensures) (c .before .before .if2 .left))
     (mul-missed (at other) (c .before .shape-at .ensures) (0 ∷ 1 ∷ 3 ∷ 4 ∷ 5 ∷ []) tt (c .match .keys2))
 
@@ -68,26 +69,33 @@ enum-told c = search needs
 
 returns-4 : tie.Need-returns-4
 returns-4 c =
-    let start = c .before .before .before .before .before .before .before .before .before .before .before in
+    let at-b1 = c .before .before .before .before in
+    let at-is-one = at-b1 .before .before .before .before in
+    let start = at-is-one .before .before .before in
     let at = nodeIn (now (start .args .kinds)) (now (start .args .words)) in
     let a = start .args .a in
     let ea : toZ w64 (ofZ w64 a) ≡ a = toZ-ofZ w64 a (start .fits .a) in
     no-factor at a (start .args .other)
-    (tested isZero ea (c .before .before .before .before .before .before .before .before .before .before .is-zero .ensures) (c .before .before .before .before .before .before .before .before .before .if1 .left))
-    (tested isOne ea (c .before .before .before .before .before .before .before .before .is-one .ensures) (c .before .before .before .before .before .before .before .if2 .left))
-    (sym (c .before .before .before .before .before .before .shape-at .ensures) ∙ c .before .before .before .before .b1 .given .1)
+    (tested isZero ea (at-is-one .before .before .is-zero .ensures) (at-is-one .before .if1 .left))
+    (tested isOne ea (at-is-one .is-one .ensures) (at-b1 .before .before .before .if2 .left))
+    (sym (at-b1 .before .before .shape-at .ensures) ∙ at-b1 .b1 .given .1)
     (sym (c .before .before .lit-at .ensures) ∙ ap litArm (c .enum-told .given .1))
 
 returns-5 : tie.Need-returns-5
 returns-5 c =
-    let start = c .before .before .before .before .before .before .before .before .before .before .before .before in
+    let at-b1 = c .before .before .before .before .before in
+    let at-is-one = at-b1 .before .before .before .before in
+    let start = at-is-one .before .before .before in
     let at = nodeIn (now (start .args .kinds)) (now (start .args .words)) in
     let a = start .args .a in
     let ea : toZ w64 (ofZ w64 a) ≡ a = toZ-ofZ w64 a (start .fits .a) in
     let b = c .before .b .given .0 .0 in
     let eb : toZ w64 (ofZ w64 b) ≡ b = toZ-ofZ w64 b (record { sfits = c .known-told2 .given .0 .1 }) in
     rw (ea, eb)
-    (scaled at a (start .args .other) (tested isZero ea (c .before .before .before .before .before .before .before .before .before .before .before .is-zero .ensures) (c .before .before .before .before .before .before .before .before .before .before .if1 .left)) (tested isOne ea (c .before .before .before .before .before .before .before .before .before .is-one .ensures) (c .before .before .before .before .before .before .before .before .if2 .left)) (sym (c .before .before .before .before .before .before .before .shape-at .ensures) ∙ c .before .before .before .before .before .b1 .given .1) (sym (c .before .before .before .lit-at .ensures) ∙ ap litArm (c .before .b .given .1)))
+    (scaled at a (start .args .other) (tested isZero ea (at-is-one .before .before .is-zero .ensures) (at-is-one .before .if1 .left))
+    (tested isOne ea (at-is-one .is-one .ensures) (at-b1 .before .before .before .if2 .left))
+    (sym (at-b1 .before .before .shape-at .ensures) ∙ at-b1 .b1 .given .1)
+    (sym (c .before .before .before .lit-at .ensures) ∙ ap litArm (c .before .b .given .1)))
 
 pub one-lit-spec : {M : Type 1} → statement M
 one-lit-spec =

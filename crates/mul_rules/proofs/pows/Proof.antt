@@ -48,13 +48,14 @@ two-pows-requires c κs = search needs
 
 returns-4 : tie.Need-returns-4
 returns-4 c =
-    let start = c .before .before .before .before .before .before .before .before in
+    let at-if1 = c .before .before .before .before in
+    let start = at-if1 .before .before .before .before in
     let at = nodeIn (now (start .args .kinds)) (now (start .args .words)) in
     let lhs = start .args .lhs in
     let rhs = start .args .rhs in
     mul-pow at lhs rhs
-    (sym (start .pre .0) ∙ c .before .before .before .before .before .before .left .given .1)
-    (ne-eqb _ rhs (c .before .before .before .before .if1 .left))
+    (sym (start .pre .0) ∙ at-if1 .before .before .left .given .1)
+    (ne-eqb _ rhs (at-if1 .if1 .left))
     (sym (start .pre .1) ∙ c .before .before .right .given .1) (c .two-pows .ensures)
 
 pub pows-spec : {M : Type 1} → statement M

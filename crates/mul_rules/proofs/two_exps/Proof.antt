@@ -23,14 +23,15 @@ enum-known-y c = search needs
 
 returns : tie.Need-returns
 returns c =
-    let start = c .before .before .before .before .before .before .before .before in
+    let at-x = c .before .before .before .before .before in
+    let start = at-x .before .before .before in
     let at = nodeIn (now (start .args .kinds)) (now (start .args .words)) in
     let a1 = start .args .a1 in
     let a2 = start .args .a2 in
     let b1 = start .args .b1 in
     let b2 = start .args .b2 in
     exp-1-1 at a1 a2 b1 b2
-    (sym (c .before .before .before .before .before .before .before .exp-at .ensures) ∙ ap expArm (c .before .before .before .before .before .x .given .1))
+    (sym (at-x .before .before .exp-at .ensures) ∙ ap expArm (at-x .x .given .1))
     (sym (c .before .before .before .exp-at2 .ensures) ∙ ap expArm (c .before .y .given .1))
 
 enum-told : tie.Need-enum-told
@@ -44,15 +45,17 @@ enum-known-y-2 c = search needs
 
 returns-2 : tie.Need-returns-2
 returns-2 c =
-    let start = c .before .before .before .before .before .before .before .before .before .before .before in
+    let at-enum-told = c .before .before .before .before in
+    let at-x = at-enum-told .before .before .before .before in
+    let start = at-x .before .before .before in
     let at = nodeIn (now (start .args .kinds)) (now (start .args .words)) in
     let a1 = start .args .a1 in
     let a2 = start .args .a2 in
     let b1 = start .args .b1 in
     let b2 = start .args .b2 in
     exp-1-2 at a1 a2 b1 b2
-    (sym (c .before .before .before .before .before .before .before .before .before .before .exp-at .ensures) ∙ ap expArm (c .before .before .before .before .before .before .before .before .x .given .1))
-    (sym (c .before .before .before .before .before .before .exp-at2 .ensures) ∙ ap expArm (c .before .before .before .before .enum-told .given .1))
+    (sym (at-x .before .before .exp-at .ensures) ∙ ap expArm (at-x .x .given .1))
+    (sym (at-enum-told .before .before .exp-at2 .ensures) ∙ ap expArm (at-enum-told .enum-told .given .1))
     (sym (c .before .before .before .exp-at3 .ensures) ∙ ap expArm (c .before .y2 .given .1))
 
 enum-told-2 : tie.Need-enum-told-2
@@ -60,14 +63,15 @@ enum-told-2 c = search needs
 
 returns-3 : tie.Need-returns-3
 returns-3 c =
-    let start = c .before .before .before .before .before .before .before .before .before .before in
+    let at-exp-at2 = c .before .before .before .before .before in
+    let start = at-exp-at2 .before .before .before .before .before in
     let at = nodeIn (now (start .args .kinds)) (now (start .args .words)) in
     let a1 = start .args .a1 in
     let a2 = start .args .a2 in
     let b1 = start .args .b1 in
     let b2 = start .args .b2 in
     no-right-exp at a1 a2 b1 b2
-    (sym (c .before .before .before .before .before .exp-at2 .ensures) ∙ ap expArm (c .before .before .before .enum-told .given .1))
+    (sym (at-exp-at2 .exp-at2 .ensures) ∙ ap expArm (c .before .before .before .enum-told .given .1))
     (sym (c .before .before .exp-at3 .ensures) ∙ ap expArm (c .enum-told2 .given .1))
 
 enum-told-3 : tie.Need-enum-told-3
@@ -87,15 +91,17 @@ enum-known-y-3 c = search needs
 
 returns-4 : tie.Need-returns-4
 returns-4 c =
-    let start = c .before .before .before .before .before .before .before .before .before .before .before in
+    let at-x2 = c .before .before .before .before .before in
+    let at-exp-at = at-x2 .before .before .before .before .before in
+    let start = at-exp-at .before in
     let at = nodeIn (now (start .args .kinds)) (now (start .args .words)) in
     let a1 = start .args .a1 in
     let a2 = start .args .a2 in
     let b1 = start .args .b1 in
     let b2 = start .args .b2 in
     exp-2-1 at a1 a2 b1 b2
-    (sym (c .before .before .before .before .before .before .before .before .before .before .exp-at .ensures) ∙ ap expArm (c .before .before .before .before .before .before .before .before .enum-told3 .given .1))
-    (sym (c .before .before .before .before .before .before .before .exp-at4 .ensures) ∙ ap expArm (c .before .before .before .before .before .x2 .given .1))
+    (sym (at-exp-at .exp-at .ensures) ∙ ap expArm (at-x2 .before .before .before .enum-told3 .given .1))
+    (sym (at-x2 .before .before .exp-at4 .ensures) ∙ ap expArm (at-x2 .x2 .given .1))
     (sym (c .before .before .before .exp-at5 .ensures) ∙ ap expArm (c .before .y3 .given .1))
 
 enum-told-4 : tie.Need-enum-told-4
@@ -109,16 +115,19 @@ enum-known-y-4 c = search needs
 
 returns-5 : tie.Need-returns-5
 returns-5 c =
-    let start = c .before .before .before .before .before .before .before .before .before .before .before .before .before .before in
+    let at-enum-told4 = c .before .before .before .before in
+    let at-x2 = at-enum-told4 .before .before .before .before in
+    let at-exp-at = at-x2 .before .before .before .before .before in
+    let start = at-exp-at .before in
     let at = nodeIn (now (start .args .kinds)) (now (start .args .words)) in
     let a1 = start .args .a1 in
     let a2 = start .args .a2 in
     let b1 = start .args .b1 in
     let b2 = start .args .b2 in
     exp-2-2 at a1 a2 b1 b2
-    (sym (c .before .before .before .before .before .before .before .before .before .before .before .before .before .exp-at .ensures) ∙ ap expArm (c .before .before .before .before .before .before .before .before .before .before .before .enum-told3 .given .1))
-    (sym (c .before .before .before .before .before .before .before .before .before .before .exp-at4 .ensures) ∙ ap expArm (c .before .before .before .before .before .before .before .before .x2 .given .1))
-    (sym (c .before .before .before .before .before .before .exp-at5 .ensures) ∙ ap expArm (c .before .before .before .before .enum-told4 .given .1))
+    (sym (at-exp-at .exp-at .ensures) ∙ ap expArm (at-x2 .before .before .before .enum-told3 .given .1))
+    (sym (at-x2 .before .before .exp-at4 .ensures) ∙ ap expArm (at-x2 .x2 .given .1))
+    (sym (at-enum-told4 .before .before .exp-at5 .ensures) ∙ ap expArm (at-enum-told4 .enum-told4 .given .1))
     (sym (c .before .before .before .exp-at6 .ensures) ∙ ap expArm (c .before .y4 .given .1))
 
 enum-told-5 : tie.Need-enum-told-5
@@ -126,14 +135,15 @@ enum-told-5 c = search needs
 
 returns-6 : tie.Need-returns-6
 returns-6 c =
-    let start = c .before .before .before .before .before .before .before .before .before .before .before .before .before in
+    let at-exp-at5 = c .before .before .before .before .before in
+    let start = at-exp-at5 .before .before .before .before .before .before .before .before in
     let at = nodeIn (now (start .args .kinds)) (now (start .args .words)) in
     let a1 = start .args .a1 in
     let a2 = start .args .a2 in
     let b1 = start .args .b1 in
     let b2 = start .args .b2 in
     no-right-exp at a1 a2 b1 b2
-    (sym (c .before .before .before .before .before .exp-at5 .ensures) ∙ ap expArm (c .before .before .before .enum-told4 .given .1))
+    (sym (at-exp-at5 .exp-at5 .ensures) ∙ ap expArm (c .before .before .before .enum-told4 .given .1))
     (sym (c .before .before .exp-at6 .ensures) ∙ ap expArm (c .enum-told5 .given .1))
 
 enum-told-6 : tie.Need-enum-told-6
@@ -141,14 +151,15 @@ enum-told-6 c = search needs
 
 returns-7 : tie.Need-returns-7
 returns-7 c =
-    let start = c .before .before .before .before .before .before in
+    let at-exp-at = c .before .before .before .before .before in
+    let start = at-exp-at .before in
     let at = nodeIn (now (start .args .kinds)) (now (start .args .words)) in
     let a1 = start .args .a1 in
     let a2 = start .args .a2 in
     let b1 = start .args .b1 in
     let b2 = start .args .b2 in
     no-left-exp at a1 a2 b1 b2
-    (sym (c .before .before .before .before .before .exp-at .ensures) ∙ ap expArm (c .before .before .before .enum-told3 .given .1))
+    (sym (at-exp-at .exp-at .ensures) ∙ ap expArm (c .before .before .before .enum-told3 .given .1))
     (sym (c .before .before .exp-at4 .ensures) ∙ ap expArm (c .enum-told6 .given .1))
 
 pub two-exps-spec : {M : Type 1} → statement M

@@ -40,26 +40,28 @@ returns-2 c =
 
 returns-3 : tie.Need-returns-3
 returns-3 c =
-    let start = c .before .before .before .before .before .before in
+    let at-shape-at = c .before .before .before .before in
+    let start = at-shape-at .before .before in
     let at = nodeIn (now (start .args .kinds)) (now (start .args .words)) in
     let a1 = start .args .a1 in
     let a2 = start .args .a2 in
     let b = start .args .b in
     let n = start .args .n in
-    both-pows at a1 a2 b n (ne-eqb a2 b (c .before .before .before .before .before .if1 .left))
-    (sym (c .before .before .before .before .shape-at .ensures) ∙ c .before .before .a21 .given .1)
+    both-pows at a1 a2 b n (ne-eqb a2 b (at-shape-at .before .if1 .left))
+    (sym (at-shape-at .shape-at .ensures) ∙ c .before .before .a21 .given .1)
     (eq-eqb _ b (c .if2 .taken))
 
 returns-4 : tie.Need-returns-4
 returns-4 c =
-    let start = c .before .before .before .before .before .before in
+    let at-shape-at = c .before .before .before .before in
+    let start = at-shape-at .before .before in
     let at = nodeIn (now (start .args .kinds)) (now (start .args .words)) in
     let a1 = start .args .a1 in
     let a2 = start .args .a2 in
     let b = start .args .b in
     let n = start .args .n in
-    other-base at a1 a2 b n (ne-eqb a2 b (c .before .before .before .before .before .if1 .left))
-    (sym (c .before .before .before .before .shape-at .ensures) ∙ c .before .before .a21 .given .1)
+    other-base at a1 a2 b n (ne-eqb a2 b (at-shape-at .before .if1 .left))
+    (sym (at-shape-at .shape-at .ensures) ∙ c .before .before .a21 .given .1)
     (ne-eqb _ b (c .if2 .left))
 
 pub two-pows-spec : {M : Type 1} → statement M

@@ -36,10 +36,11 @@ after-order-requires c κs = search needs
 
 returns : tie.Need-returns
 returns c =
-    let args = c .before .before .before .before .before .before .before .args in
+    let at-space = c .before .before .before .before in
+    let args = at-space .before .before .before .args in
     c .after-order .ensures
     ∙ ap (λ (l : List (List ℕ)). cutLine (lineOf (now (args .var) ∷ l)))
-    (sym (first-field (now (args .rest)) (c .before .before .before .before .space .ensures) (c .before .before .before .if1 .taken)))
+    (sym (first-field (now (args .rest)) (at-space .space .ensures) (c .before .before .before .if1 .taken)))
 
 two-fields-requires : tie.Need-two-fields-requires
 two-fields-requires c κs = search needs

@@ -21,13 +21,18 @@ shared-slice-read-if3 : tie.Need-shared-slice-read-if3
 shared-slice-read-if3 c = search needs
 
 returns-3 : tie.Need-returns-3
-returns-3 c = leading-zero (now (c .before .before .before .before .before .args .bytes)) (c .before .before .before .if1 .left) (c .before .before .if2 .left) (c .if3 .taken)
+returns-3 c =
+    let start = c .before .before .before .before .before in
+    leading-zero (now (start .args .bytes)) (c .before .before .before .if1 .left) (c .before .before .if2 .left) (c .if3 .taken)
 
 digits-requires-2 : tie.Need-digits-requires-2
 digits-requires-2 c κs = search needs
 
 returns-4 : tie.Need-returns-4
-returns-4 c = c .digits2 .ensures ∙ ap cutNumber (more-digits (now (c .before .before .before .before .before .before .args .bytes)) (c .before .before .before .before .if1 .left) (c .before .before .before .if2 .left) (c .before .if3 .left))
+returns-4 c =
+    let at-if1 = c .before .before .before .before in
+    c .digits2 .ensures ∙ ap cutNumber
+    (more-digits (now (at-if1 .before .before .args .bytes)) (at-if1 .if1 .left) (c .before .before .before .if2 .left) (c .before .if3 .left))
 
 pub decimal-spec : {M : Type 1} → statement M
 decimal-spec =

@@ -46,8 +46,9 @@ loop-less c = omega arith
 
 loop-again : tie.Need-loop-again Inv-loop μ-loop
 loop-again c =
+    let at-loop-test = c .before .before .before .before in
     rw (c .cut-off .ensures)
-    (turn _ _ _ (c .before .before .before .before .before .loop .inv) (c .before .before .before .before .loop-test .taken) (c .before .before .if1 .left) (c .before .if2 .left))
+    (turn _ _ _ (at-loop-test .before .loop .inv) (at-loop-test .loop-test .taken) (c .before .before .if1 .left) (c .before .if2 .left))
 
 returns-3 : tie.Need-returns-3 Inv-loop μ-loop
 returns-3 c = ends _ _ _ (c .before .loop .inv) (c .loop-test .left)

@@ -37,10 +37,11 @@ after-var-requires c κs = search needs
 
 returns : tie.Need-returns
 returns c =
-    let args = c .before .before .before .before .before .before .args in
+    let at-space = c .before .before .before .before in
+    let args = at-space .before .before .args in
     c .after-var .ensures
     ∙ ap (λ (l : List (List ℕ)). cutLine (lineOf l))
-    (sym (first-field (now (args .text)) (c .before .before .before .before .space .ensures) (c .before .before .before .if1 .taken)))
+    (sym (first-field (now (args .text)) (at-space .space .ensures) (c .before .before .before .if1 .taken)))
 
 returns-2 : tie.Need-returns-2
 returns-2 c = one-is-usage (now (c .before .before .before .args .text)) (c .before .space .ensures) (c .if1 .left)

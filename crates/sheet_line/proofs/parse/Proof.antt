@@ -17,13 +17,17 @@ content-requires : tie.Need-content-requires
 content-requires c κs = search needs
 
 slice-aggregate-from-start : tie.Need-slice-aggregate-from-start
-slice-aggregate-from-start c = sym (length-take-le _ _ (omega (arith, c .before .content .ensures, content-within (now (c .before .before .before .before .args .line)))))
+slice-aggregate-from-start c =
+    let start = c .before .before .before .before in
+    sym (length-take-le _ _ (omega (arith, c .before .content .ensures, content-within (now (start .args .line)))))
 
 from-start-requires : tie.Need-from-start-requires
 from-start-requires c κs = search needs
 
 returns-2 : tie.Need-returns-2
-returns-2 c = not-too-long (now (c .before .before .before .before .before .args .line)) (c .before .before .before .if1 .left) (c .before .before .content .ensures) (c .from-start .ensures)
+returns-2 c =
+    let start = c .before .before .before .before .before in
+    not-too-long (now (start .args .line)) (c .before .before .before .if1 .left) (c .before .before .content .ensures) (c .from-start .ensures)
 
 pub parse-spec : {M : Type 1} → statement M
 parse-spec =

@@ -22,7 +22,8 @@ enum-told c = search needs
 returns : tie.Need-returns
 returns c =
     let args = c .before .before .before .before .before .before .args in
-    no-variable (decimalOf (now (args .var))) (decimalOf (now (args .order))) (atPoint (pointOf (now (args .place)))) (sym (c .enum-told .given .1) ∙ c .before .before .decimal .ensures)
+    no-variable (decimalOf (now (args .var))) (decimalOf (now (args .order))) (atPoint (pointOf (now (args .place))))
+    (sym (c .enum-told .given .1) ∙ c .before .before .decimal .ensures)
 
 decimal-requires-2 : tie.Need-decimal-requires-2
 decimal-requires-2 c κs = search needs
@@ -35,8 +36,11 @@ enum-told-2 c = search needs
 
 returns-2 : tie.Need-returns-2
 returns-2 c =
-    let args = c .before .before .before .before .before .before .before .before .before .before .args in
-    no-order (decimalOf (now (args .var))) (decimalOf (now (args .order))) (atPoint (pointOf (now (args .place)))) (sym (c .enum-told2 .given .1) ∙ c .before .before .decimal2 .ensures)
+    let at-decimal2 = c .before .before in
+    let start = at-decimal2 .before .before .before .before .before .before .before .before in
+    let args = start .args in
+    no-order (decimalOf (now (args .var))) (decimalOf (now (args .order))) (atPoint (pointOf (now (args .place))))
+    (sym (c .enum-told2 .given .1) ∙ at-decimal2 .decimal2 .ensures)
 
 point-requires : tie.Need-point-requires
 point-requires c κs = search needs
@@ -49,18 +53,24 @@ enum-told-3 c = search needs
 
 returns-3 : tie.Need-returns-3
 returns-3 c =
-    let args = c .before .before .before .before .before .before .before .before .before .before .before .before .before .before .args in
-    no-place (decimalOf (now (args .var))) (decimalOf (now (args .order))) (pointOf (now (args .place))) (sym (c .enum-told3 .given .1) ∙ c .before .before .point .ensures)
+    let at-point = c .before .before in
+    let earlier = at-point .before .before .before .before .before .before in
+    let start = earlier .before .before .before .before .before .before in
+    let args = start .args in
+    no-place (decimalOf (now (args .var))) (decimalOf (now (args .order))) (pointOf (now (args .place)))
+    (sym (c .enum-told3 .given .1) ∙ at-point .point .ensures)
 
 returns-4 : tie.Need-returns-4
 returns-4 c =
-    let args = c .before .before .before .before .before .before .before .before .before .before .before .before .before .before .before .args in
+    let at-o = c .before .before .before .before .before in
+    let at-v = at-o .before .before .before .before in
+    let args = at-v .before .before .before .before .before .before .args in
     let z = c .before .z .given .0 .0 in
     let e : toZ w64 (ofZ w64 z) ≡ z = search needs in
     rw e
     (asks-at (decimalOf (now (args .var))) (decimalOf (now (args .order))) (pointOf (now (args .place)))
-    (sym (c .before .before .before .before .before .before .before .before .before .v .given .1) ∙ c .before .before .before .before .before .before .before .before .before .before .before .decimal .ensures)
-    (sym (c .before .before .before .before .before .o .given .1) ∙ c .before .before .before .before .before .before .before .decimal2 .ensures)
+    (sym (at-v .v .given .1) ∙ at-v .before .before .decimal .ensures)
+    (sym (at-o .o .given .1) ∙ at-o .before .before .decimal2 .ensures)
     (sym (c .before .z .given .1) ∙ c .before .before .before .point .ensures))
 
 pub three-fields-spec : {M : Type 1} → statement M

@@ -39,9 +39,10 @@ returns-2 c =
 
 returns-3 : tie.Need-returns-3
 returns-3 c =
-    let args = c .before .before .before .before .before .before .before .before .before .before .args in
+    let at-v = c .before .before .before .before .before in
+    let args = at-v .before .before .before .before .before .args in
     asks-without (decimalOf (now (args .var))) (decimalOf (now (args .order)))
-    (sym (c .before .before .before .before .before .v .given .1) ∙ c .before .before .before .before .before .before .before .decimal .ensures)
+    (sym (at-v .v .given .1) ∙ at-v .before .before .decimal .ensures)
     (sym (c .before .o .given .1) ∙ c .before .before .before .decimal2 .ensures)
 
 pub two-fields-spec : {M : Type 1} → statement M

@@ -19,19 +19,29 @@ from-in-requires : tie.Need-from-in-requires
 from-in-requires c κs = search needs
 
 returns-2 : tie.Need-returns-2
-returns-2 c = rw (c .before .before .before .before .if1 .taken) (c .from-in .ensures ∙ zero-behind _ (c .before .before .before .before .before .args .k) _ (c .before .before .before .if2 .left))
+returns-2 c =
+    let at-if1 = c .before .before .before .before in
+    rw (at-if1 .if1 .taken) (c .from-in .ensures ∙ zero-behind _ (at-if1 .before .args .k) _ (c .before .before .before .if2 .left))
 
 cast-derivative-list : tie.Need-cast-derivative-list
-cast-derivative-list c = omega (arith, c .before .before .before .pre .1 .0 .below (c .before .before .if1 .left), c .before .before .before .pre .0 .most (c .before .before .if1 .left))
+cast-derivative-list c =
+    let at-if1 = c .before .before in
+    let start = at-if1 .before in
+    omega (arith, start .pre .1 .0 .below (at-if1 .if1 .left), start .pre .0 .most (at-if1 .if1 .left))
 
 derivative-list-requires : tie.Need-derivative-list-requires
-derivative-list-requires c κs = (c .before .before .before .pre .1 .0 .below (c .before .before .if1 .left), c .before .before .before .pre .0 .most (c .before .before .if1 .left))
+derivative-list-requires c κs =
+    let at-if1 = c .before .before in
+    let start = at-if1 .before in
+    (start .pre .1 .0 .below (at-if1 .if1 .left), start .pre .0 .most (at-if1 .if1 .left))
 
 returns-3 : tie.Need-returns-3
 returns-3 c =
+    let start = c .before .before .before .before in
+    let args = start .args in
     rw (c .before .before .before .if1 .left)
-    (c .derivative-list .ensures
-    ∙ derivative-is (listOf (c .before .before .before .before .args .t4)) (c .before .before .before .before .args .k) (poolOf (c .before .before .before .before .args .kinds .now) (c .before .before .before .before .args .words .now) (c .before .before .before .before .args .room)) (lent-tables (c .before .before .before .before .args .kinds .now) (c .before .before .before .before .args .words .now) (c .before .before .before .before .args .room) (c .before .before .before .before .pre .1 .1 .0) (c .before .before .before .before .pre .1 .1 .1)))
+    (c .derivative-list .ensures ∙ derivative-is (listOf (args .t4)) (args .k) (poolOf (args .kinds .now) (args .words .now) (args .room))
+    (lent-tables (args .kinds .now) (args .words .now) (args .room) (start .pre .1 .1 .0) (start .pre .1 .1 .1)))
 
 pub derivative-in-spec : {M : Type 1} → statement M
 derivative-in-spec =

@@ -31,9 +31,12 @@ mul-in-requires c κs = search needs
 
 returns-2 : tie.Need-returns-2
 returns-2 c =
-    let product = c .before .before .before .before .before .before .before .factorial-in in
-    onward (product .last .0) (product .last .1 .0) _ (c .before .before .before .before .before .product .given .1) (product .ensures)
-    (ap answered (c .mul-in .ensures) ∙ ap (λ (x : ℕ). mul (c .before .before .before .before .before .product .given .0 .0) x (poolOf (product .last .0) (product .last .1 .0) (c .before .before .before .before .before .product .given .0 .1 .0))) (c .before .before .before .at .ensures))
+    let at-product = c .before .before .before .before .before in
+    let product = at-product .before .before .factorial-in in
+    onward (product .last .0) (product .last .1 .0) _ (at-product .product .given .1) (product .ensures)
+    (ap answered (c .mul-in .ensures) ∙ ap
+    (λ (x : ℕ). mul (at-product .product .given .0 .0) x (poolOf (product .last .0) (product .last .1 .0) (at-product .product .given .0 .1 .0)))
+    (c .before .before .before .at .ensures))
 
 pub derivative-list-spec : {M : Type 1} → statement M
 derivative-list-spec =

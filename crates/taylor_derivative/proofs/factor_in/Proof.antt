@@ -27,8 +27,12 @@ returns c =
 
 returns-2 : tie.Need-returns-2
 returns-2 c =
-    let number = c .before .before .before .before .from-in in
-    onward (number .last .0) (number .last .1 .0) _ (c .before .before .number .given .1) (number .ensures) (is-itself (c .before .before .before .before .before .before .before .args .i) (c .before .before .number .given .0 .0) (poolOf (number .last .0) (number .last .1 .0) (c .before .before .number .given .0 .1 .0)) (c .if1 .taken))
+    let at-number = c .before .before in
+    let start = at-number .before .before .before .before .before in
+    let number = at-number .before .before .from-in in
+    onward (number .last .0) (number .last .1 .0) _ (at-number .number .given .1) (number .ensures)
+    (is-itself (start .args .i) (at-number .number .given .0 .0) (poolOf (number .last .0) (number .last .1 .0) (at-number .number .given .0 .1 .0))
+    (c .if1 .taken))
 
 factorial-requires : tie.Need-factorial-requires
 factorial-requires c κs = search needs
@@ -38,10 +42,14 @@ lit-in-requires c κs = search needs
 
 returns-3 : tie.Need-returns-3
 returns-3 c =
-    let number = c .before .before .before .before .before .before .before .before .from-in in
-    let rest = (poolOf (number .last .0) (number .last .1 .0) (c .before .before .before .before .before .before .number .given .0 .1 .0)) in
-    onward (number .last .0) (number .last .1 .0) _ (c .before .before .before .before .before .before .number .given .1) (number .ensures)
-    (ap answered (c .lit-in .ensures) ∙ ap (λ (f : Folded). answered (literal f rest)) (c .before .factorial .ensures) ∙ is-new (c .before .before .before .before .before .before .before .before .before .before .before .args .i) (c .before .before .before .before .before .before .number .given .0 .0) rest (c .before .before .before .before .if1 .left))
+    let at-if1 = c .before .before .before .before in
+    let at-number = at-if1 .before .before in
+    let start = at-number .before .before .before .before .before in
+    let number = at-number .before .before .from-in in
+    let rest = (poolOf (number .last .0) (number .last .1 .0) (at-number .number .given .0 .1 .0)) in
+    onward (number .last .0) (number .last .1 .0) _ (at-number .number .given .1) (number .ensures)
+    (ap answered (c .lit-in .ensures) ∙ ap (λ (f : Folded). answered (literal f rest)) (c .before .factorial .ensures) ∙ is-new (start .args .i)
+    (at-number .number .given .0 .0) rest (at-if1 .if1 .left))
 
 pub factor-in-spec : {M : Type 1} → statement M
 factor-in-spec =

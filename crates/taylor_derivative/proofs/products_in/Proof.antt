@@ -34,19 +34,25 @@ enum-told c = search needs
 
 returns : tie.Need-returns Inv-loop μ-loop
 returns c =
+    let at-loop-test = c .before .before .before .before .before in
     let next = c .before .before .factor-in in
-    fold-stopped (c .before .before .before .before .before .before .loop .inv) (c .before .before .before .before .before .loop-test .taken) (next .last .0) (next .last .1 .0) (next .ensures) _ _ (c .enum-told .given .1)
+    fold-stopped (at-loop-test .before .loop .inv) (at-loop-test .loop-test .taken) (next .last .0) (next .last .1 .0) (next .ensures) _ _
+    (c .enum-told .given .1)
 
 add-i : tie.Need-add-i Inv-loop μ-loop
-add-i c = omega (arith, c .before .before .before .before .before .before .loop-test .taken, c .before .before .before .before .before .before .before .before .pre)
+add-i c =
+    let at-loop-test = c .before .before .before .before .before .before in
+    omega (arith, at-loop-test .loop-test .taken, at-loop-test .before .before .pre)
 
 loop-less : tie.Need-loop-less Inv-loop μ-loop
 loop-less c = omega (arith, c .before .before .before .before .before .before .loop-test .taken)
 
 loop-again : tie.Need-loop-again Inv-loop μ-loop
 loop-again c =
+    let at-loop-test = c .before .before .before .before .before .before in
     let next = c .before .before .before .factor-in in
-    fold-onward (c .before .before .before .before .before .before .before .loop .inv) (c .before .before .before .before .before .before .loop-test .taken) (next .last .0) (next .last .1 .0) (next .ensures) (c .before .next .given .1)
+    fold-onward (at-loop-test .before .loop .inv) (at-loop-test .loop-test .taken) (next .last .0) (next .last .1 .0) (next .ensures)
+    (c .before .next .given .1)
 
 returns-2 : tie.Need-returns-2 Inv-loop μ-loop
 returns-2 c = fold-done (c .before .loop .inv) (c .loop-test .left)

@@ -100,15 +100,19 @@ add-chain-add-in-requires-2 : (t : ℕ) → add-chain-lts.Need-add-in-requires-2
   add-in-below t,
   add-in.Post,
 ) (add-chain-at t) add-chain.Post
-add-chain-add-in-requires-2 t c κs = (omega (arith, c .before .before .before .before .before .before .before .before .pre .0), tt)
+add-chain-add-in-requires-2 t c κs =
+    let start = c .before .before .before .before .before .before .before .before in
+    (omega (arith, start .pre .0), tt)
 
 add-chain-returns-2 :
     (t : ℕ) →
     add-chain-lts.Need-returns-2 (add-in-below t, add-in.Post) (add-chain-at t) add-chain.Post
 unfolding build
 add-chain-returns-2 t c =
-    onward (c .before .before .before .before .before .before .add-in .last .0) (c .before .before .before .before .before .before .add-in .last .1 .0) _ (c .before .before .before .before .first .given .1)
-    (c .before .before .before .before .before .before .add-in .ensures)
+    let at-first = c .before .before .before .before in
+    let at-add-in = at-first .before .before in
+    onward (at-add-in .add-in .last .0) (at-add-in .add-in .last .1 .0) _ (at-first .first .given .1)
+    (at-add-in .add-in .ensures)
     (c .add-in2 .ensures)
 
 add-in-returns : (t : ℕ) → add-in-lts.Need-returns (
@@ -253,7 +257,9 @@ add-in-sub-add-onto : (t : ℕ) → add-in-lts.Need-sub-add-onto (
   add-chain-below t,
   add-chain.Post,
 ) (add-in-at t) add-in.Post
-add-in-sub-add-onto t c = omega (arith, c .before .before .before .before .before .before .before .before .if1 .left)
+add-in-sub-add-onto t c =
+    let at-if1 = c .before .before .before .before .before .before .before .before in
+    omega (arith, at-if1 .if1 .left)
 
 add-in-add-onto-requires : (t : ℕ) → add-in-lts.Need-add-onto-requires (
   add-rule-reads.Asked,
@@ -271,7 +277,9 @@ add-in-add-onto-requires : (t : ℕ) → add-in-lts.Need-add-onto-requires (
   add-chain-below t,
   add-chain.Post,
 ) (add-in-at t) add-in.Post
-add-in-add-onto-requires t c κs = (omega (arith, c .before .before .before .before .before .before .before .before .before .pre .0, c .before .before .before .before .before .before .before .before .if1 .left), tt)
+add-in-add-onto-requires t c κs =
+    let at-if1 = c .before .before .before .before .before .before .before .before in
+    (omega (arith, at-if1 .before .pre .0, at-if1 .if1 .left), tt)
 
 add-in-enum-known-rule-4 : (t : ℕ) → add-in-lts.Need-enum-known-rule-4 (
   add-rule-reads.Asked,
@@ -343,7 +351,9 @@ add-in-sub-add-sums : (t : ℕ) → add-in-lts.Need-sub-add-sums (
   add-chain-below t,
   add-chain.Post,
 ) (add-in-at t) add-in.Post
-add-in-sub-add-sums t c = omega (arith, c .before .before .before .before .before .before .before .before .if1 .left)
+add-in-sub-add-sums t c =
+    let at-if1 = c .before .before .before .before .before .before .before .before in
+    omega (arith, at-if1 .if1 .left)
 
 add-in-add-sums-requires : (t : ℕ) → add-in-lts.Need-add-sums-requires (
   add-rule-reads.Asked,
@@ -361,7 +371,9 @@ add-in-add-sums-requires : (t : ℕ) → add-in-lts.Need-add-sums-requires (
   add-chain-below t,
   add-chain.Post,
 ) (add-in-at t) add-in.Post
-add-in-add-sums-requires t c κs = (omega (arith, c .before .before .before .before .before .before .before .before .before .pre .0, c .before .before .before .before .before .before .before .before .if1 .left), tt)
+add-in-add-sums-requires t c κs =
+    let at-if1 = c .before .before .before .before .before .before .before .before in
+    (omega (arith, at-if1 .before .pre .0, at-if1 .if1 .left), tt)
 
 add-in-enum-known-rule-6 : (t : ℕ) → add-in-lts.Need-enum-known-rule-6 (
   add-rule-reads.Asked,
@@ -397,7 +409,9 @@ add-in-sub-add-chain : (t : ℕ) → add-in-lts.Need-sub-add-chain (
   add-chain-below t,
   add-chain.Post,
 ) (add-in-at t) add-in.Post
-add-in-sub-add-chain t c = omega (arith, c .before .before .before .before .before .before .before .before .if1 .left)
+add-in-sub-add-chain t c =
+    let at-if1 = c .before .before .before .before .before .before .before .before in
+    omega (arith, at-if1 .if1 .left)
 
 add-in-add-chain-requires : (t : ℕ) → add-in-lts.Need-add-chain-requires (
   add-rule-reads.Asked,
@@ -415,7 +429,9 @@ add-in-add-chain-requires : (t : ℕ) → add-in-lts.Need-add-chain-requires (
   add-chain-below t,
   add-chain.Post,
 ) (add-in-at t) add-in.Post
-add-in-add-chain-requires t c κs = (omega (arith, c .before .before .before .before .before .before .before .before .before .pre .0, c .before .before .before .before .before .before .before .before .if1 .left), tt)
+add-in-add-chain-requires t c κs =
+    let at-if1 = c .before .before .before .before .before .before .before .before in
+    (omega (arith, at-if1 .before .pre .0, at-if1 .if1 .left), tt)
 
 add-in-returns-2 : (t : ℕ) → add-in-lts.Need-returns-2 (
   add-rule-reads.Asked,
@@ -435,7 +451,8 @@ add-in-returns-2 : (t : ℕ) → add-in-lts.Need-returns-2 (
 ) (add-in-at t) add-in.Post
 unfolding build
 add-in-returns-2 t c =
-    rw (runs-deeper (c .before .before .before .before .before .before .before .args .left) (c .before .before .before .before .before .before .if1 .left))
+    let at-if1 = c .before .before .before .before .before .before in
+    rw (runs-deeper (at-if1 .before .args .left) (at-if1 .if1 .left))
     (ruled _ _ addTerm (c .before .before .before .add-rule .ensures) (c .before .rule .given .1)
     refl)
 
@@ -457,9 +474,15 @@ add-in-returns-3 : (t : ℕ) → add-in-lts.Need-returns-3 (
 ) (add-in-at t) add-in.Post
 unfolding build
 add-in-returns-3 t c =
-    rw (runs-deeper (c .before .before .before .before .before .before .before .before .before .before .before .args .left) (c .before .before .before .before .before .before .before .before .before .before .if1 .left))
-    (ruled _ _ addTerm (c .before .before .before .before .before .before .before .add-rule .ensures) (c .before .before .before .before .before .rule2 .given .1)
-    (literal-made _ (c .before .sum .ensures ∙ ap folded (same-sum (toZ-ofZ w64 (c .before .before .before .before .before .rule2 .given .0 .0) (record { sfits = c .before .before .before .before .known-told2 .given .0 .1 })) (toZ-ofZ w64 (c .before .before .before .before .before .rule2 .given .0 .1 .0) (record { sfits = c .before .before .before .before .known-told2 .given .1 .0 .1 })))) (c .lit-in .ensures)))
+    let at-known-told2 = c .before .before .before .before in
+    let at-rule2 = at-known-told2 .before in
+    let at-if1 = at-rule2 .before .before .before .before .before in
+    rw (runs-deeper (at-if1 .before .args .left) (at-if1 .if1 .left))
+    (ruled _ _ addTerm (at-rule2 .before .before .add-rule .ensures) (at-rule2 .rule2 .given .1)
+    (literal-made _
+    (c .before .sum .ensures ∙ ap folded
+    (same-sum (toZ-ofZ w64 (at-rule2 .rule2 .given .0 .0) (record { sfits = at-known-told2 .known-told2 .given .0 .1 }))
+    (toZ-ofZ w64 (at-rule2 .rule2 .given .0 .1 .0) (record { sfits = at-known-told2 .known-told2 .given .1 .0 .1 })))) (c .lit-in .ensures)))
 
 add-in-returns-4 : (t : ℕ) → add-in-lts.Need-returns-4 (
   add-rule-reads.Asked,
@@ -478,9 +501,14 @@ add-in-returns-4 : (t : ℕ) → add-in-lts.Need-returns-4 (
   add-chain.Post,
 ) (add-in-at t) add-in.Post
 add-in-returns-4 t c =
-    rw (runs-deeper (c .before .before .before .before .before .before .before .before .before .before .args .left) (c .before .before .before .before .before .before .before .before .before .if1 .left))
-    (ruled _ _ addTerm (c .before .before .before .before .before .before .add-rule .ensures) (c .before .before .before .before .rule3 .given .1)
-    (renumbered _ _ (λ z. add (# (c .before .before .before .before .rule3 .given .0 .0)) (lit z)) (same-sum (toZ-ofZ w64 (c .before .before .before .before .rule3 .given .0 .1 .0) (record { sfits = c .before .before .before .known-told3 .given .1 .0 .1 })) (toZ-ofZ w64 (c .before .before .before .before .rule3 .given .0 .1 .1 .0) (record { sfits = c .before .before .before .known-told3 .given .1 .1 .0 .1 }))) (c .add-onto .ensures)))
+    let at-known-told3 = c .before .before .before in
+    let at-rule3 = at-known-told3 .before in
+    let at-if1 = at-rule3 .before .before .before .before .before in
+    rw (runs-deeper (at-if1 .before .args .left) (at-if1 .if1 .left))
+    (ruled _ _ addTerm (at-rule3 .before .before .add-rule .ensures) (at-rule3 .rule3 .given .1)
+    (renumbered _ _ (λ z. add (# (at-rule3 .rule3 .given .0 .0)) (lit z))
+    (same-sum (toZ-ofZ w64 (at-rule3 .rule3 .given .0 .1 .0) (record { sfits = at-known-told3 .known-told3 .given .1 .0 .1 }))
+    (toZ-ofZ w64 (at-rule3 .rule3 .given .0 .1 .1 .0) (record { sfits = at-known-told3 .known-told3 .given .1 .1 .0 .1 }))) (c .add-onto .ensures)))
 
 add-in-returns-5 : (t : ℕ) → add-in-lts.Need-returns-5 (
   add-rule-reads.Asked,
@@ -500,8 +528,10 @@ add-in-returns-5 : (t : ℕ) → add-in-lts.Need-returns-5 (
 ) (add-in-at t) add-in.Post
 unfolding build
 add-in-returns-5 t c =
-    rw (runs-deeper (c .before .before .before .before .before .before .before .before .before .before .args .left) (c .before .before .before .before .before .before .before .before .before .if1 .left))
-    (ruled _ _ addTerm (c .before .before .before .before .before .before .add-rule .ensures) (c .before .before .before .before .rule4 .given .1)
+    let at-rule4 = c .before .before .before .before in
+    let at-if1 = at-rule4 .before .before .before .before .before in
+    rw (runs-deeper (at-if1 .before .args .left) (at-if1 .if1 .left))
+    (ruled _ _ addTerm (at-rule4 .before .before .add-rule .ensures) (at-rule4 .rule4 .given .1)
     (c .append .ensures))
 
 add-in-returns-6 : (t : ℕ) → add-in-lts.Need-returns-6 (
@@ -521,9 +551,15 @@ add-in-returns-6 : (t : ℕ) → add-in-lts.Need-returns-6 (
   add-chain.Post,
 ) (add-in-at t) add-in.Post
 add-in-returns-6 t c =
-    rw (runs-deeper (c .before .before .before .before .before .before .before .before .before .before .args .left) (c .before .before .before .before .before .before .before .before .before .if1 .left))
-    (ruled _ _ addTerm (c .before .before .before .before .before .before .add-rule .ensures) (c .before .before .before .before .rule5 .given .1)
-    (renumbered _ _ (λ z. add (add (# (c .before .before .before .before .rule5 .given .0 .0)) (# (c .before .before .before .before .rule5 .given .0 .1 .0))) (lit z)) (same-sum (toZ-ofZ w64 (c .before .before .before .before .rule5 .given .0 .1 .1 .0) (record { sfits = c .before .before .before .known-told5 .given .1 .1 .0 .1 })) (toZ-ofZ w64 (c .before .before .before .before .rule5 .given .0 .1 .1 .1 .0) (record { sfits = c .before .before .before .known-told5 .given .1 .1 .1 .0 .1 }))) (c .add-sums .ensures)))
+    let at-known-told5 = c .before .before .before in
+    let at-rule5 = at-known-told5 .before in
+    let at-if1 = at-rule5 .before .before .before .before .before in
+    let rule5 = at-rule5 .rule5 in
+    rw (runs-deeper (at-if1 .before .args .left) (at-if1 .if1 .left))
+    (ruled _ _ addTerm (at-rule5 .before .before .add-rule .ensures) (rule5 .given .1)
+    (renumbered _ _ (λ z. add (add (# (rule5 .given .0 .0)) (# (rule5 .given .0 .1 .0))) (lit z))
+    (same-sum (toZ-ofZ w64 (rule5 .given .0 .1 .1 .0) (record { sfits = at-known-told5 .known-told5 .given .1 .1 .0 .1 }))
+    (toZ-ofZ w64 (rule5 .given .0 .1 .1 .1 .0) (record { sfits = at-known-told5 .known-told5 .given .1 .1 .1 .0 .1 }))) (c .add-sums .ensures)))
 
 add-in-returns-7 : (t : ℕ) → add-in-lts.Need-returns-7 (
   add-rule-reads.Asked,
@@ -542,8 +578,10 @@ add-in-returns-7 : (t : ℕ) → add-in-lts.Need-returns-7 (
   add-chain.Post,
 ) (add-in-at t) add-in.Post
 add-in-returns-7 t c =
-    rw (runs-deeper (c .before .before .before .before .before .before .before .before .before .before .args .left) (c .before .before .before .before .before .before .before .before .before .if1 .left))
-    (ruled _ _ addTerm (c .before .before .before .before .before .before .add-rule .ensures) (c .before .before .before .before .rule6 .given .1)
+    let at-rule6 = c .before .before .before .before in
+    let at-if1 = at-rule6 .before .before .before .before .before in
+    rw (runs-deeper (at-if1 .before .args .left) (at-if1 .if1 .left))
+    (ruled _ _ addTerm (at-rule6 .before .before .add-rule .ensures) (at-rule6 .rule6 .given .1)
     (c .add-chain .ensures))
 
 add-onto-sum-requires : (t : ℕ) → add-onto-lts.Need-sum-requires (
@@ -596,8 +634,12 @@ add-onto-returns : (t : ℕ) → add-onto-lts.Need-returns (
 ) (add-onto-at t) add-onto.Post
 unfolding build
 add-onto-returns t c =
-    stopped (c .before .before .lit-in .last .0) (c .before .before .lit-in .last .1 .0) _ _ _ (c .enum-told .given .1)
-    (literal-made _ (c .before .before .before .sum .ensures ∙ ap folded (same-sum (toZ-ofZ w64 (c .before .before .before .before .before .before .args .x) (c .before .before .before .before .before .before .fits .x)) (toZ-ofZ w64 (c .before .before .before .before .before .before .args .y) (c .before .before .before .before .before .before .fits .y)))) (c .before .before .lit-in .ensures))
+    let at-lit-in = c .before .before in
+    let start = at-lit-in .before .before .before .before in
+    stopped (at-lit-in .lit-in .last .0) (at-lit-in .lit-in .last .1 .0) _ _ _ (c .enum-told .given .1)
+    (literal-made _
+    (at-lit-in .before .sum .ensures ∙ ap folded
+    (same-sum (toZ-ofZ w64 (start .args .x) (start .fits .x)) (toZ-ofZ w64 (start .args .y) (start .fits .y)))) (at-lit-in .lit-in .ensures))
 
 add-onto-add-in-requires : (t : ℕ) → add-onto-lts.Need-add-in-requires (
   sum-reads.Asked,
@@ -607,7 +649,9 @@ add-onto-add-in-requires : (t : ℕ) → add-onto-lts.Need-add-in-requires (
   add-in-below t,
   add-in.Post,
 ) (add-onto-at t) add-onto.Post
-add-onto-add-in-requires t c κs = (omega (arith, c .before .before .before .before .before .before .before .before .before .pre .0), tt)
+add-onto-add-in-requires t c κs =
+    let start = c .before .before .before .before .before .before .before .before .before in
+    (omega (arith, start .pre .0), tt)
 
 add-onto-returns-2 : (t : ℕ) → add-onto-lts.Need-returns-2 (
   sum-reads.Asked,
@@ -619,8 +663,13 @@ add-onto-returns-2 : (t : ℕ) → add-onto-lts.Need-returns-2 (
 ) (add-onto-at t) add-onto.Post
 unfolding build
 add-onto-returns-2 t c =
-    onward (c .before .before .before .before .before .before .lit-in .last .0) (c .before .before .before .before .before .before .lit-in .last .1 .0) _ (c .before .before .before .before .sum2 .given .1)
-    (literal-made _ (c .before .before .before .before .before .before .before .sum .ensures ∙ ap folded (same-sum (toZ-ofZ w64 (c .before .before .before .before .before .before .before .before .before .before .args .x) (c .before .before .before .before .before .before .before .before .before .before .fits .x)) (toZ-ofZ w64 (c .before .before .before .before .before .before .before .before .before .before .args .y) (c .before .before .before .before .before .before .before .before .before .before .fits .y)))) (c .before .before .before .before .before .before .lit-in .ensures))
+    let at-sum2 = c .before .before .before .before in
+    let at-lit-in = at-sum2 .before .before in
+    let start = at-lit-in .before .before .before .before in
+    onward (at-lit-in .lit-in .last .0) (at-lit-in .lit-in .last .1 .0) _ (at-sum2 .sum2 .given .1)
+    (literal-made _
+    (at-lit-in .before .sum .ensures ∙ ap folded
+    (same-sum (toZ-ofZ w64 (start .args .x) (start .fits .x)) (toZ-ofZ w64 (start .args .y) (start .fits .y)))) (at-lit-in .lit-in .ensures))
     (c .add-in .ensures)
 
 add-sums-add-in-requires : (t : ℕ) → add-sums-lts.Need-add-in-requires (
@@ -716,10 +765,15 @@ add-sums-returns-2 : (t : ℕ) → add-sums-lts.Need-returns-2 (
 ) (add-sums-at t) add-sums.Post
 unfolding build
 add-sums-returns-2 t c =
-    onward (c .before .before .before .before .before .before .before .before .before .add-in .last .0) (c .before .before .before .before .before .before .before .before .before .add-in .last .1 .0) _ (c .before .before .before .before .before .before .before .nodes .given .1)
-    (c .before .before .before .before .before .before .before .before .before .add-in .ensures)
-    (stopped (c .before .before .lit-in .last .0) (c .before .before .lit-in .last .1 .0) _ _ _ (c .enum-told2 .given .1)
-    (literal-made _ (c .before .before .before .sum .ensures ∙ ap folded (same-sum (toZ-ofZ w64 (c .before .before .before .before .before .before .before .before .before .before .before .before .args .x) (c .before .before .before .before .before .before .before .before .before .before .before .before .fits .x)) (toZ-ofZ w64 (c .before .before .before .before .before .before .before .before .before .before .before .before .args .y) (c .before .before .before .before .before .before .before .before .before .before .before .before .fits .y)))) (c .before .before .lit-in .ensures)))
+    let at-lit-in = c .before .before in
+    let at-nodes = at-lit-in .before .before .before .before .before in
+    let at-add-in = at-nodes .before .before in
+    let start = at-add-in .before .before .before in
+    onward (at-add-in .add-in .last .0) (at-add-in .add-in .last .1 .0) _ (at-nodes .nodes .given .1) (at-add-in .add-in .ensures)
+    (stopped (at-lit-in .lit-in .last .0) (at-lit-in .lit-in .last .1 .0) _ _ _ (c .enum-told2 .given .1)
+    (literal-made _
+    (at-lit-in .before .sum .ensures ∙ ap folded
+    (same-sum (toZ-ofZ w64 (start .args .x) (start .fits .x)) (toZ-ofZ w64 (start .args .y) (start .fits .y)))) (at-lit-in .lit-in .ensures)))
 
 add-sums-add-in-requires-2 : (t : ℕ) → add-sums-lts.Need-add-in-requires-2 (
   add-in-below t,
@@ -729,7 +783,10 @@ add-sums-add-in-requires-2 : (t : ℕ) → add-sums-lts.Need-add-in-requires-2 (
   lit-in-reads.Asked,
   lit-in-reads.Learnt,
 ) (add-sums-at t) add-sums.Post
-add-sums-add-in-requires-2 t c κs = (omega (arith, c .before .before .before .before .before .before .before .before .before .before .before .before .before .before .before .pre .0), tt)
+add-sums-add-in-requires-2 t c κs =
+    let earlier = c .before .before .before .before .before .before .before in
+    let start = earlier .before .before .before .before .before .before .before .before in
+    (omega (arith, start .pre .0), tt)
 
 add-sums-returns-3 : (t : ℕ) → add-sums-lts.Need-returns-3 (
   add-in-below t,
@@ -741,10 +798,16 @@ add-sums-returns-3 : (t : ℕ) → add-sums-lts.Need-returns-3 (
 ) (add-sums-at t) add-sums.Post
 unfolding build
 add-sums-returns-3 t c =
-    onward (c .before .before .before .before .before .before .before .before .before .before .before .before .before .add-in .last .0) (c .before .before .before .before .before .before .before .before .before .before .before .before .before .add-in .last .1 .0) _ (c .before .before .before .before .before .before .before .before .before .before .before .nodes .given .1)
-    (c .before .before .before .before .before .before .before .before .before .before .before .before .before .add-in .ensures)
-    (onward (c .before .before .before .before .before .before .lit-in .last .0) (c .before .before .before .before .before .before .lit-in .last .1 .0) _ (c .before .before .before .before .sum2 .given .1)
-    (literal-made _ (c .before .before .before .before .before .before .before .sum .ensures ∙ ap folded (same-sum (toZ-ofZ w64 (c .before .before .before .before .before .before .before .before .before .before .before .before .before .before .before .before .args .x) (c .before .before .before .before .before .before .before .before .before .before .before .before .before .before .before .before .fits .x)) (toZ-ofZ w64 (c .before .before .before .before .before .before .before .before .before .before .before .before .before .before .before .before .args .y) (c .before .before .before .before .before .before .before .before .before .before .before .before .before .before .before .before .fits .y)))) (c .before .before .before .before .before .before .lit-in .ensures))
+    let at-sum2 = c .before .before .before .before in
+    let at-lit-in = at-sum2 .before .before in
+    let at-nodes = at-lit-in .before .before .before .before .before in
+    let at-add-in = at-nodes .before .before in
+    let start = at-add-in .before .before .before in
+    onward (at-add-in .add-in .last .0) (at-add-in .add-in .last .1 .0) _ (at-nodes .nodes .given .1) (at-add-in .add-in .ensures)
+    (onward (at-lit-in .lit-in .last .0) (at-lit-in .lit-in .last .1 .0) _ (at-sum2 .sum2 .given .1)
+    (literal-made _
+    (at-lit-in .before .sum .ensures ∙ ap folded
+    (same-sum (toZ-ofZ w64 (start .args .x) (start .fits .x)) (toZ-ofZ w64 (start .args .y) (start .fits .y)))) (at-lit-in .lit-in .ensures))
     (c .add-in2 .ensures))
 
 pub +add-chain+add-in+add-onto+add-sums-spec : {M : Type 1} → statement M

@@ -38,7 +38,8 @@ is-zero-requires-2 c κs = search needs
 
 returns-2 : tie.Need-returns-2
 returns-2 c =
-    let s = c .before .before .before .before .before .before .before .before in
+    let at-if1 = c .before .before .before .before .before .before in
+    let s = at-if1 .before .before in
     let a = s .args in
     let at = nodeIn (now (a .kinds)) (now (a .words)) in
     let e : toZ w64 (ofZ w64 (a .a)) ≡ a .a = toZ-ofZ w64 (a .a) (s .fits .a) in
@@ -47,7 +48,7 @@ returns-2 c =
     let f : toZ w64 (ofZ w64 (v .0 .0)) ≡ v .0 .0 = toZ-ofZ w64 (v .0 .0) (record { sfits = c .before .before .known-told .given .0 .1 }) in
     zero-on-lit at (a .lhs) (a .rhs)
     (s .pre .0)
-    (tested isZero e (c .before .before .before .before .before .before .before .is-zero .ensures) (c .before .before .before .before .before .before .if1 .left))
+    (tested isZero e (at-if1 .before .is-zero .ensures) (at-if1 .if1 .left))
     (lit-found (at (a .rhs)) (right .ensures) (v .1))
     (tested isZero f (c .before .is-zero2 .ensures) (c .if2 .taken))
 
@@ -62,7 +63,8 @@ enum-known-y c = search needs
 
 returns-3 : tie.Need-returns-3
 returns-3 c =
-    let s = c .before .before .before .before .before .before .before .before in
+    let at-if1 = c .before .before .before .before .before .before in
+    let s = at-if1 .before .before in
     let a = s .args in
     let at = nodeIn (now (a .kinds)) (now (a .words)) in
     let e : toZ w64 (ofZ w64 (a .a)) ≡ a .a = toZ-ofZ w64 (a .a) (s .fits .a) in
@@ -70,14 +72,15 @@ returns-3 c =
     let v = c .before .before .before .shape2 .given in
     lit-beside-sum at (a .lhs) (a .rhs)
     (s .pre .0)
-    (tested isZero e (c .before .before .before .before .before .before .before .is-zero .ensures) (c .before .before .before .before .before .before .if1 .left))
+    (tested isZero e (at-if1 .before .is-zero .ensures) (at-if1 .if1 .left))
     (lit-found (at (a .rhs)) (right .ensures) (v .1))
     (add-found (at (a .rhs)) (right .ensures) (v .1))
     (no-lit-found (at (v .0 .1 .0)) (c .before .shape-at2 .ensures) (c .match2 .keys2))
 
 returns-4 : tie.Need-returns-4
 returns-4 c =
-    let s = c .before .before .before .before .before .before .before .before in
+    let at-if1 = c .before .before .before .before .before .before in
+    let s = at-if1 .before .before in
     let a = s .args in
     let at = nodeIn (now (a .kinds)) (now (a .words)) in
     let e : toZ w64 (ofZ w64 (a .a)) ≡ a .a = toZ-ofZ w64 (a .a) (s .fits .a) in
@@ -87,13 +90,14 @@ returns-4 c =
     rw (e, f)
     (two-lits at (a .lhs) (a .rhs)
     (s .pre .0)
-    (tested isZero e (c .before .before .before .before .before .before .before .is-zero .ensures) (c .before .before .before .before .before .before .if1 .left))
+    (tested isZero e (at-if1 .before .is-zero .ensures) (at-if1 .if1 .left))
     (lit-found (at (a .rhs)) (right .ensures) (v .1))
     (tested isZero f (c .before .is-zero2 .ensures) (c .if2 .left)))
 
 returns-5 : tie.Need-returns-5
 returns-5 c =
-    let s = c .before .before .before .before .before .before .before .before .before .before in
+    let at-if1 = c .before .before .before .before .before .before .before .before in
+    let s = at-if1 .before .before in
     let a = s .args in
     let at = nodeIn (now (a .kinds)) (now (a .words)) in
     let e : toZ w64 (ofZ w64 (a .a)) ≡ a .a = toZ-ofZ w64 (a .a) (s .fits .a) in
@@ -104,7 +108,7 @@ returns-5 c =
     rw (e, f)
     (lit-onto-sum at (a .lhs) (a .rhs)
     (s .pre .0)
-    (tested isZero e (c .before .before .before .before .before .before .before .before .before .is-zero .ensures) (c .before .before .before .before .before .before .before .before .if1 .left))
+    (tested isZero e (at-if1 .before .is-zero .ensures) (at-if1 .if1 .left))
     (lit-found (at (a .rhs)) (right .ensures) (v .1))
     (add-found (at (a .rhs)) (right .ensures) (v .1))
     (lit-found (at (v .0 .1 .0)) (c .before .before .before .shape-at2 .ensures) (y .1)))

@@ -35,19 +35,21 @@ is-zero-requires c κs = search needs
 
 returns-2 : tie.Need-returns-2
 returns-2 c =
-    let s = c .before .before .before .before .before .before in
+    let at-shape-at = c .before .before .before .before .before in
+    let s = at-shape-at .before in
     let a = s .args in
     let at = nodeIn (now (a .kinds)) (now (a .words)) in
     let v = c .before .before .before .b .given in
     let e : toZ w64 (ofZ w64 (v .0 .0)) ≡ v .0 .0 = toZ-ofZ w64 (v .0 .0) (record { sfits = c .before .before .known-told .given .0 .1 }) in
     zero-on-right at (a .lhs) (a .rhs)
     (s .pre .0)
-    (lit-found (at (a .rhs)) (c .before .before .before .before .before .shape-at .ensures) (v .1))
+    (lit-found (at (a .rhs)) (at-shape-at .shape-at .ensures) (v .1))
     (tested isZero e (c .before .is-zero .ensures) (c .if1 .taken))
 
 returns-3 : tie.Need-returns-3
 returns-3 c =
-    let s = c .before .before .before .before .before .before in
+    let at-shape-at = c .before .before .before .before .before in
+    let s = at-shape-at .before in
     let a = s .args in
     let at = nodeIn (now (a .kinds)) (now (a .words)) in
     let v = c .before .before .before .b .given in
@@ -55,7 +57,7 @@ returns-3 c =
     beside-lit at (a .lhs) (a .rhs)
     (s .pre .0)
     (s .pre .1)
-    (lit-found (at (a .rhs)) (c .before .before .before .before .before .shape-at .ensures) (v .1))
+    (lit-found (at (a .rhs)) (at-shape-at .shape-at .ensures) (v .1))
     (tested isZero e (c .before .is-zero .ensures) (c .if1 .left))
 
 pub other-rule-spec : {M : Type 1} → statement M

@@ -25,14 +25,15 @@ is-zero-requires c κs = search needs
 
 returns : tie.Need-returns
 returns c =
-    let s = c .before .before .before .before .before .before in
+    let at-shape-at = c .before .before .before .before .before in
+    let s = at-shape-at .before in
     let a = s .args in
     let at = nodeIn (now (a .kinds)) (now (a .words)) in
     let v = c .before .before .before .shape .given in
     let e : toZ w64 (ofZ w64 (v .0 .0)) ≡ v .0 .0 = toZ-ofZ w64 (v .0 .0) (record { sfits = c .before .before .known-told .given .0 .1 }) in
     zero-on-right at (a .lhs) (a .rhs)
     (s .pre .0)
-    (lit-found (at (a .rhs)) (c .before .before .before .before .before .shape-at .ensures) (v .1))
+    (lit-found (at (a .rhs)) (at-shape-at .shape-at .ensures) (v .1))
     (tested isZero e (c .before .is-zero .ensures) (c .if1 .taken))
 
 shape-at-requires-2 : tie.Need-shape-at-requires-2
@@ -43,15 +44,16 @@ enum-known-x c = search needs
 
 returns-2 : tie.Need-returns-2
 returns-2 c =
-    let s = c .before .before .before .before .before .before .before .before in
+    let at-known-told = c .before .before .before .before in
+    let s = at-known-told .before .before .before .before in
     let a = s .args in
     let at = nodeIn (now (a .kinds)) (now (a .words)) in
-    let v = c .before .before .before .before .before .shape .given in
-    let e : toZ w64 (ofZ w64 (v .0 .0)) ≡ v .0 .0 = toZ-ofZ w64 (v .0 .0) (record { sfits = c .before .before .before .before .known-told .given .0 .1 }) in
+    let v = at-known-told .before .shape .given in
+    let e : toZ w64 (ofZ w64 (v .0 .0)) ≡ v .0 .0 = toZ-ofZ w64 (v .0 .0) (record { sfits = at-known-told .known-told .given .0 .1 }) in
     sum-beside-lit at (a .lhs) (a .rhs)
     (s .pre .0)
     (s .pre .1)
-    (lit-found (at (a .rhs)) (c .before .before .before .before .before .before .before .shape-at .ensures) (v .1))
+    (lit-found (at (a .rhs)) (at-known-told .before .before .before .shape-at .ensures) (v .1))
     (tested isZero e (c .before .before .before .is-zero .ensures) (c .before .before .if1 .left))
     (no-lit-found (at (a .a)) (c .before .shape-at2 .ensures) (c .match2 .keys2))
 
@@ -69,19 +71,21 @@ sums-rule-requires c κs =
 
 returns-3 : tie.Need-returns-3
 returns-3 c =
-    let s = c .before .before .before .before .before .before .before .before .before .before in
+    let at-if1 = c .before .before .before .before in
+    let at-shape-at = at-if1 .before .before .before .before .before in
+    let s = at-shape-at .before in
     let a = s .args in
     let at = nodeIn (now (a .kinds)) (now (a .words)) in
-    let v = c .before .before .before .before .before .before .before .shape .given in
-    let e : toZ w64 (ofZ w64 (v .0 .0)) ≡ v .0 .0 = toZ-ofZ w64 (v .0 .0) (record { sfits = c .before .before .before .before .before .before .known-told .given .0 .1 }) in
+    let v = at-if1 .before .before .before .shape .given in
+    let e : toZ w64 (ofZ w64 (v .0 .0)) ≡ v .0 .0 = toZ-ofZ w64 (v .0 .0) (record { sfits = at-if1 .before .before .known-told .given .0 .1 }) in
     let x = c .before .x .given in
     let f : toZ w64 (ofZ w64 (x .0 .0)) ≡ x .0 .0 = toZ-ofZ w64 (x .0 .0) (record { sfits = c .known-told2 .given .0 .1 }) in
     rw (e, f)
     (sum-onto-lit at (a .lhs) (a .rhs)
     (s .pre .0)
     (s .pre .1)
-    (lit-found (at (a .rhs)) (c .before .before .before .before .before .before .before .before .before .shape-at .ensures) (v .1))
-    (tested isZero e (c .before .before .before .before .before .is-zero .ensures) (c .before .before .before .before .if1 .left))
+    (lit-found (at (a .rhs)) (at-shape-at .shape-at .ensures) (v .1))
+    (tested isZero e (at-if1 .before .is-zero .ensures) (at-if1 .if1 .left))
     (lit-found (at (a .a)) (c .before .before .before .shape-at2 .ensures) (x .1)))
 
 returns-4 : tie.Need-returns-4

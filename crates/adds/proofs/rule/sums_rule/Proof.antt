@@ -36,30 +36,33 @@ returns c =
 
 returns-2 : tie.Need-returns-2
 returns-2 c =
-    let s = c .before .before .before .before .before in
+    let at-shape-at = c .before .before .before .before in
+    let s = at-shape-at .before in
     let a = s .args in
     let at = nodeIn (now (a .kinds)) (now (a .words)) in
     lit-of-right at (a .lhs) (a .rhs)
     (s .pre .0) (s .pre .1 .0) (s .pre .1 .1 .0) (s .pre .1 .1 .1)
     (no-lit-found (at (a .b)) (c .before .before .before .shape-at2 .ensures) (c .before .before .match .keys2))
-    (lit-found (at (a .d)) (c .before .before .before .before .shape-at .ensures) (c .enum-told .given .1))
+    (lit-found (at (a .d)) (at-shape-at .shape-at .ensures) (c .enum-told .given .1))
 
 enum-known-shape : tie.Need-enum-known-shape
 enum-known-shape c = search needs
 
 returns-3 : tie.Need-returns-3
 returns-3 c =
-    let s = c .before .before .before .before .before .before in
+    let at-shape-at2 = c .before .before .before .before in
+    let s = at-shape-at2 .before .before in
     let a = s .args in
     let at = nodeIn (now (a .kinds)) (now (a .words)) in
     lit-of-left at (a .lhs) (a .rhs)
     (s .pre .0) (s .pre .1 .0) (s .pre .1 .1 .0) (s .pre .1 .1 .1)
-    (lit-found (at (a .b)) (c .before .before .before .before .shape-at2 .ensures) (c .before .before .x .given .1))
-    (no-lit-found (at (a .d)) (c .before .before .before .before .before .shape-at .ensures) (c .match3 .keys2))
+    (lit-found (at (a .b)) (at-shape-at2 .shape-at2 .ensures) (c .before .before .x .given .1))
+    (no-lit-found (at (a .d)) (at-shape-at2 .before .shape-at .ensures) (c .match3 .keys2))
 
 returns-4 : tie.Need-returns-4
 returns-4 c =
-    let s = c .before .before .before .before .before .before .before .before in
+    let at-shape-at2 = c .before .before .before .before .before .before in
+    let s = at-shape-at2 .before .before in
     let a = s .args in
     let at = nodeIn (now (a .kinds)) (now (a .words)) in
     let x = c .before .before .before .before .x .given in
@@ -69,8 +72,8 @@ returns-4 c =
     rw (e, f)
     (lits-of-sums at (a .lhs) (a .rhs)
     (s .pre .0) (s .pre .1 .0) (s .pre .1 .1 .0) (s .pre .1 .1 .1)
-    (lit-found (at (a .b)) (c .before .before .before .before .before .before .shape-at2 .ensures) (x .1))
-    (lit-found (at (a .d)) (c .before .before .before .before .before .before .before .shape-at .ensures) (y .1)))
+    (lit-found (at (a .b)) (at-shape-at2 .shape-at2 .ensures) (x .1))
+    (lit-found (at (a .d)) (at-shape-at2 .before .shape-at .ensures) (y .1)))
 
 pub sums-rule-spec : {M : Type 1} → statement M
 sums-rule-spec =

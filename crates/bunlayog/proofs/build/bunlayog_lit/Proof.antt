@@ -23,9 +23,11 @@ same-length-2 c = search needs
 
 returns : tie.Need-returns
 returns c =
-    let z = c .before .before .before .before .before .before .before .before .before .before .before .before .args .value in
-    let e : toZ w64 (ofZ w64 z) ≡ z = toZ-ofZ w64 z (c .before .before .before .before .before .before .before .before .before .before .before .before .fits .value) in
-    in-c _ (rw e at (c .before .before .before .before .before .before .lit .ensures)) (c .answered .ensures .0) (c .answered .ensures .1)
+    let at-lit = c .before .before .before .before .before .before in
+    let start = at-lit .before .before .before .before .before .before in
+    let z = start .args .value in
+    let e : toZ w64 (ofZ w64 z) ≡ z = toZ-ofZ w64 z (start .fits .value) in
+    in-c _ (rw e at (at-lit .lit .ensures)) (c .answered .ensures .0) (c .answered .ensures .1)
 
 pub bunlayog-lit-spec : {M : Type 1} → statement M
 bunlayog-lit-spec =

@@ -20,7 +20,10 @@ same-length-2 : tie.Need-same-length-2
 same-length-2 c = search needs
 
 returns : tie.Need-returns
-returns c = series-in-c _ _ (rw (toZ-ofZ w64 (c .before .before .before .before .before .before .before .before .before .before .before .before .before .args .x) (c .before .before .before .before .before .before .before .before .before .before .before .before .before .fits .x)) at (c .before .before .before .before .before .before .before .coeffs-at .ensures)) (c .outcome-answered .ensures)
+returns c =
+    let at-coeffs-at = c .before .before .before .before .before .before .before in
+    let start = at-coeffs-at .before .before .before .before .before .before in
+    series-in-c _ _ (rw (toZ-ofZ w64 (start .args .x) (start .fits .x)) at (at-coeffs-at .coeffs-at .ensures)) (c .outcome-answered .ensures)
 
 pub bunlayog-taylor-coeffs-at-spec : {M : Type 1} → statement M
 bunlayog-taylor-coeffs-at-spec = tie.close (tie.spec coeffs-at-requires outcome-answered-requires same-length same-length-2 returns)

@@ -25,10 +25,16 @@ answer-of-requires : tie.Need-answer-of-requires
 answer-of-requires c κs = search needs
 
 returns : tie.Need-returns
-returns c = λ ks ws. root-answers (c .before .before .before .status .given .0 .0) ks ws (c .before .before .before .status .given .1) (c .before .load .ensures) (c .tidy-of .ensures)
+returns c =
+    let at-status = c .before .before .before in
+    λ ks ws. root-answers (at-status .status .given .0 .0) ks ws (at-status .status .given .1) (c .before .load .ensures) (c .tidy-of .ensures)
 
 returns-2 : tie.Need-returns-2
-returns-2 c = λ ks ws. refusal-answers _ ks ws (c .answer-of .ensures) refl (sym (ap (λ (s : Status). rootResult (walked s ks ws (c .before .before .before .before .args .marks .now) (c .before .before .before .before .args .rows .now) (c .before .before .before .before .args .root))) (c .before .before .status2 .given .1)))
+returns-2 c =
+    let start = c .before .before .before .before in
+    λ ks ws. refusal-answers _ ks ws (c .answer-of .ensures) refl
+    (sym (ap (λ (s : Status). rootResult (walked s ks ws (start .args .marks .now) (start .args .rows .now) (start .args .root)))
+    (c .before .before .status2 .given .1)))
 
 pub answer-at-spec : {M : Type 1} → statement M
 answer-at-spec =

@@ -18,7 +18,10 @@ store-requires : tie.Need-store-requires
 store-requires c κs = search needs
 
 returns-2 : tie.Need-returns-2
-returns-2 c = λ ks ws. now-kept (c .before .before .before .before .before .before .args .answer) ks ws (c .before .before .before .before .before .before .args .i) (c .before .before .before .before .status .given .1) (c .store .ensures)
+returns-2 c =
+    let at-status = c .before .before .before .before in
+    let start = at-status .before .before in
+    λ ks ws. now-kept (start .args .answer) ks ws (start .args .i) (at-status .status .given .1) (c .store .ensures)
 
 pub keep-answer-spec : {M : Type 1} → statement M
 keep-answer-spec =

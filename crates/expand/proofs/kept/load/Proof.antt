@@ -18,10 +18,14 @@ cast-t15 : tie.Need-cast-t15
 cast-t15 c = search needs
 
 returns : tie.Need-returns
-returns c = list-loaded (c .before .before .before .args .marks .now) (c .before .before .before .args .rows .now) (c .before .before .before .args .i) (c .before .before .before .pre .marked) (c .if1 .taken)
+returns c =
+    let start = c .before .before .before in
+    list-loaded (start .args .marks .now) (start .args .rows .now) (start .args .i) (start .pre .marked) (c .if1 .taken)
 
 returns-2 : tie.Need-returns-2
-returns-2 c = constant-loaded (c .before .before .before .args .marks .now) (c .before .before .before .args .rows .now) (c .before .before .before .args .i) (c .if1 .left)
+returns-2 c =
+    let start = c .before .before .before in
+    constant-loaded (start .args .marks .now) (start .args .rows .now) (start .args .i) (c .if1 .left)
 
 pub load-spec : {M : Type 1} → statement M
 load-spec =

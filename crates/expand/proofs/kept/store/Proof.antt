@@ -18,7 +18,9 @@ element-set-from-coeffs : tie.Need-element-set-from-coeffs
 element-set-from-coeffs c = search needs
 
 returns : tie.Need-returns
-returns c = stored (c .before .before .args .e) (c .before .before .pre .0 .1) (c .before .before .args .i) (c .before .before .pre .1) (c .before .before .pre .0 .0) (c .mark-of .ensures)
+returns c =
+    let start = c .before .before in
+    stored (start .args .e) (start .pre .0 .1) (start .args .i) (start .pre .1) (start .pre .0 .0) (c .mark-of .ensures)
 
 pub store-spec : {M : Type 1} → statement M
 store-spec =

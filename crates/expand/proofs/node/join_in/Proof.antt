@@ -21,7 +21,8 @@ returns c =
     let start = c .before .before .before .before .before .before .before .before in
     let node = c .before .before .before .node-in in
     walks-same (c .keep-answer .ensures (node .last .0) (node .last .1 .0))
-    (ap (λ (y : Result Expansion). bind (lifted (resultsOf (start .args .marks .now) (start .args .rows .now)) y) (keep (start .args .term))) (node .ensures .is))
+    (ap (λ (y : Result Expansion). bind (lifted (resultsOf (start .args .marks .now) (start .args .rows .now)) y) (keep (start .args .term)))
+    (node .ensures .is))
 
 pub join-in-spec : {M : Type 1} → statement M
 join-in-spec = tie.close (tie.spec node-in-requires keep-answer-requires returns)

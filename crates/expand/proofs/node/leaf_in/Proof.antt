@@ -12,13 +12,18 @@ variable-in-requires : tie.Need-variable-in-requires
 variable-in-requires c κs = search needs
 
 returns : tie.Need-returns
-returns c = rw (eq-eqb (c .before .before .before .before .before .args .v) (c .before .before .before .before .before .args .asked .var) (c .before .before .before .if1 .taken)) (c .variable-in .ensures)
+returns c =
+    let start = c .before .before .before .before .before in
+    rw (eq-eqb (start .args .v) (start .args .asked .var) (c .before .before .before .if1 .taken)) (c .variable-in .ensures)
 
 answer-of-requires : tie.Need-answer-of-requires
 answer-of-requires c κs = search needs
 
 returns-2 : tie.Need-returns-2
-returns-2 c = rw (ne-eqb (c .before .before .before .args .v) (c .before .before .before .args .asked .var) (c .before .if1 .left)) (constant-answers (Node (c .before .before .before .args .term) (c .before .before .before .args .room)) _ _ (c .answer-of .ensures) refl)
+returns-2 c =
+    let start = c .before .before .before in
+    rw (ne-eqb (start .args .v) (start .args .asked .var) (c .before .if1 .left))
+    (constant-answers (Node (start .args .term) (start .args .room)) _ _ (c .answer-of .ensures) refl)
 
 pub leaf-in-spec : {M : Type 1} → statement M
 leaf-in-spec = tie.close (tie.spec variable-in-requires returns answer-of-requires returns-2)

@@ -27,12 +27,18 @@ lit-in-requires : tie.Need-lit-in-requires
 lit-in-requires c κs = search needs
 
 returns : tie.Need-returns
-returns c = at-point (c .before .before .before .before .before .args .var) _ (c .before .before .before .enum-told .given .1) (ap answered (c .append .ensures))
+returns c =
+    let start = c .before .before .before .before .before in
+    at-point (start .args .var) _ (c .before .before .before .enum-told .given .1) (ap answered (c .append .ensures))
 
 returns-2 : tie.Need-returns-2
 returns-2 c =
-    at-point (c .before .before .before .before .before .before .before .args .var) _ (c .before .before .before .before .before .point .given .1)
-    (ap answered (literal-made _ (c .before .fold .ensures ∙ ap folded (toZ-ofZ w64 (c .before .before .before .before .before .point .given .0 .0) (record { sfits = c .before .before .before .before .known-told .given .0 .1 }))) (c .lit-in .ensures)))
+    let at-known-told = c .before .before .before .before in
+    at-point (at-known-told .before .before .before .args .var) _ (at-known-told .before .point .given .1)
+    (ap answered
+    (literal-made _
+    (c .before .fold .ensures ∙ ap folded
+    (toZ-ofZ w64 (at-known-told .before .point .given .0 .0) (record { sfits = at-known-told .known-told .given .0 .1 }))) (c .lit-in .ensures)))
 
 pub point-in-spec : {M : Type 1} → statement M
 point-in-spec =

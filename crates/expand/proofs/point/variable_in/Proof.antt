@@ -30,8 +30,9 @@ var-in-requires c κs = search needs
 
 returns-2 : tie.Need-returns-2
 returns-2 c =
-    let point = c .before .before .before .before .before .before .point-in in
-    answers-same (c .var-in .ensures) (onward (point .last .0) (point .last .1 .0) _ (c .before .before .before .before .x .given .1) (point .ensures) refl)
+    let at-x = c .before .before .before .before in
+    let point = at-x .before .before .point-in in
+    answers-same (c .var-in .ensures) (onward (point .last .0) (point .last .1 .0) _ (at-x .x .given .1) (point .ensures) refl)
 
 pub variable-in-spec : {M : Type 1} → statement M
 variable-in-spec =

@@ -94,7 +94,10 @@ walk-at-returns : (t : ℕ) → walk-at-lts.Need-returns (
   walk-node-below t,
   walk-node.Post,
 ) (walk-at-at t) walk-at.Post
-walk-at-returns t c = left-as-kept (c .before .before .args .asked .var) (pointOf (c .before .before .args .asked .point)) (c .before .before .args .asked .order) _ _ _ (c .before .before .args .term) (c .before .before .pre .1 .sized) (c .if1 .taken)
+walk-at-returns t c =
+    let start = c .before .before in
+    left-as-kept (start .args .asked .var) (pointOf (start .args .asked .point)) (start .args .asked .order) _ _ _ (start .args .term)
+    (start .pre .1 .sized) (c .if1 .taken)
 
 walk-at-node-at-requires : (t : ℕ) → walk-at-lts.Need-node-at-requires (
   node-at-reads.Asked,
@@ -110,7 +113,9 @@ walk-at-walk-node-requires : (t : ℕ) → walk-at-lts.Need-walk-node-requires (
   walk-node-below t,
   walk-node.Post,
 ) (walk-at-at t) walk-at.Post
-walk-at-walk-node-requires t c κs = (omega (arith, c .before .before .before .before .before .before .before .before .before .pre .0), c .before .before .before .before .before .before .before .before .before .pre .1)
+walk-at-walk-node-requires t c κs =
+    let start = c .before .before .before .before .before .before .before .before .before in
+    (omega (arith, start .pre .0), start .pre .1)
 
 walk-at-returns-2 : (t : ℕ) → walk-at-lts.Need-returns-2 (
   node-at-reads.Asked,
@@ -118,7 +123,12 @@ walk-at-returns-2 : (t : ℕ) → walk-at-lts.Need-returns-2 (
   walk-node-below t,
   walk-node.Post,
 ) (walk-at-at t) walk-at.Post
-walk-at-returns-2 t c = visits-now (c .before .before .before .before .before .before .before .before .before .before .args .asked .var) (pointOf (c .before .before .before .before .before .before .before .before .before .before .args .asked .point)) (c .before .before .before .before .before .before .before .before .before .before .args .asked .order) (poolOf (c .before .before .before .before .before .before .before .before .before .before .args .kinds .now) (c .before .before .before .before .before .before .before .before .before .before .args .words .now) (c .before .before .before .before .before .before .before .before .before .before .args .room)) (c .before .before .before .before .before .before .before .before .before .before .args .term) (c .before .before .before .before .before .before .before .before .before .before .pre .1 .sized) (c .before .before .before .before .before .before .before .before .if1 .left) (c .before .before .before .before .before .node-at .ensures) (c .walk-node .ensures)
+walk-at-returns-2 t c =
+    let at-node-at = c .before .before .before .before .before in
+    let start = at-node-at .before .before .before .before .before in
+    let args = start .args in
+    visits-now (args .asked .var) (pointOf (args .asked .point)) (args .asked .order) (poolOf (args .kinds .now) (args .words .now) (args .room))
+    (args .term) (start .pre .1 .sized) (at-node-at .before .before .before .if1 .left) (at-node-at .node-at .ensures) (c .walk-node .ensures)
 
 walk-node-visited-requires : (t : ℕ) → walk-node-lts.Need-visited-requires (
   visited-reads.Asked,
@@ -154,7 +164,13 @@ walk-node-join-in-requires : (t : ℕ) → walk-node-lts.Need-join-in-requires (
   walk-two-below t,
   walk-two.Post,
 ) (walk-node-at t) walk-node.Post
-walk-node-join-in-requires t c κs = (c .before .before .before .before .before .before .before .pre .1, none-visited (c .before .before .before .before .before .before .before .args .marks .now) (c .before .before .before .before .before .before .before .args .node) (sym (c .before .before .before .before .before .before .visited .ensures) ∙ c .before .before .before .before .enum-told .given .1))
+walk-node-join-in-requires t c κs =
+    let at-enum-told = c .before .before .before .before in
+    let start = at-enum-told .before .before .before in (
+      start .pre .1,
+      none-visited (start .args .marks .now) (start .args .node)
+          (sym (at-enum-told .before .before .visited .ensures) ∙ at-enum-told .enum-told .given .1),
+    )
 
 walk-node-enum-known-parts : (t : ℕ) → walk-node-lts.Need-enum-known-parts (
   visited-reads.Asked,
@@ -178,7 +194,10 @@ walk-node-walk-one-requires : (t : ℕ) → walk-node-lts.Need-walk-one-requires
   walk-two-below t,
   walk-two.Post,
 ) (walk-node-at t) walk-node.Post
-walk-node-walk-one-requires t c κs = (omega (arith, c .before .before .before .before .before .before .before .before .pre .0), (c .before .before .before .before .before .before .before .before .pre .1, sym (c .before .before .before .before .before .before .before .visited .ensures) ∙ c .before .before .before .before .before .parts .given .1))
+walk-node-walk-one-requires t c κs =
+    let at-parts = c .before .before .before .before .before in
+    let start = at-parts .before .before .before in
+    (omega (arith, start .pre .0), (start .pre .1, sym (at-parts .before .before .visited .ensures) ∙ at-parts .parts .given .1))
 
 walk-node-enum-known-parts-2 : (t : ℕ) → walk-node-lts.Need-enum-known-parts-2 (
   visited-reads.Asked,
@@ -202,7 +221,10 @@ walk-node-walk-two-requires : (t : ℕ) → walk-node-lts.Need-walk-two-requires
   walk-two-below t,
   walk-two.Post,
 ) (walk-node-at t) walk-node.Post
-walk-node-walk-two-requires t c κs = (omega (arith, c .before .before .before .before .before .before .before .before .pre .0), (c .before .before .before .before .before .before .before .before .pre .1, sym (c .before .before .before .before .before .before .before .visited .ensures) ∙ c .before .before .before .before .before .parts2 .given .1))
+walk-node-walk-two-requires t c κs =
+    let at-parts2 = c .before .before .before .before .before in
+    let start = at-parts2 .before .before .before in
+    (omega (arith, start .pre .0), (start .pre .1, sym (at-parts2 .before .before .visited .ensures) ∙ at-parts2 .parts2 .given .1))
 
 walk-node-returns : (t : ℕ) → walk-node-lts.Need-returns (
   visited-reads.Asked,
@@ -214,7 +236,14 @@ walk-node-returns : (t : ℕ) → walk-node-lts.Need-returns (
   walk-two-below t,
   walk-two.Post,
 ) (walk-node-at t) walk-node.Post
-walk-node-returns t c = none-ends (c .before .before .before .before .before .before .before .before .args .asked .var) (pointOf (c .before .before .before .before .before .before .before .before .args .asked .point)) (c .before .before .before .before .before .before .before .before .args .asked .order) (c .before .before .before .before .before .before .before .before .args .term) (c .before .before .before .before .before .before .before .before .args .node) (stateOf (c .before .before .before .before .before .before .before .before .args .kinds .now) (c .before .before .before .before .before .before .before .before .args .words .now) (c .before .before .before .before .before .before .before .before .args .marks .now) (c .before .before .before .before .before .before .before .before .args .rows .now) (c .before .before .before .before .before .before .before .before .args .room)) (expansionAt (c .before .before .before .before .before .before .before .before .args .marks .now) (c .before .before .before .before .before .before .before .before .args .rows .now)) (sym (c .before .before .before .before .before .before .before .visited .ensures) ∙ c .before .before .before .before .before .enum-told .given .1) (c .join-in .ensures)
+walk-node-returns t c =
+    let at-enum-told = c .before .before .before .before .before in
+    let start = at-enum-told .before .before .before in
+    let args = start .args in
+    none-ends (args .asked .var) (pointOf (args .asked .point)) (args .asked .order) (args .term) (args .node)
+    (stateOf (args .kinds .now) (args .words .now) (args .marks .now) (args .rows .now) (args .room))
+    (expansionAt (args .marks .now) (args .rows .now)) (sym (at-enum-told .before .before .visited .ensures) ∙ at-enum-told .enum-told .given .1)
+    (c .join-in .ensures)
 
 walk-node-returns-2 : (t : ℕ) → walk-node-lts.Need-returns-2 (
   visited-reads.Asked,
@@ -246,7 +275,9 @@ walk-one-walk-part-requires : (t : ℕ) → walk-one-lts.Need-walk-part-requires
   join-in-reads.Asked,
   join-in-reads.Learnt,
 ) (walk-one-at t) walk-one.Post
-walk-one-walk-part-requires t c κs = (omega (arith, c .before .before .before .before .pre .0), c .before .before .before .before .pre .1 .0)
+walk-one-walk-part-requires t c κs =
+    let start = c .before .before .before .before in
+    (omega (arith, start .pre .0), start .pre .1 .0)
 
 walk-one-enum-known-part : (t : ℕ) → walk-one-lts.Need-enum-known-part (
   walk-part-below t,
@@ -270,7 +301,12 @@ walk-one-returns : (t : ℕ) → walk-one-lts.Need-returns (
   join-in-reads.Asked,
   join-in-reads.Learnt,
 ) (walk-one-at t) walk-one.Post
-walk-one-returns t c = one-refused (c .before .before .before .before .before .before .before .args .asked .var) (pointOf (c .before .before .before .before .before .before .before .args .asked .point)) (c .before .before .before .before .before .before .before .args .asked .order) (c .before .before .before .before .before .before .before .args .term) (c .before .before .before .before .before .before .before .args .node) (stateOf (c .before .before .before .before .before .before .before .args .kinds .now) (c .before .before .before .before .before .before .before .args .words .now) (c .before .before .before .before .before .before .before .args .marks .now) (c .before .before .before .before .before .before .before .args .rows .now) (c .before .before .before .before .before .before .before .args .room)) (c .before .before .walk-part .ensures) (c .enum-told .given .1) (c .before .before .before .before .before .before .before .pre .1 .1)
+walk-one-returns t c =
+    let start = c .before .before .before .before .before .before .before in
+    let args = start .args in
+    one-refused (args .asked .var) (pointOf (args .asked .point)) (args .asked .order) (args .term) (args .node)
+    (stateOf (args .kinds .now) (args .words .now) (args .marks .now) (args .rows .now) (args .room)) (c .before .before .walk-part .ensures)
+    (c .enum-told .given .1) (start .pre .1 .1)
 
 walk-one-join-in-requires : (t : ℕ) → walk-one-lts.Need-join-in-requires (
   walk-part-below t,
@@ -278,7 +314,16 @@ walk-one-join-in-requires : (t : ℕ) → walk-one-lts.Need-join-in-requires (
   join-in-reads.Asked,
   join-in-reads.Learnt,
 ) (walk-one-at t) walk-one.Post
-walk-one-join-in-requires t c κs = (ready-again (c .before .before .before .before .before .before .before .before .before .before .before .before .pre .1 .0) (c .before .before .before .before .before .before .before .walk-part .ensures .sized), one-visited (c .before .before .before .before .before .before .before .before .before .before .before .before .args .asked .var) (pointOf (c .before .before .before .before .before .before .before .before .before .before .before .before .args .asked .point)) (c .before .before .before .before .before .before .before .before .before .before .before .before .args .asked .order) (poolOf (c .before .before .before .before .before .before .before .before .before .before .before .before .args .kinds .now) (c .before .before .before .before .before .before .before .before .before .before .before .before .args .words .now) (c .before .before .before .before .before .before .before .before .before .before .before .before .args .room)) (c .before .before .before .before .before .before .before .before .before .before .before .before .pre .1 .0 .sized) (c .before .before .before .before .before .before .before .before .before .before .before .before .pre .1 .0 .within) (c .before .before .before .before .before .before .before .walk-part .ensures) (c .before .before .before .before .before .part .given .1) (c .before .before .before .before .before .before .before .before .before .before .before .before .args .node) (c .before .before .before .before .before .before .before .before .before .before .before .before .pre .1 .1))
+walk-one-join-in-requires t c κs =
+    let at-part = c .before .before .before .before .before in
+    let at-walk-part = at-part .before .before in
+    let start = at-walk-part .before .before .before .before .before in
+    let args = start .args in (
+      ready-again (start .pre .1 .0) (at-walk-part .walk-part .ensures .sized),
+      one-visited (args .asked .var) (pointOf (args .asked .point)) (args .asked .order) (poolOf (args .kinds .now) (args .words .now) (args .room))
+          (start .pre .1 .0 .sized) (start .pre .1 .0 .within) (at-walk-part .walk-part .ensures) (at-part .part .given .1) (args .node)
+          (start .pre .1 .1),
+    )
 
 walk-one-returns-2 : (t : ℕ) → walk-one-lts.Need-returns-2 (
   walk-part-below t,
@@ -286,23 +331,43 @@ walk-one-returns-2 : (t : ℕ) → walk-one-lts.Need-returns-2 (
   join-in-reads.Asked,
   join-in-reads.Learnt,
 ) (walk-one-at t) walk-one.Post
-walk-one-returns-2 t c = one-ends (c .before .before .before .before .before .before .before .before .before .before .before .before .before .args .asked .var) (pointOf (c .before .before .before .before .before .before .before .before .before .before .before .before .before .args .asked .point)) (c .before .before .before .before .before .before .before .before .before .before .before .before .before .args .asked .order) (c .before .before .before .before .before .before .before .before .before .before .before .before .before .args .term) (c .before .before .before .before .before .before .before .before .before .before .before .before .before .args .node) (stateOf (c .before .before .before .before .before .before .before .before .before .before .before .before .before .args .kinds .now) (c .before .before .before .before .before .before .before .before .before .before .before .before .before .args .words .now) (c .before .before .before .before .before .before .before .before .before .before .before .before .before .args .marks .now) (c .before .before .before .before .before .before .before .before .before .before .before .before .before .args .rows .now) (c .before .before .before .before .before .before .before .before .before .before .before .before .before .args .room)) (c .before .before .before .before .before .before .before .before .walk-part .ensures) (c .before .before .before .before .before .before .part .given .1) (c .before .before .before .before .before .before .before .before .before .before .before .before .before .pre .1 .1) (c .join-in .ensures)
+walk-one-returns-2 t c =
+    let at-part = c .before .before .before .before .before .before in
+    let start = at-part .before .before .before .before .before .before .before in
+    let args = start .args in
+    one-ends (args .asked .var) (pointOf (args .asked .point)) (args .asked .order) (args .term) (args .node)
+    (stateOf (args .kinds .now) (args .words .now) (args .marks .now) (args .rows .now) (args .room)) (at-part .before .before .walk-part .ensures)
+    (at-part .part .given .1) (start .pre .1 .1) (c .join-in .ensures)
 
 walk-part-walk-at-requires : (t : ℕ) → walk-part-lts.Need-walk-at-requires (
   walk-at-below t,
   walk-at.Post,
 ) (walk-part-at t) walk-part.Post
-walk-part-walk-at-requires t c κs = (omega (arith, c .before .before .before .before .before .pre .0, c .before .before .before .before .if1 .taken), ready-below (c .before .before .before .before .before .pre .1) (c .before .before .before .before .if1 .taken))
+walk-part-walk-at-requires t c κs =
+    let at-if1 = c .before .before .before .before in
+    let start = at-if1 .before in
+    (omega (arith, start .pre .0, at-if1 .if1 .taken), ready-below (start .pre .1) (at-if1 .if1 .taken))
 
 walk-part-returns :
     (t : ℕ) →
     walk-part-lts.Need-returns (walk-at-below t, walk-at.Post) (walk-part-at t) walk-part.Post
-walk-part-returns t c = part-below (c .before .before .before .before .before .before .args .asked .var) (pointOf (c .before .before .before .before .before .before .args .asked .point)) (c .before .before .before .before .before .before .args .asked .order) (stateOf (c .before .before .before .before .before .before .args .kinds .now) (c .before .before .before .before .before .before .args .words .now) (c .before .before .before .before .before .before .args .marks .now) (c .before .before .before .before .before .before .args .rows .now) (c .before .before .before .before .before .before .args .room)) (c .before .before .before .before .before .before .args .term) (c .before .before .before .before .before .before .args .a) (c .before .before .before .before .before .if1 .taken) (c .walk-at .ensures)
+walk-part-returns t c =
+    let at-if1 = c .before .before .before .before .before in
+    let start = at-if1 .before in
+    let args = start .args in
+    part-below (args .asked .var) (pointOf (args .asked .point)) (args .asked .order)
+    (stateOf (args .kinds .now) (args .words .now) (args .marks .now) (args .rows .now) (args .room)) (args .term) (args .a) (at-if1 .if1 .taken)
+    (c .walk-at .ensures)
 
 walk-part-returns-2 :
     (t : ℕ) →
     walk-part-lts.Need-returns-2 (walk-at-below t, walk-at.Post) (walk-part-at t) walk-part.Post
-walk-part-returns-2 t c = part-above (c .before .args .asked .var) (pointOf (c .before .args .asked .point)) (c .before .args .asked .order) (stateOf (c .before .args .kinds .now) (c .before .args .words .now) (c .before .args .marks .now) (c .before .args .rows .now) (c .before .args .room)) (c .before .args .term) (c .before .args .a) (c .before .pre .1 .sized) (c .if1 .left)
+walk-part-returns-2 t c =
+    let start = c .before in
+    let args = start .args in
+    part-above (args .asked .var) (pointOf (args .asked .point)) (args .asked .order)
+    (stateOf (args .kinds .now) (args .words .now) (args .marks .now) (args .rows .now) (args .room)) (args .term) (args .a) (start .pre .1 .sized)
+    (c .if1 .left)
 
 walk-two-walk-part-requires : (t : ℕ) → walk-two-lts.Need-walk-part-requires (
   walk-part-below t,
@@ -310,7 +375,9 @@ walk-two-walk-part-requires : (t : ℕ) → walk-two-lts.Need-walk-part-requires
   join-in-reads.Asked,
   join-in-reads.Learnt,
 ) (walk-two-at t) walk-two.Post
-walk-two-walk-part-requires t c κs = (omega (arith, c .before .before .before .before .pre .0), c .before .before .before .before .pre .1 .0)
+walk-two-walk-part-requires t c κs =
+    let start = c .before .before .before .before in
+    (omega (arith, start .pre .0), start .pre .1 .0)
 
 walk-two-enum-known-left : (t : ℕ) → walk-two-lts.Need-enum-known-left (
   walk-part-below t,
@@ -334,7 +401,12 @@ walk-two-returns : (t : ℕ) → walk-two-lts.Need-returns (
   join-in-reads.Asked,
   join-in-reads.Learnt,
 ) (walk-two-at t) walk-two.Post
-walk-two-returns t c = left-refused (c .before .before .before .before .before .before .before .args .asked .var) (pointOf (c .before .before .before .before .before .before .before .args .asked .point)) (c .before .before .before .before .before .before .before .args .asked .order) (c .before .before .before .before .before .before .before .args .term) (c .before .before .before .before .before .before .before .args .node) (stateOf (c .before .before .before .before .before .before .before .args .kinds .now) (c .before .before .before .before .before .before .before .args .words .now) (c .before .before .before .before .before .before .before .args .marks .now) (c .before .before .before .before .before .before .before .args .rows .now) (c .before .before .before .before .before .before .before .args .room)) (c .before .before .walk-part .ensures) (c .enum-told .given .1) (c .before .before .before .before .before .before .before .pre .1 .1)
+walk-two-returns t c =
+    let start = c .before .before .before .before .before .before .before in
+    let args = start .args in
+    left-refused (args .asked .var) (pointOf (args .asked .point)) (args .asked .order) (args .term) (args .node)
+    (stateOf (args .kinds .now) (args .words .now) (args .marks .now) (args .rows .now) (args .room)) (c .before .before .walk-part .ensures)
+    (c .enum-told .given .1) (start .pre .1 .1)
 
 walk-two-walk-part-requires-2 : (t : ℕ) → walk-two-lts.Need-walk-part-requires-2 (
   walk-part-below t,
@@ -342,7 +414,10 @@ walk-two-walk-part-requires-2 : (t : ℕ) → walk-two-lts.Need-walk-part-requir
   join-in-reads.Asked,
   join-in-reads.Learnt,
 ) (walk-two-at t) walk-two.Post
-walk-two-walk-part-requires-2 t c κs = (omega (arith, c .before .before .before .before .before .before .before .before .before .before .before .before .pre .0), ready-again (c .before .before .before .before .before .before .before .before .before .before .before .before .pre .1 .0) (c .before .before .before .before .before .before .before .walk-part .ensures .sized))
+walk-two-walk-part-requires-2 t c κs =
+    let at-walk-part = c .before .before .before .before .before .before .before in
+    let start = at-walk-part .before .before .before .before .before in
+    (omega (arith, start .pre .0), ready-again (start .pre .1 .0) (at-walk-part .walk-part .ensures .sized))
 
 walk-two-enum-known-right : (t : ℕ) → walk-two-lts.Need-enum-known-right (
   walk-part-below t,
@@ -366,7 +441,13 @@ walk-two-returns-2 : (t : ℕ) → walk-two-lts.Need-returns-2 (
   join-in-reads.Asked,
   join-in-reads.Learnt,
 ) (walk-two-at t) walk-two.Post
-walk-two-returns-2 t c = right-refused (c .before .before .before .before .before .before .before .before .before .before .before .before .before .before .before .args .asked .var) (pointOf (c .before .before .before .before .before .before .before .before .before .before .before .before .before .before .before .args .asked .point)) (c .before .before .before .before .before .before .before .before .before .before .before .before .before .before .before .args .asked .order) (c .before .before .before .before .before .before .before .before .before .before .before .before .before .before .before .args .term) (c .before .before .before .before .before .before .before .before .before .before .before .before .before .before .before .args .node) (stateOf (c .before .before .before .before .before .before .before .before .before .before .before .before .before .before .before .args .kinds .now) (c .before .before .before .before .before .before .before .before .before .before .before .before .before .before .before .args .words .now) (c .before .before .before .before .before .before .before .before .before .before .before .before .before .before .before .args .marks .now) (c .before .before .before .before .before .before .before .before .before .before .before .before .before .before .before .args .rows .now) (c .before .before .before .before .before .before .before .before .before .before .before .before .before .before .before .args .room)) (c .before .before .before .before .before .before .before .before .before .before .walk-part .ensures) (c .before .before .before .before .before .before .before .before .left .given .1) (c .before .before .walk-part2 .ensures) (c .enum-told2 .given .1) (c .before .before .before .before .before .before .before .before .before .before .before .before .before .before .before .pre .1 .1)
+walk-two-returns-2 t c =
+    let at-left = c .before .before .before .before .before .before .before .before in
+    let start = at-left .before .before .before .before .before .before .before in
+    let args = start .args in
+    right-refused (args .asked .var) (pointOf (args .asked .point)) (args .asked .order) (args .term) (args .node)
+    (stateOf (args .kinds .now) (args .words .now) (args .marks .now) (args .rows .now) (args .room)) (at-left .before .before .walk-part .ensures)
+    (at-left .left .given .1) (c .before .before .walk-part2 .ensures) (c .enum-told2 .given .1) (start .pre .1 .1)
 
 walk-two-join-in-requires : (t : ℕ) → walk-two-lts.Need-join-in-requires (
   walk-part-below t,
@@ -374,7 +455,17 @@ walk-two-join-in-requires : (t : ℕ) → walk-two-lts.Need-join-in-requires (
   join-in-reads.Asked,
   join-in-reads.Learnt,
 ) (walk-two-at t) walk-two.Post
-walk-two-join-in-requires t c κs = (ready-again (c .before .before .before .before .before .before .before .before .before .before .before .before .before .before .before .before .before .before .before .before .pre .1 .0) (c .before .before .before .before .before .before .before .walk-part2 .ensures .sized), two-visited (c .before .before .before .before .before .before .before .before .before .before .before .before .before .before .before .before .before .before .before .before .args .asked .var) (pointOf (c .before .before .before .before .before .before .before .before .before .before .before .before .before .before .before .before .before .before .before .before .args .asked .point)) (c .before .before .before .before .before .before .before .before .before .before .before .before .before .before .before .before .before .before .before .before .args .asked .order) (poolOf (c .before .before .before .before .before .before .before .before .before .before .before .before .before .before .before .before .before .before .before .before .args .kinds .now) (c .before .before .before .before .before .before .before .before .before .before .before .before .before .before .before .before .before .before .before .before .args .words .now) (c .before .before .before .before .before .before .before .before .before .before .before .before .before .before .before .before .before .before .before .before .args .room)) (c .before .before .before .before .before .before .before .before .before .before .before .before .before .before .before .before .before .before .before .before .pre .1 .0 .sized) (c .before .before .before .before .before .before .before .before .before .before .before .before .before .before .before .before .before .before .before .before .pre .1 .0 .within) (c .before .before .before .before .before .before .before .before .before .before .before .before .before .before .before .walk-part .ensures) (c .before .before .before .before .before .before .before .before .before .before .before .before .before .left .given .1) (c .before .before .before .before .before .before .before .walk-part2 .ensures) (c .before .before .before .before .before .right .given .1) (c .before .before .before .before .before .before .before .before .before .before .before .before .before .before .before .before .before .before .before .before .args .node) (c .before .before .before .before .before .before .before .before .before .before .before .before .before .before .before .before .before .before .before .before .pre .1 .1))
+walk-two-join-in-requires t c κs =
+    let at-right = c .before .before .before .before .before in
+    let at-walk-part2 = at-right .before .before in
+    let at-left = at-walk-part2 .before .before .before .before .before .before in
+    let start = at-left .before .before .before .before .before .before .before in
+    let args = start .args in (
+      ready-again (start .pre .1 .0) (at-walk-part2 .walk-part2 .ensures .sized),
+      two-visited (args .asked .var) (pointOf (args .asked .point)) (args .asked .order) (poolOf (args .kinds .now) (args .words .now) (args .room))
+          (start .pre .1 .0 .sized) (start .pre .1 .0 .within) (at-left .before .before .walk-part .ensures) (at-left .left .given .1)
+          (at-walk-part2 .walk-part2 .ensures) (at-right .right .given .1) (args .node) (start .pre .1 .1),
+    )
 
 walk-two-returns-3 : (t : ℕ) → walk-two-lts.Need-returns-3 (
   walk-part-below t,
@@ -382,7 +473,14 @@ walk-two-returns-3 : (t : ℕ) → walk-two-lts.Need-returns-3 (
   join-in-reads.Asked,
   join-in-reads.Learnt,
 ) (walk-two-at t) walk-two.Post
-walk-two-returns-3 t c = two-ends (c .before .before .before .before .before .before .before .before .before .before .before .before .before .before .before .before .before .before .before .before .before .args .asked .var) (pointOf (c .before .before .before .before .before .before .before .before .before .before .before .before .before .before .before .before .before .before .before .before .before .args .asked .point)) (c .before .before .before .before .before .before .before .before .before .before .before .before .before .before .before .before .before .before .before .before .before .args .asked .order) (poolOf (c .before .before .before .before .before .before .before .before .before .before .before .before .before .before .before .before .before .before .before .before .before .args .kinds .now) (c .before .before .before .before .before .before .before .before .before .before .before .before .before .before .before .before .before .before .before .before .before .args .words .now) (c .before .before .before .before .before .before .before .before .before .before .before .before .before .before .before .before .before .before .before .before .before .args .room)) (c .before .before .before .before .before .before .before .before .before .before .before .before .before .before .before .before .before .before .before .before .before .pre .1 .0 .sized) (c .before .before .before .before .before .before .before .before .before .before .before .before .before .before .before .before .before .before .before .before .before .pre .1 .0 .within) (c .before .before .before .before .before .before .before .before .before .before .before .before .before .before .before .before .walk-part .ensures) (c .before .before .before .before .before .before .before .before .before .before .before .before .before .before .left .given .1) (c .before .before .before .before .before .before .before .before .walk-part2 .ensures) (c .before .before .before .before .before .before .right .given .1) (c .before .before .before .before .before .before .before .before .before .before .before .before .before .before .before .before .before .before .before .before .before .args .node) (c .before .before .before .before .before .before .before .before .before .before .before .before .before .before .before .before .before .before .before .before .before .pre .1 .1) (c .join-in .ensures)
+walk-two-returns-3 t c =
+    let at-right = c .before .before .before .before .before .before in
+    let at-left = at-right .before .before .before .before .before .before .before .before in
+    let start = at-left .before .before .before .before .before .before .before in
+    let args = start .args in
+    two-ends (args .asked .var) (pointOf (args .asked .point)) (args .asked .order) (poolOf (args .kinds .now) (args .words .now) (args .room))
+    (start .pre .1 .0 .sized) (start .pre .1 .0 .within) (at-left .before .before .walk-part .ensures) (at-left .left .given .1)
+    (at-right .before .before .walk-part2 .ensures) (at-right .right .given .1) (args .node) (start .pre .1 .1) (c .join-in .ensures)
 
 pub +walk-at+walk-node+walk-one+walk-part+walk-two-spec : {M : Type 1} → statement M
 +walk-at+walk-node+walk-one+walk-part+walk-two-spec =

@@ -17,22 +17,38 @@ use Rattle.expand.proofs.walk.expand_in.Statement.{statement}
 use Rattle.expand.proofs.walk.expand_in.Tie as tie
 
 walk-at-requires : tie.Need-walk-at-requires
-walk-at-requires c κs = record { within = omega (arith, c .before .before .before .before .if1 .taken); small = c .before .before .before .before .before .pre; sized = blank-sized zeroes }
+walk-at-requires c κs =
+    let at-if1 = c .before .before .before .before in
+    record { within = omega (arith, at-if1 .if1 .taken); small = at-if1 .before .pre; sized = blank-sized zeroes }
 
 answer-at-requires : tie.Need-answer-at-requires
-answer-at-requires c κs = root-marked (c .before .before .before .before .before .before .before .before .args .var) (pointOf (c .before .before .before .before .before .before .before .before .args .point)) (c .before .before .before .before .before .before .before .before .args .order) (poolOf (c .before .before .before .before .before .before .before .before .args .kinds .now) (c .before .before .before .before .before .before .before .before .args .words .now) (c .before .before .before .before .before .before .before .before .args .room)) zeroes (c .before .before .before .before .before .before .before .before .args .root) (omega (arith, c .before .before .before .before .before .before .before .if1 .taken)) (c .before .before .walk-at .ensures)
+answer-at-requires c κs =
+    let at-if1 = c .before .before .before .before .before .before .before in
+    let start = at-if1 .before in
+    let args = start .args in
+    root-marked (args .var) (pointOf (args .point)) (args .order) (poolOf (args .kinds .now) (args .words .now) (args .room)) zeroes (args .root)
+    (omega (arith, at-if1 .if1 .taken)) (c .before .before .walk-at .ensures)
 
 returns : tie.Need-returns
 returns c =
+    let start = c .before .before .before .before .before .before .before .before .before in
+    let args = start .args in
     let walk = c .before .before .before .walk-at in
     answers-same (c .answer-at .ensures (walk .last .0) (walk .last .1 .0))
-    (ap rootResult (walk .ensures .is ∙ whole (c .before .before .before .before .before .before .before .before .before .args .var) (pointOf (c .before .before .before .before .before .before .before .before .before .args .point)) (c .before .before .before .before .before .before .before .before .before .args .order) (poolOf (c .before .before .before .before .before .before .before .before .before .args .kinds .now) (c .before .before .before .before .before .before .before .before .before .args .words .now) (c .before .before .before .before .before .before .before .before .before .args .room)) zeroes (c .before .before .before .before .before .before .before .before .before .args .root)))
+    (ap rootResult
+    (walk .ensures .is ∙ whole (args .var) (pointOf (args .point)) (args .order) (poolOf (args .kinds .now) (args .words .now) (args .room)) zeroes
+    (args .root)))
 
 answer-of-requires : tie.Need-answer-of-requires
 answer-of-requires c κs = search needs
 
 returns-2 : tie.Need-returns-2
-returns-2 c = refusal-answers (Refused brokenPool) _ _ (c .answer-of .ensures) refl (nowhere (c .before .before .args .var) (pointOf (c .before .before .args .point)) (c .before .before .args .order) (c .before .before .args .root) (poolOf (c .before .before .args .kinds .now) (c .before .before .args .words .now) (c .before .before .args .room)) (c .before .if1 .left))
+returns-2 c =
+    let start = c .before .before in
+    let args = start .args in
+    refusal-answers (Refused brokenPool) _ _ (c .answer-of .ensures) refl
+    (nowhere (args .var) (pointOf (args .point)) (args .order) (args .root) (poolOf (args .kinds .now) (args .words .now) (args .room))
+    (c .before .if1 .left))
 
 pub expand-in-spec : {M : Type 1} → statement M
 expand-in-spec =

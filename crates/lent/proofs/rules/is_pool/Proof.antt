@@ -9,32 +9,51 @@ use Rattle.lent.proofs.rules.is_pool.Statement.{statement}
 use Rattle.lent.proofs.rules.is_pool.Tie as tie
 
 returns : tie.Need-returns
-returns c = breaks (c .before .before .before .args .kinds .now) (c .before .before .before .args .words .now) (c .before .before .before .args .count) (λ r. c .if1 .taken (r .kinds-long))
+returns c =
+    let start = c .before .before .before in
+    breaks (start .args .kinds .now) (start .args .words .now) (start .args .count) (λ r. c .if1 .taken (r .kinds-long))
 
 returns-2 : tie.Need-returns-2
-returns-2 c = breaks (c .before .before .before .before .args .kinds .now) (c .before .before .before .before .args .words .now) (c .before .before .before .before .args .count) (λ r. c .if2 .taken (r .words-long))
+returns-2 c =
+    let start = c .before .before .before .before in
+    breaks (start .args .kinds .now) (start .args .words .now) (start .args .count) (λ r. c .if2 .taken (r .words-long))
 
 returns-3 : tie.Need-returns-3
-returns-3 c = breaks (c .before .before .before .before .before .args .kinds .now) (c .before .before .before .before .before .args .words .now) (c .before .before .before .before .before .args .count) (λ r. omega (arith, c .if3 .taken, r .within))
+returns-3 c =
+    let start = c .before .before .before .before .before in
+    breaks (start .args .kinds .now) (start .args .words .now) (start .args .count) (λ r. omega (arith, c .if3 .taken, r .within))
 
 nodes-keep-requires : tie.Need-nodes-keep-requires
 nodes-keep-requires c κs = search needs
 
 returns-4 : tie.Need-returns-4
-returns-4 c = breaks (c .before .before .before .before .before .before .before .args .kinds .now) (c .before .before .before .before .before .before .before .args .words .now) (c .before .before .before .before .before .before .before .args .count) (node-breaks (c .before .before .before .before .before .before .before .args .kinds .now) (c .before .before .before .before .before .before .before .args .words .now) (c .before .before .before .before .before .before .before .args .count) (sym (c .before .nodes-keep .ensures) ∙ not-true _ (c .if4 .taken)))
+returns-4 c =
+    let start = c .before .before .before .before .before .before .before in
+    breaks (start .args .kinds .now) (start .args .words .now) (start .args .count)
+    (node-breaks (start .args .kinds .now) (start .args .words .now) (start .args .count)
+    (sym (c .before .nodes-keep .ensures) ∙ not-true _ (c .if4 .taken)))
 
 kinds-rest-requires : tie.Need-kinds-rest-requires
 kinds-rest-requires c κs = search needs
 
 returns-5 : tie.Need-returns-5
-returns-5 c = breaks (c .before .before .before .before .before .before .before .before .before .args .kinds .now) (c .before .before .before .before .before .before .before .before .before .args .words .now) (c .before .before .before .before .before .before .before .before .before .args .count) (kind-breaks (c .before .before .before .before .before .before .before .before .before .args .kinds .now) (c .before .before .before .before .before .before .before .before .before .args .words .now) (c .before .before .before .before .before .before .before .before .before .args .count) (sym (c .before .kinds-rest .ensures) ∙ not-true _ (c .if5 .taken)))
+returns-5 c =
+    let start = c .before .before .before .before .before .before .before .before .before in
+    breaks (start .args .kinds .now) (start .args .words .now) (start .args .count)
+    (kind-breaks (start .args .kinds .now) (start .args .words .now) (start .args .count)
+    (sym (c .before .kinds-rest .ensures) ∙ not-true _ (c .if5 .taken)))
 
 words-rest-requires : tie.Need-words-rest-requires
 words-rest-requires c κs = search needs
 
 returns-6 : tie.Need-returns-6
 returns-6 c =
-    words-decide (c .before .before .before .before .before .before .before .before .before .before .args .kinds .now) (c .before .before .before .before .before .before .before .before .before .before .args .words .now) (c .before .before .before .before .before .before .before .before .before .before .args .count) (c .before .before .before .before .before .before .before .if1 .left) (c .before .before .before .before .before .before .if2 .left) (omega (arith, c .before .before .before .before .before .if3 .left)) (sym (c .before .before .before .before .nodes-keep .ensures) ∙ not-false _ (c .before .before .before .if4 .left)) (sym (c .before .before .kinds-rest .ensures) ∙ not-false _ (c .before .if5 .left)) (c .words-rest .ensures)
+    let at-nodes-keep = c .before .before .before .before in
+    let start = at-nodes-keep .before .before .before .before .before .before in
+    words-decide (start .args .kinds .now) (start .args .words .now) (start .args .count) (at-nodes-keep .before .before .before .if1 .left)
+    (at-nodes-keep .before .before .if2 .left) (omega (arith, at-nodes-keep .before .if3 .left))
+    (sym (at-nodes-keep .nodes-keep .ensures) ∙ not-false _ (c .before .before .before .if4 .left))
+    (sym (c .before .before .kinds-rest .ensures) ∙ not-false _ (c .before .if5 .left)) (c .words-rest .ensures)
 
 pub is-pool-spec : {M : Type 1} → statement M
 is-pool-spec =

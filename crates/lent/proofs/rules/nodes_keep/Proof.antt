@@ -32,7 +32,9 @@ mul-decode : tie.Need-mul-decode Inv-loop μ-loop
 mul-decode c = record { fits = omega (arith, c .before .loop-test .taken, c .before .before .before .before .before .pre .0) }
 
 shared-slice-read-decode-2 : tie.Need-shared-slice-read-decode-2 Inv-loop μ-loop
-shared-slice-read-decode-2 c = omega (arith, c .before .before .loop-test .taken, c .before .before .before .before .before .before .pre)
+shared-slice-read-decode-2 c =
+    let start = c .before .before .before .before .before .before in
+    omega (arith, c .before .before .loop-test .taken, start .pre)
 
 decode-requires : tie.Need-decode-requires Inv-loop μ-loop
 decode-requires c κs = search needs
@@ -42,23 +44,32 @@ may-stand-at-requires c κs = search needs
 
 returns : tie.Need-returns Inv-loop μ-loop
 returns c =
+    let start = c .before .before .before .before .before .before .before .before .before in
     let i = c .before .before .before .before .before .before .loop .i in
     let turn = c .before .before .before .before .before .loop-test .taken in
     let stands = c .before .may-stand-at .ensures ∙ ap (mayStandAt i) (c .before .before .decode .ensures) in
-    sym (each-fails _ _ i turn (entry-before (c .before .before .before .before .before .before .before .before .before .args .kinds .now) (c .before .before .before .before .before .before .before .before .before .args .words .now) _ i turn ∙ sym stands ∙ not-true _ (c .if1 .taken)))
+    sym (each-fails _ _ i turn (entry-before (start .args .kinds .now) (start .args .words .now) _ i turn ∙ sym stands ∙ not-true _ (c .if1 .taken)))
 
 add-i : tie.Need-add-i Inv-loop μ-loop
-add-i c = omega (arith, c .before .before .before .before .before .loop-test .taken, c .before .before .before .before .before .before .before .before .before .fits .count .fits)
+add-i c =
+    let at-loop-test = c .before .before .before .before .before in
+    let start = at-loop-test .before .before .before .before in
+    omega (arith, at-loop-test .loop-test .taken, start .fits .count .fits)
 
 loop-less : tie.Need-loop-less Inv-loop μ-loop
 loop-less c = omega (arith, c .before .before .before .before .before .loop-test .taken)
 
 loop-again : tie.Need-loop-again Inv-loop μ-loop
 loop-again c =
-    let i = c .before .before .before .before .before .before .loop .i in
+    let at-loop = c .before .before .before .before .before .before in
+    let start = at-loop .before .before .before in
+    let i = at-loop .loop .i in
     let turn = c .before .before .before .before .before .loop-test .taken in
-    let stands = c .before .may-stand-at .ensures ∙ ap (mayStandAt i) (c .before .before .decode .ensures) in
-    (omega (arith, turn), each-more _ i (c .before .before .before .before .before .before .loop .inv .1) (entry-before (c .before .before .before .before .before .before .before .before .before .args .kinds .now) (c .before .before .before .before .before .before .before .before .before .args .words .now) _ i turn ∙ sym stands ∙ not-false _ (c .if1 .left)))
+    let stands = c .before .may-stand-at .ensures ∙ ap (mayStandAt i) (c .before .before .decode .ensures) in (
+      omega (arith, turn),
+      each-more _ i (at-loop .loop .inv .1)
+          (entry-before (start .args .kinds .now) (start .args .words .now) _ i turn ∙ sym stands ∙ not-false _ (c .if1 .left)),
+    )
 
 returns-2 : tie.Need-returns-2 Inv-loop μ-loop
 returns-2 c =
@@ -68,4 +79,5 @@ returns-2 c =
 
 pub nodes-keep-spec : {M : Type 1} → statement M
 nodes-keep-spec =
-    tie.close (tie.spec Inv-loop μ-loop loop-holds cast-may-stand-at shared-slice-read-decode mul-decode shared-slice-read-decode-2 decode-requires may-stand-at-requires returns add-i loop-less loop-again returns-2)
+    tie.close (tie.spec Inv-loop μ-loop loop-holds cast-may-stand-at shared-slice-read-decode mul-decode shared-slice-read-decode-2 decode-requires
+    may-stand-at-requires returns add-i loop-less loop-again returns-2)

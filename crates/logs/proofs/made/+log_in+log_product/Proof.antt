@@ -206,7 +206,9 @@ log-in-sub-log-product : (t : ℕ) → log-in-lts.Need-sub-log-product (
   append-reads.Asked,
   append-reads.Learnt,
 ) (log-in-at t) log-in.Post
-log-in-sub-log-product t c = omega (arith, c .before .before .before .before .before .before .before .before .if1 .left)
+log-in-sub-log-product t c =
+    let at-if1 = c .before .before .before .before .before .before .before .before in
+    omega (arith, at-if1 .if1 .left)
 
 log-in-log-product-requires : (t : ℕ) → log-in-lts.Need-log-product-requires (
   log-rule-reads.Asked,
@@ -222,7 +224,9 @@ log-in-log-product-requires : (t : ℕ) → log-in-lts.Need-log-product-requires
   append-reads.Asked,
   append-reads.Learnt,
 ) (log-in-at t) log-in.Post
-log-in-log-product-requires t c κs = (omega (arith, c .before .before .before .before .before .before .before .before .before .pre .0, c .before .before .before .before .before .before .before .before .if1 .left), tt)
+log-in-log-product-requires t c κs =
+    let at-if1 = c .before .before .before .before .before .before .before .before in
+    (omega (arith, at-if1 .before .pre .0, at-if1 .if1 .left), tt)
 
 log-in-enum-known-rule-3 : (t : ℕ) → log-in-lts.Need-enum-known-rule-3 (
   log-rule-reads.Asked,
@@ -272,8 +276,10 @@ log-in-returns-2 : (t : ℕ) → log-in-lts.Need-returns-2 (
 ) (log-in-at t) log-in.Post
 unfolding build
 log-in-returns-2 t c =
-    rw (runs-deeper (c .before .before .before .before .before .before .before .before .before .before .args .left) (c .before .before .before .before .before .before .before .before .before .if1 .left))
-    (ruled _ _ logTerm (c .before .before .before .before .before .before .log-rule .ensures) (c .before .before .before .before .enum-told .given .1)
+    let at-enum-told = c .before .before .before .before in
+    let at-if1 = at-enum-told .before .before .before .before .before in
+    rw (runs-deeper (at-if1 .before .args .left) (at-if1 .if1 .left))
+    (ruled _ _ logTerm (at-enum-told .before .before .log-rule .ensures) (at-enum-told .enum-told .given .1)
     (literal-made _ (c .before .fold .ensures) (c .lit-in .ensures)))
 
 log-in-returns-3 : (t : ℕ) → log-in-lts.Need-returns-3 (
@@ -292,9 +298,13 @@ log-in-returns-3 : (t : ℕ) → log-in-lts.Need-returns-3 (
 ) (log-in-at t) log-in.Post
 unfolding build
 log-in-returns-3 t c =
-    rw (runs-deeper (c .before .before .before .before .before .before .before .before .before .before .before .args .left) (c .before .before .before .before .before .before .before .before .before .before .if1 .left))
-    (ruled _ _ logTerm (c .before .before .before .before .before .before .before .log-rule .ensures) (c .before .before .before .before .before .rule .given .1)
-    (literal-made _ (c .before .log-literal .ensures ∙ ap logOf (toZ-ofZ w64 (c .before .before .before .before .before .rule .given .0 .0) (record { sfits = c .before .before .before .before .known-told .given .0 .1 }))) (c .lit-in2 .ensures)))
+    let at-known-told = c .before .before .before .before in
+    let at-if1 = at-known-told .before .before .before .before .before .before in
+    rw (runs-deeper (at-if1 .before .args .left) (at-if1 .if1 .left))
+    (ruled _ _ logTerm (at-known-told .before .before .before .log-rule .ensures) (at-known-told .before .rule .given .1)
+    (literal-made _
+    (c .before .log-literal .ensures ∙ ap logOf
+    (toZ-ofZ w64 (at-known-told .before .rule .given .0 .0) (record { sfits = at-known-told .known-told .given .0 .1 }))) (c .lit-in2 .ensures)))
 
 log-in-returns-4 : (t : ℕ) → log-in-lts.Need-returns-4 (
   log-rule-reads.Asked,
@@ -311,9 +321,12 @@ log-in-returns-4 : (t : ℕ) → log-in-lts.Need-returns-4 (
   append-reads.Learnt,
 ) (log-in-at t) log-in.Post
 log-in-returns-4 t c =
-    rw (runs-deeper (c .before .before .before .before .before .before .before .before .before .before .args .left) (c .before .before .before .before .before .before .before .before .before .if1 .left))
-    (ruled _ _ logTerm (c .before .before .before .before .before .before .log-rule .ensures) (c .before .before .before .before .rule2 .given .1)
-    (renumbered _ _ (λ z. add (log (# (c .before .before .before .before .rule2 .given .0 .1 .0))) (lit-log z)) (toZ-ofZ w64 (c .before .before .before .before .rule2 .given .0 .0) (record { sfits = c .before .before .before .known-told2 .given .0 .1 })) (c .log-product .ensures)))
+    let at-rule2 = c .before .before .before .before in
+    let at-if1 = at-rule2 .before .before .before .before .before in
+    rw (runs-deeper (at-if1 .before .args .left) (at-if1 .if1 .left))
+    (ruled _ _ logTerm (at-rule2 .before .before .log-rule .ensures) (at-rule2 .rule2 .given .1)
+    (renumbered _ _ (λ z. add (log (# (at-rule2 .rule2 .given .0 .1 .0))) (lit-log z))
+    (toZ-ofZ w64 (at-rule2 .rule2 .given .0 .0) (record { sfits = c .before .before .before .known-told2 .given .0 .1 })) (c .log-product .ensures)))
 
 log-in-returns-5 : (t : ℕ) → log-in-lts.Need-returns-5 (
   log-rule-reads.Asked,
@@ -331,8 +344,10 @@ log-in-returns-5 : (t : ℕ) → log-in-lts.Need-returns-5 (
 ) (log-in-at t) log-in.Post
 unfolding build
 log-in-returns-5 t c =
-    rw (runs-deeper (c .before .before .before .before .before .before .before .before .before .before .args .left) (c .before .before .before .before .before .before .before .before .before .if1 .left))
-    (ruled _ _ logTerm (c .before .before .before .before .before .before .log-rule .ensures) (c .before .before .before .before .rule3 .given .1)
+    let at-rule3 = c .before .before .before .before in
+    let at-if1 = at-rule3 .before .before .before .before .before in
+    rw (runs-deeper (at-if1 .before .args .left) (at-if1 .if1 .left))
+    (ruled _ _ logTerm (at-rule3 .before .before .log-rule .ensures) (at-rule3 .rule3 .given .1)
     (c .append .ensures))
 
 log-product-log-in-requires : (t : ℕ) → log-product-lts.Need-log-in-requires (
@@ -446,10 +461,14 @@ log-product-returns-2 : (t : ℕ) → log-product-lts.Need-returns-2 (
 ) (log-product-at t) log-product.Post
 unfolding build
 log-product-returns-2 t c =
-    onward (c .before .before .before .before .before .before .before .before .before .log-in .last .0) (c .before .before .before .before .before .before .before .before .before .log-in .last .1 .0) _ (c .before .before .before .before .before .before .before .inner .given .1)
-    (c .before .before .before .before .before .before .before .before .before .log-in .ensures)
-    (stopped (c .before .before .lit-in .last .0) (c .before .before .lit-in .last .1 .0) _ _ _ (c .enum-told2 .given .1)
-    (literal-made _ (c .before .before .before .log-literal .ensures ∙ ap logOf (toZ-ofZ w64 (c .before .before .before .before .before .before .before .before .before .before .before .before .args .a) (c .before .before .before .before .before .before .before .before .before .before .before .before .fits .a))) (c .before .before .lit-in .ensures)))
+    let at-lit-in = c .before .before in
+    let at-inner = at-lit-in .before .before .before .before .before in
+    let at-log-in = at-inner .before .before in
+    let start = at-log-in .before .before .before in
+    onward (at-log-in .log-in .last .0) (at-log-in .log-in .last .1 .0) _ (at-inner .inner .given .1)
+    (at-log-in .log-in .ensures)
+    (stopped (at-lit-in .lit-in .last .0) (at-lit-in .lit-in .last .1 .0) _ _ _ (c .enum-told2 .given .1)
+    (literal-made _ (at-lit-in .before .log-literal .ensures ∙ ap logOf (toZ-ofZ w64 (start .args .a) (start .fits .a))) (at-lit-in .lit-in .ensures)))
 
 log-product-add-in-requires : (t : ℕ) → log-product-lts.Need-add-in-requires (
   log-in-below t,
@@ -475,10 +494,15 @@ log-product-returns-3 : (t : ℕ) → log-product-lts.Need-returns-3 (
 ) (log-product-at t) log-product.Post
 unfolding build
 log-product-returns-3 t c =
-    onward (c .before .before .before .before .before .before .before .before .before .before .before .before .before .log-in .last .0) (c .before .before .before .before .before .before .before .before .before .before .before .before .before .log-in .last .1 .0) _ (c .before .before .before .before .before .before .before .before .before .before .before .inner .given .1)
-    (c .before .before .before .before .before .before .before .before .before .before .before .before .before .log-in .ensures)
-    (onward (c .before .before .before .before .before .before .lit-in .last .0) (c .before .before .before .before .before .before .lit-in .last .1 .0) _ (c .before .before .before .before .lit .given .1)
-    (literal-made _ (c .before .before .before .before .before .before .before .log-literal .ensures ∙ ap logOf (toZ-ofZ w64 (c .before .before .before .before .before .before .before .before .before .before .before .before .before .before .before .before .args .a) (c .before .before .before .before .before .before .before .before .before .before .before .before .before .before .before .before .fits .a))) (c .before .before .before .before .before .before .lit-in .ensures))
+    let at-lit = c .before .before .before .before in
+    let at-lit-in = at-lit .before .before in
+    let at-inner = at-lit-in .before .before .before .before .before in
+    let at-log-in = at-inner .before .before in
+    let start = at-log-in .before .before .before in
+    onward (at-log-in .log-in .last .0) (at-log-in .log-in .last .1 .0) _ (at-inner .inner .given .1)
+    (at-log-in .log-in .ensures)
+    (onward (at-lit-in .lit-in .last .0) (at-lit-in .lit-in .last .1 .0) _ (at-lit .lit .given .1)
+    (literal-made _ (at-lit-in .before .log-literal .ensures ∙ ap logOf (toZ-ofZ w64 (start .args .a) (start .fits .a))) (at-lit-in .lit-in .ensures))
     (c .add-in .ensures))
 
 pub +log-in+log-product-spec : {M : Type 1} → statement M

@@ -36,22 +36,27 @@ append-requires c κs = search needs
 returns-2 : tie.Need-returns-2
 unfolding build
 returns-2 c =
-    rw (runs-deeper (c .before .before .before .before .before .before .before .before .before .before .args .left) (c .before .before .before .before .before .before .before .before .before .if1 .left))
-    (ruled _ _ divTerm (c .before .before .before .before .before .before .div-rule .ensures) (c .before .before .before .before .enum-told .given .1)
+    let at-enum-told = c .before .before .before .before in
+    let at-if1 = at-enum-told .before .before .before .before .before in
+    rw (runs-deeper (at-if1 .before .args .left) (at-if1 .if1 .left))
+    (ruled _ _ divTerm (at-enum-told .before .before .div-rule .ensures) (at-enum-told .enum-told .given .1)
     (literal-made _ (c .before .fold .ensures) (c .lit-in .ensures)))
 
 returns-3 : tie.Need-returns-3
 unfolding build
 returns-3 c =
-    rw (runs-deeper (c .before .before .before .before .before .before .before .args .left) (c .before .before .before .before .before .before .if1 .left))
+    let at-if1 = c .before .before .before .before .before .before in
+    rw (runs-deeper (at-if1 .before .args .left) (at-if1 .if1 .left))
     (ruled _ _ divTerm (c .before .before .before .div-rule .ensures) (c .before .rule .given .1)
     refl)
 
 returns-4 : tie.Need-returns-4
 unfolding build
 returns-4 c =
-    rw (runs-deeper (c .before .before .before .before .before .before .before .before .before .before .args .left) (c .before .before .before .before .before .before .before .before .before .if1 .left))
-    (ruled _ _ divTerm (c .before .before .before .before .before .before .div-rule .ensures) (c .before .before .before .before .rule2 .given .1)
+    let at-rule2 = c .before .before .before .before in
+    let at-if1 = at-rule2 .before .before .before .before .before in
+    rw (runs-deeper (at-if1 .before .args .left) (at-if1 .if1 .left))
+    (ruled _ _ divTerm (at-rule2 .before .before .div-rule .ensures) (at-rule2 .rule2 .given .1)
     (c .append .ensures))
 
 pub div-in-spec : {M : Type 1} → statement M

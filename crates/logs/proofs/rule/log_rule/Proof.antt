@@ -25,12 +25,13 @@ is-one-requires c κs = search needs
 
 returns : tie.Need-returns
 returns c =
-    let a = c .before .before .before .before .before .before .args in
+    let at-shape-at = c .before .before .before .before .before in
+    let a = at-shape-at .before .args in
     let at = nodeIn (now (a .kinds)) (now (a .words)) in
     let v = c .before .before .before .shape .given in
     let e : toZ w64 (ofZ w64 (v .0 .0)) ≡ v .0 .0 = toZ-ofZ w64 (v .0 .0) (record { sfits = c .before .before .known-told .given .0 .1 }) in
     log-of-one at (a .arg)
-    (lit-found (at (a .arg)) (c .before .before .before .before .before .shape-at .ensures) (v .1))
+    (lit-found (at (a .arg)) (at-shape-at .shape-at .ensures) (v .1))
     (tested isOne e (c .before .is-one .ensures) (c .if1 .taken))
 
 enum-known-shape-2 : tie.Need-enum-known-shape-2
@@ -55,13 +56,14 @@ returns-2 c =
 
 returns-3 : tie.Need-returns-3
 returns-3 c =
-    let a = c .before .before .before .before .before .before .args in
+    let at-shape-at = c .before .before .before .before .before in
+    let a = at-shape-at .before .args in
     let at = nodeIn (now (a .kinds)) (now (a .words)) in
     let v = c .before .before .before .shape .given in
     let e : toZ w64 (ofZ w64 (v .0 .0)) ≡ v .0 .0 = toZ-ofZ w64 (v .0 .0) (record { sfits = c .before .before .known-told .given .0 .1 }) in
     rw e
     (log-of-lit at (a .arg)
-    (lit-found (at (a .arg)) (c .before .before .before .before .before .shape-at .ensures) (v .1))
+    (lit-found (at (a .arg)) (at-shape-at .shape-at .ensures) (v .1))
     (tested isOne e (c .before .is-one .ensures) (c .if1 .left)))
 
 returns-4 : tie.Need-returns-4

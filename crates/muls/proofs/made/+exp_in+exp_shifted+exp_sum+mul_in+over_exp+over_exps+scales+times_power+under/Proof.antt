@@ -304,7 +304,9 @@ exp-in-sub-exp-shifted : (t : ℕ) → exp-in-lts.Need-sub-exp-shifted (
   append-reads.Asked,
   append-reads.Learnt,
 ) (exp-in-at t) exp-in.Post
-exp-in-sub-exp-shifted t c = omega (arith, c .before .before .before .before .before .before .before .before .if1 .left)
+exp-in-sub-exp-shifted t c =
+    let at-if1 = c .before .before .before .before .before .before .before .before in
+    omega (arith, at-if1 .if1 .left)
 
 exp-in-exp-shifted-requires : (t : ℕ) → exp-in-lts.Need-exp-shifted-requires (
   exp-rule-reads.Asked,
@@ -320,7 +322,9 @@ exp-in-exp-shifted-requires : (t : ℕ) → exp-in-lts.Need-exp-shifted-requires
   append-reads.Asked,
   append-reads.Learnt,
 ) (exp-in-at t) exp-in.Post
-exp-in-exp-shifted-requires t c κs = (omega (arith, c .before .before .before .before .before .before .before .before .before .pre .0, c .before .before .before .before .before .before .before .before .if1 .left), tt)
+exp-in-exp-shifted-requires t c κs =
+    let at-if1 = c .before .before .before .before .before .before .before .before in
+    (omega (arith, at-if1 .before .pre .0, at-if1 .if1 .left), tt)
 
 exp-in-enum-known-rule-3 : (t : ℕ) → exp-in-lts.Need-enum-known-rule-3 (
   exp-rule-reads.Asked,
@@ -370,8 +374,10 @@ exp-in-returns-2 : (t : ℕ) → exp-in-lts.Need-returns-2 (
 ) (exp-in-at t) exp-in.Post
 unfolding build
 exp-in-returns-2 t c =
-    rw (runs-deeper (c .before .before .before .before .before .before .before .before .before .before .args .left) (c .before .before .before .before .before .before .before .before .before .if1 .left))
-    (ruled _ _ expTerm (c .before .before .before .before .before .before .exp-rule .ensures) (c .before .before .before .before .enum-told .given .1)
+    let at-enum-told = c .before .before .before .before in
+    let at-if1 = at-enum-told .before .before .before .before .before in
+    rw (runs-deeper (at-if1 .before .args .left) (at-if1 .if1 .left))
+    (ruled _ _ expTerm (at-enum-told .before .before .exp-rule .ensures) (at-enum-told .enum-told .given .1)
     (literal-made _ (c .before .fold .ensures) (c .lit-in .ensures)))
 
 exp-in-returns-3 : (t : ℕ) → exp-in-lts.Need-returns-3 (
@@ -390,9 +396,13 @@ exp-in-returns-3 : (t : ℕ) → exp-in-lts.Need-returns-3 (
 ) (exp-in-at t) exp-in.Post
 unfolding build
 exp-in-returns-3 t c =
-    rw (runs-deeper (c .before .before .before .before .before .before .before .before .before .before .before .args .left) (c .before .before .before .before .before .before .before .before .before .before .if1 .left))
-    (ruled _ _ expTerm (c .before .before .before .before .before .before .before .exp-rule .ensures) (c .before .before .before .before .before .rule .given .1)
-    (literal-made _ (c .before .exp-literal .ensures ∙ ap expOf (toZ-ofZ w64 (c .before .before .before .before .before .rule .given .0 .0) (record { sfits = c .before .before .before .before .known-told .given .0 .1 }))) (c .lit-in2 .ensures)))
+    let at-known-told = c .before .before .before .before in
+    let at-if1 = at-known-told .before .before .before .before .before .before in
+    rw (runs-deeper (at-if1 .before .args .left) (at-if1 .if1 .left))
+    (ruled _ _ expTerm (at-known-told .before .before .before .exp-rule .ensures) (at-known-told .before .rule .given .1)
+    (literal-made _
+    (c .before .exp-literal .ensures ∙ ap expOf
+    (toZ-ofZ w64 (at-known-told .before .rule .given .0 .0) (record { sfits = at-known-told .known-told .given .0 .1 }))) (c .lit-in2 .ensures)))
 
 exp-in-returns-4 : (t : ℕ) → exp-in-lts.Need-returns-4 (
   exp-rule-reads.Asked,
@@ -409,9 +419,12 @@ exp-in-returns-4 : (t : ℕ) → exp-in-lts.Need-returns-4 (
   append-reads.Learnt,
 ) (exp-in-at t) exp-in.Post
 exp-in-returns-4 t c =
-    rw (runs-deeper (c .before .before .before .before .before .before .before .before .before .before .args .left) (c .before .before .before .before .before .before .before .before .before .if1 .left))
-    (ruled _ _ expTerm (c .before .before .before .before .before .before .exp-rule .ensures) (c .before .before .before .before .rule2 .given .1)
-    (renumbered _ _ (λ z. mul (lit-exp z) (exp (# (c .before .before .before .before .rule2 .given .0 .1 .0)))) (toZ-ofZ w64 (c .before .before .before .before .rule2 .given .0 .0) (record { sfits = c .before .before .before .known-told2 .given .0 .1 })) (c .exp-shifted .ensures)))
+    let at-rule2 = c .before .before .before .before in
+    let at-if1 = at-rule2 .before .before .before .before .before in
+    rw (runs-deeper (at-if1 .before .args .left) (at-if1 .if1 .left))
+    (ruled _ _ expTerm (at-rule2 .before .before .exp-rule .ensures) (at-rule2 .rule2 .given .1)
+    (renumbered _ _ (λ z. mul (lit-exp z) (exp (# (at-rule2 .rule2 .given .0 .1 .0))))
+    (toZ-ofZ w64 (at-rule2 .rule2 .given .0 .0) (record { sfits = c .before .before .before .known-told2 .given .0 .1 })) (c .exp-shifted .ensures)))
 
 exp-in-returns-5 : (t : ℕ) → exp-in-lts.Need-returns-5 (
   exp-rule-reads.Asked,
@@ -429,8 +442,10 @@ exp-in-returns-5 : (t : ℕ) → exp-in-lts.Need-returns-5 (
 ) (exp-in-at t) exp-in.Post
 unfolding build
 exp-in-returns-5 t c =
-    rw (runs-deeper (c .before .before .before .before .before .before .before .before .before .before .args .left) (c .before .before .before .before .before .before .before .before .before .if1 .left))
-    (ruled _ _ expTerm (c .before .before .before .before .before .before .exp-rule .ensures) (c .before .before .before .before .rule3 .given .1)
+    let at-rule3 = c .before .before .before .before in
+    let at-if1 = at-rule3 .before .before .before .before .before in
+    rw (runs-deeper (at-if1 .before .args .left) (at-if1 .if1 .left))
+    (ruled _ _ expTerm (at-rule3 .before .before .exp-rule .ensures) (at-rule3 .rule3 .given .1)
     (c .append .ensures))
 
 exp-shifted-exp-literal-requires : (t : ℕ) → exp-shifted-lts.Need-exp-literal-requires (
@@ -493,11 +508,13 @@ exp-shifted-returns : (t : ℕ) → exp-shifted-lts.Need-returns (
 ) (exp-shifted-at t) exp-shifted.Post
 unfolding build
 exp-shifted-returns t c =
-    stopped (c .before .before .lit-in .last .0) (c .before .before .lit-in .last .1 .0) _ _ _
+    let at-lit-in = c .before .before in
+    let start = at-lit-in .before .before .before .before in
+    stopped (at-lit-in .lit-in .last .0) (at-lit-in .lit-in .last .1 .0) _ _ _
     (c .enum-told .given .1)
     (literal-made _
-    (c .before .before .before .exp-literal .ensures ∙ ap expOf (toZ-ofZ w64 (c .before .before .before .before .before .before .args .z) (c .before .before .before .before .before .before .fits .z)))
-    (c .before .before .lit-in .ensures))
+    (at-lit-in .before .exp-literal .ensures ∙ ap expOf (toZ-ofZ w64 (start .args .z) (start .fits .z)))
+    (at-lit-in .lit-in .ensures))
 
 exp-shifted-exp-in-requires : (t : ℕ) → exp-shifted-lts.Need-exp-in-requires (
   exp-literal-reads.Asked,
@@ -509,7 +526,9 @@ exp-shifted-exp-in-requires : (t : ℕ) → exp-shifted-lts.Need-exp-in-requires
   mul-in-below t,
   mul-in.Post,
 ) (exp-shifted-at t) exp-shifted.Post
-exp-shifted-exp-in-requires t c κs = (omega (arith, c .before .before .before .before .before .before .before .before .before .pre .0), tt)
+exp-shifted-exp-in-requires t c κs =
+    let start = c .before .before .before .before .before .before .before .before .before in
+    (omega (arith, start .pre .0), tt)
 
 exp-shifted-enum-known-power : (t : ℕ) → exp-shifted-lts.Need-enum-known-power (
   exp-literal-reads.Asked,
@@ -547,14 +566,18 @@ exp-shifted-returns-2 : (t : ℕ) → exp-shifted-lts.Need-returns-2 (
 ) (exp-shifted-at t) exp-shifted.Post
 unfolding build
 exp-shifted-returns-2 t c =
-    onward (c .before .before .before .before .before .before .before .before .lit-in .last .0) (c .before .before .before .before .before .before .before .before .lit-in .last .1 .0) _
-    (c .before .before .before .before .before .before .factor .given .1)
+    let at-exp-in = c .before .before in
+    let at-factor = at-exp-in .before .before .before .before in
+    let at-lit-in = at-factor .before .before in
+    let start = at-lit-in .before .before .before .before in
+    onward (at-lit-in .lit-in .last .0) (at-lit-in .lit-in .last .1 .0) _
+    (at-factor .factor .given .1)
     (literal-made _
-    (c .before .before .before .before .before .before .before .before .before .exp-literal .ensures ∙ ap expOf (toZ-ofZ w64 (c .before .before .before .before .before .before .before .before .before .before .before .before .args .z) (c .before .before .before .before .before .before .before .before .before .before .before .before .fits .z)))
-    (c .before .before .before .before .before .before .before .before .lit-in .ensures))
-    (stopped (c .before .before .exp-in .last .0) (c .before .before .exp-in .last .1 .0) _ _ _
+    (at-lit-in .before .exp-literal .ensures ∙ ap expOf (toZ-ofZ w64 (start .args .z) (start .fits .z)))
+    (at-lit-in .lit-in .ensures))
+    (stopped (at-exp-in .exp-in .last .0) (at-exp-in .exp-in .last .1 .0) _ _ _
     (c .enum-told2 .given .1)
-    (c .before .before .exp-in .ensures))
+    (at-exp-in .exp-in .ensures))
 
 exp-shifted-mul-in-requires : (t : ℕ) → exp-shifted-lts.Need-mul-in-requires (
   exp-literal-reads.Asked,
@@ -566,7 +589,10 @@ exp-shifted-mul-in-requires : (t : ℕ) → exp-shifted-lts.Need-mul-in-requires
   mul-in-below t,
   mul-in.Post,
 ) (exp-shifted-at t) exp-shifted.Post
-exp-shifted-mul-in-requires t c κs = (omega (arith, c .before .before .before .before .before .before .before .before .before .before .before .before .before .before .before .pre .0), tt)
+exp-shifted-mul-in-requires t c κs =
+    let earlier = c .before .before .before .before .before .before .before in
+    let start = earlier .before .before .before .before .before .before .before .before in
+    (omega (arith, start .pre .0), tt)
 
 exp-shifted-returns-3 : (t : ℕ) → exp-shifted-lts.Need-returns-3 (
   exp-literal-reads.Asked,
@@ -580,14 +606,19 @@ exp-shifted-returns-3 : (t : ℕ) → exp-shifted-lts.Need-returns-3 (
 ) (exp-shifted-at t) exp-shifted.Post
 unfolding build
 exp-shifted-returns-3 t c =
-    onward (c .before .before .before .before .before .before .before .before .before .before .before .before .lit-in .last .0) (c .before .before .before .before .before .before .before .before .before .before .before .before .lit-in .last .1 .0) _
-    (c .before .before .before .before .before .before .before .before .before .before .factor .given .1)
+    let at-power = c .before .before .before .before in
+    let at-exp-in = at-power .before .before in
+    let at-factor = at-exp-in .before .before .before .before in
+    let at-lit-in = at-factor .before .before in
+    let start = at-lit-in .before .before .before .before in
+    onward (at-lit-in .lit-in .last .0) (at-lit-in .lit-in .last .1 .0) _
+    (at-factor .factor .given .1)
     (literal-made _
-    (c .before .before .before .before .before .before .before .before .before .before .before .before .before .exp-literal .ensures ∙ ap expOf (toZ-ofZ w64 (c .before .before .before .before .before .before .before .before .before .before .before .before .before .before .before .before .args .z) (c .before .before .before .before .before .before .before .before .before .before .before .before .before .before .before .before .fits .z)))
-    (c .before .before .before .before .before .before .before .before .before .before .before .before .lit-in .ensures))
-    (onward (c .before .before .before .before .before .before .exp-in .last .0) (c .before .before .before .before .before .before .exp-in .last .1 .0) _
-    (c .before .before .before .before .power .given .1)
-    (c .before .before .before .before .before .before .exp-in .ensures)
+    (at-lit-in .before .exp-literal .ensures ∙ ap expOf (toZ-ofZ w64 (start .args .z) (start .fits .z)))
+    (at-lit-in .lit-in .ensures))
+    (onward (at-exp-in .exp-in .last .0) (at-exp-in .exp-in .last .1 .0) _
+    (at-power .power .given .1)
+    (at-exp-in .exp-in .ensures)
     (c .mul-in .ensures))
 
 exp-sum-add-in-requires : (t : ℕ) → exp-sum-lts.Need-add-in-requires (
@@ -632,7 +663,9 @@ exp-sum-exp-in-requires : (t : ℕ) → exp-sum-lts.Need-exp-in-requires (
   exp-in-below t,
   exp-in.Post,
 ) (exp-sum-at t) exp-sum.Post
-exp-sum-exp-in-requires t c κs = (omega (arith, c .before .before .before .before .before .before .before .before .pre .0), tt)
+exp-sum-exp-in-requires t c κs =
+    let start = c .before .before .before .before .before .before .before .before in
+    (omega (arith, start .pre .0), tt)
 
 exp-sum-returns-2 : (t : ℕ) → exp-sum-lts.Need-returns-2 (
   add-in-reads.Asked,
@@ -642,9 +675,11 @@ exp-sum-returns-2 : (t : ℕ) → exp-sum-lts.Need-returns-2 (
 ) (exp-sum-at t) exp-sum.Post
 unfolding build
 exp-sum-returns-2 t c =
-    onward (c .before .before .before .before .before .before .add-in .last .0) (c .before .before .before .before .before .before .add-in .last .1 .0) _
-    (c .before .before .before .before .sum .given .1)
-    (c .before .before .before .before .before .before .add-in .ensures)
+    let at-sum = c .before .before .before .before in
+    let at-add-in = at-sum .before .before in
+    onward (at-add-in .add-in .last .0) (at-add-in .add-in .last .1 .0) _
+    (at-sum .sum .given .1)
+    (at-add-in .add-in .ensures)
     (c .exp-in .ensures)
 
 mul-in-returns : (t : ℕ) → mul-in-lts.Need-returns (
@@ -897,7 +932,9 @@ mul-in-exp-sum-requires : (t : ℕ) → mul-in-lts.Need-exp-sum-requires (
   append-reads.Asked,
   append-reads.Learnt,
 ) (mul-in-at t) mul-in.Post
-mul-in-exp-sum-requires t c κs = (omega (arith, c .before .before .before .before .before .before .before .before .before .pre .0, c .before .before .before .before .before .before .before .before .if1 .left), tt)
+mul-in-exp-sum-requires t c κs =
+    let at-if1 = c .before .before .before .before .before .before .before .before in
+    (omega (arith, at-if1 .before .pre .0, at-if1 .if1 .left), tt)
 
 mul-in-enum-known-rule-3 : (t : ℕ) → mul-in-lts.Need-enum-known-rule-3 (
   mul-rule-reads.Asked,
@@ -1093,7 +1130,9 @@ mul-in-over-exp-requires : (t : ℕ) → mul-in-lts.Need-over-exp-requires (
   append-reads.Asked,
   append-reads.Learnt,
 ) (mul-in-at t) mul-in.Post
-mul-in-over-exp-requires t c κs = (omega (arith, c .before .before .before .before .before .before .before .before .before .pre .0, c .before .before .before .before .before .before .before .before .if1 .left), tt)
+mul-in-over-exp-requires t c κs =
+    let at-if1 = c .before .before .before .before .before .before .before .before in
+    (omega (arith, at-if1 .before .pre .0, at-if1 .if1 .left), tt)
 
 mul-in-enum-known-rule-6 : (t : ℕ) → mul-in-lts.Need-enum-known-rule-6 (
   mul-rule-reads.Asked,
@@ -1149,7 +1188,9 @@ mul-in-over-exps-requires : (t : ℕ) → mul-in-lts.Need-over-exps-requires (
   append-reads.Asked,
   append-reads.Learnt,
 ) (mul-in-at t) mul-in.Post
-mul-in-over-exps-requires t c κs = (omega (arith, c .before .before .before .before .before .before .before .before .before .pre .0, c .before .before .before .before .before .before .before .before .if1 .left), tt)
+mul-in-over-exps-requires t c κs =
+    let at-if1 = c .before .before .before .before .before .before .before .before in
+    (omega (arith, at-if1 .before .pre .0, at-if1 .if1 .left), tt)
 
 mul-in-enum-known-rule-7 : (t : ℕ) → mul-in-lts.Need-enum-known-rule-7 (
   mul-rule-reads.Asked,
@@ -1205,7 +1246,9 @@ mul-in-scales-requires : (t : ℕ) → mul-in-lts.Need-scales-requires (
   append-reads.Asked,
   append-reads.Learnt,
 ) (mul-in-at t) mul-in.Post
-mul-in-scales-requires t c κs = (omega (arith, c .before .before .before .before .before .before .before .before .before .pre .0, c .before .before .before .before .before .before .before .before .if1 .left), tt)
+mul-in-scales-requires t c κs =
+    let at-if1 = c .before .before .before .before .before .before .before .before in
+    (omega (arith, at-if1 .before .pre .0, at-if1 .if1 .left), tt)
 
 mul-in-enum-known-rule-8 : (t : ℕ) → mul-in-lts.Need-enum-known-rule-8 (
   mul-rule-reads.Asked,
@@ -1261,7 +1304,9 @@ mul-in-under-requires : (t : ℕ) → mul-in-lts.Need-under-requires (
   append-reads.Asked,
   append-reads.Learnt,
 ) (mul-in-at t) mul-in.Post
-mul-in-under-requires t c κs = (omega (arith, c .before .before .before .before .before .before .before .before .before .pre .0, c .before .before .before .before .before .before .before .before .if1 .left), tt)
+mul-in-under-requires t c κs =
+    let at-if1 = c .before .before .before .before .before .before .before .before in
+    (omega (arith, at-if1 .before .pre .0, at-if1 .if1 .left), tt)
 
 mul-in-enum-known-rule-9 : (t : ℕ) → mul-in-lts.Need-enum-known-rule-9 (
   mul-rule-reads.Asked,
@@ -1317,7 +1362,9 @@ mul-in-times-power-requires : (t : ℕ) → mul-in-lts.Need-times-power-requires
   append-reads.Asked,
   append-reads.Learnt,
 ) (mul-in-at t) mul-in.Post
-mul-in-times-power-requires t c κs = (omega (arith, c .before .before .before .before .before .before .before .before .before .pre .0, c .before .before .before .before .before .before .before .before .if1 .left), tt)
+mul-in-times-power-requires t c κs =
+    let at-if1 = c .before .before .before .before .before .before .before .before in
+    (omega (arith, at-if1 .before .pre .0, at-if1 .if1 .left), tt)
 
 mul-in-enum-known-rule-10 : (t : ℕ) → mul-in-lts.Need-enum-known-rule-10 (
   mul-rule-reads.Asked,
@@ -1403,8 +1450,10 @@ mul-in-returns-2 : (t : ℕ) → mul-in-lts.Need-returns-2 (
 ) (mul-in-at t) mul-in.Post
 unfolding build
 mul-in-returns-2 t c =
-    rw (runs-deeper (c .before .before .before .before .before .before .before .before .before .before .args .left) (c .before .before .before .before .before .before .before .before .before .if1 .left))
-    (ruled _ _ mulTerm (c .before .before .before .before .before .before .mul-rule .ensures) (c .before .before .before .before .enum-told .given .1)
+    let at-enum-told = c .before .before .before .before in
+    let at-if1 = at-enum-told .before .before .before .before .before in
+    rw (runs-deeper (at-if1 .before .args .left) (at-if1 .if1 .left))
+    (ruled _ _ mulTerm (at-enum-told .before .before .mul-rule .ensures) (at-enum-told .enum-told .given .1)
     (literal-made _ (c .before .fold .ensures) (c .lit-in .ensures)))
 
 mul-in-returns-3 : (t : ℕ) → mul-in-lts.Need-returns-3 (
@@ -1435,9 +1484,10 @@ mul-in-returns-3 : (t : ℕ) → mul-in-lts.Need-returns-3 (
 ) (mul-in-at t) mul-in.Post
 unfolding build
 mul-in-returns-3 t c =
-    rw (runs-deeper (c .before .before .before .before .before .before .before .args .left) (c .before .before .before .before .before .before .if1 .left))
+    let at-if1 = c .before .before .before .before .before .before in
+    rw (runs-deeper (at-if1 .before .args .left) (at-if1 .if1 .left))
     (ruled _ _ mulTerm (c .before .before .before .mul-rule .ensures) (c .before .rule .given .1)
-    (refl))
+    refl)
 
 mul-in-returns-4 : (t : ℕ) → mul-in-lts.Need-returns-4 (
   mul-rule-reads.Asked,
@@ -1466,8 +1516,10 @@ mul-in-returns-4 : (t : ℕ) → mul-in-lts.Need-returns-4 (
   append-reads.Learnt,
 ) (mul-in-at t) mul-in.Post
 mul-in-returns-4 t c =
-    rw (runs-deeper (c .before .before .before .before .before .before .before .before .before .before .args .left) (c .before .before .before .before .before .before .before .before .before .if1 .left))
-    (ruled _ _ mulTerm (c .before .before .before .before .before .before .mul-rule .ensures) (c .before .before .before .before .rule2 .given .1)
+    let at-rule2 = c .before .before .before .before in
+    let at-if1 = at-rule2 .before .before .before .before .before in
+    rw (runs-deeper (at-if1 .before .args .left) (at-if1 .if1 .left))
+    (ruled _ _ mulTerm (at-rule2 .before .before .mul-rule .ensures) (at-rule2 .rule2 .given .1)
     (c .exp-sum .ensures))
 
 mul-in-returns-5 : (t : ℕ) → mul-in-lts.Need-returns-5 (
@@ -1498,10 +1550,15 @@ mul-in-returns-5 : (t : ℕ) → mul-in-lts.Need-returns-5 (
 ) (mul-in-at t) mul-in.Post
 unfolding build
 mul-in-returns-5 t c =
-    rw (runs-deeper (c .before .before .before .before .before .before .before .before .before .before .before .args .left) (c .before .before .before .before .before .before .before .before .before .before .if1 .left))
-    (ruled _ _ mulTerm (c .before .before .before .before .before .before .before .mul-rule .ensures) (c .before .before .before .before .before .rule3 .given .1)
-    (literal-made _ (c .before .product .ensures ∙
-    ap folded (same-product (toZ-ofZ w64 (c .before .before .before .before .before .rule3 .given .0 .0) (record { sfits = c .before .before .before .before .known-told3 .given .0 .1 })) (toZ-ofZ w64 (c .before .before .before .before .before .rule3 .given .0 .1 .0) (record { sfits = c .before .before .before .before .known-told3 .given .1 .0 .1 })))) (c .lit-in2 .ensures)))
+    let at-known-told3 = c .before .before .before .before in
+    let at-rule3 = at-known-told3 .before in
+    let at-if1 = at-rule3 .before .before .before .before .before in
+    rw (runs-deeper (at-if1 .before .args .left) (at-if1 .if1 .left))
+    (ruled _ _ mulTerm (at-rule3 .before .before .mul-rule .ensures) (at-rule3 .rule3 .given .1)
+    (literal-made _
+    (c .before .product .ensures ∙ ap folded
+    (same-product (toZ-ofZ w64 (at-rule3 .rule3 .given .0 .0) (record { sfits = at-known-told3 .known-told3 .given .0 .1 }))
+    (toZ-ofZ w64 (at-rule3 .rule3 .given .0 .1 .0) (record { sfits = at-known-told3 .known-told3 .given .1 .0 .1 })))) (c .lit-in2 .ensures)))
 
 mul-in-returns-6 : (t : ℕ) → mul-in-lts.Need-returns-6 (
   mul-rule-reads.Asked,
@@ -1531,11 +1588,14 @@ mul-in-returns-6 : (t : ℕ) → mul-in-lts.Need-returns-6 (
 ) (mul-in-at t) mul-in.Post
 unfolding build
 mul-in-returns-6 t c =
-    rw (runs-deeper (c .before .before .before .before .before .before .before .before .before .before .args .left) (c .before .before .before .before .before .before .before .before .before .if1 .left))
-    (ruled _ _ mulTerm (c .before .before .before .before .before .before .mul-rule .ensures) (c .before .before .before .before .rule4 .given .1)
-    (renumbered noCalls _ (λ z. Mul (lit z) (# (c .before .before .before .before .rule4 .given .0 .1 .1 .0)))
-    (same-product (toZ-ofZ w64 (c .before .before .before .before .rule4 .given .0 .0) (record { sfits = c .before .before .before .known-told4 .given .0 .1 })) (toZ-ofZ w64 (c .before .before .before .before .rule4 .given .0 .1 .0) (record { sfits = c .before .before .before .known-told4 .given .1 .0 .1 })))
-    (c .scaled .ensures)))
+    let at-known-told4 = c .before .before .before in
+    let at-rule4 = at-known-told4 .before in
+    let at-if1 = at-rule4 .before .before .before .before .before in
+    rw (runs-deeper (at-if1 .before .args .left) (at-if1 .if1 .left))
+    (ruled _ _ mulTerm (at-rule4 .before .before .mul-rule .ensures) (at-rule4 .rule4 .given .1)
+    (renumbered noCalls _ (λ z. Mul (lit z) (# (at-rule4 .rule4 .given .0 .1 .1 .0)))
+    (same-product (toZ-ofZ w64 (at-rule4 .rule4 .given .0 .0) (record { sfits = at-known-told4 .known-told4 .given .0 .1 }))
+    (toZ-ofZ w64 (at-rule4 .rule4 .given .0 .1 .0) (record { sfits = at-known-told4 .known-told4 .given .1 .0 .1 }))) (c .scaled .ensures)))
 
 mul-in-returns-7 : (t : ℕ) → mul-in-lts.Need-returns-7 (
   mul-rule-reads.Asked,
@@ -1564,8 +1624,10 @@ mul-in-returns-7 : (t : ℕ) → mul-in-lts.Need-returns-7 (
   append-reads.Learnt,
 ) (mul-in-at t) mul-in.Post
 mul-in-returns-7 t c =
-    rw (runs-deeper (c .before .before .before .before .before .before .before .before .before .before .args .left) (c .before .before .before .before .before .before .before .before .before .if1 .left))
-    (ruled _ _ mulTerm (c .before .before .before .before .before .before .mul-rule .ensures) (c .before .before .before .before .rule5 .given .1)
+    let at-rule5 = c .before .before .before .before in
+    let at-if1 = at-rule5 .before .before .before .before .before in
+    rw (runs-deeper (at-if1 .before .args .left) (at-if1 .if1 .left))
+    (ruled _ _ mulTerm (at-rule5 .before .before .mul-rule .ensures) (at-rule5 .rule5 .given .1)
     (c .over-exp .ensures))
 
 mul-in-returns-8 : (t : ℕ) → mul-in-lts.Need-returns-8 (
@@ -1595,8 +1657,10 @@ mul-in-returns-8 : (t : ℕ) → mul-in-lts.Need-returns-8 (
   append-reads.Learnt,
 ) (mul-in-at t) mul-in.Post
 mul-in-returns-8 t c =
-    rw (runs-deeper (c .before .before .before .before .before .before .before .before .before .before .args .left) (c .before .before .before .before .before .before .before .before .before .if1 .left))
-    (ruled _ _ mulTerm (c .before .before .before .before .before .before .mul-rule .ensures) (c .before .before .before .before .rule6 .given .1)
+    let at-rule6 = c .before .before .before .before in
+    let at-if1 = at-rule6 .before .before .before .before .before in
+    rw (runs-deeper (at-if1 .before .args .left) (at-if1 .if1 .left))
+    (ruled _ _ mulTerm (at-rule6 .before .before .mul-rule .ensures) (at-rule6 .rule6 .given .1)
     (c .over-exps .ensures))
 
 mul-in-returns-9 : (t : ℕ) → mul-in-lts.Need-returns-9 (
@@ -1626,11 +1690,15 @@ mul-in-returns-9 : (t : ℕ) → mul-in-lts.Need-returns-9 (
   append-reads.Learnt,
 ) (mul-in-at t) mul-in.Post
 mul-in-returns-9 t c =
-    rw (runs-deeper (c .before .before .before .before .before .before .before .before .before .before .args .left) (c .before .before .before .before .before .before .before .before .before .if1 .left))
-    (ruled _ _ mulTerm (c .before .before .before .before .before .before .mul-rule .ensures) (c .before .before .before .before .rule7 .given .1)
-    (renumbered _ _ (λ z. Mul (lit z) (mul (# (c .before .before .before .before .rule7 .given .0 .1 .1 .0)) (# (c .before .before .before .before .rule7 .given .0 .1 .1 .1 .0))))
-    (same-product (toZ-ofZ w64 (c .before .before .before .before .rule7 .given .0 .0) (record { sfits = c .before .before .before .known-told7 .given .0 .1 })) (toZ-ofZ w64 (c .before .before .before .before .rule7 .given .0 .1 .0) (record { sfits = c .before .before .before .known-told7 .given .1 .0 .1 })))
-    (c .scales .ensures)))
+    let at-known-told7 = c .before .before .before in
+    let at-rule7 = at-known-told7 .before in
+    let at-if1 = at-rule7 .before .before .before .before .before in
+    let rule7 = at-rule7 .rule7 in
+    rw (runs-deeper (at-if1 .before .args .left) (at-if1 .if1 .left))
+    (ruled _ _ mulTerm (at-rule7 .before .before .mul-rule .ensures) (rule7 .given .1)
+    (renumbered _ _ (λ z. Mul (lit z) (mul (# (rule7 .given .0 .1 .1 .0)) (# (rule7 .given .0 .1 .1 .1 .0))))
+    (same-product (toZ-ofZ w64 (rule7 .given .0 .0) (record { sfits = at-known-told7 .known-told7 .given .0 .1 }))
+    (toZ-ofZ w64 (rule7 .given .0 .1 .0) (record { sfits = at-known-told7 .known-told7 .given .1 .0 .1 }))) (c .scales .ensures)))
 
 mul-in-returns-10 : (t : ℕ) → mul-in-lts.Need-returns-10 (
   mul-rule-reads.Asked,
@@ -1659,8 +1727,10 @@ mul-in-returns-10 : (t : ℕ) → mul-in-lts.Need-returns-10 (
   append-reads.Learnt,
 ) (mul-in-at t) mul-in.Post
 mul-in-returns-10 t c =
-    rw (runs-deeper (c .before .before .before .before .before .before .before .before .before .before .args .left) (c .before .before .before .before .before .before .before .before .before .if1 .left))
-    (ruled _ _ mulTerm (c .before .before .before .before .before .before .mul-rule .ensures) (c .before .before .before .before .rule8 .given .1)
+    let at-rule8 = c .before .before .before .before in
+    let at-if1 = at-rule8 .before .before .before .before .before in
+    rw (runs-deeper (at-if1 .before .args .left) (at-if1 .if1 .left))
+    (ruled _ _ mulTerm (at-rule8 .before .before .mul-rule .ensures) (at-rule8 .rule8 .given .1)
     (c .under .ensures))
 
 mul-in-returns-11 : (t : ℕ) → mul-in-lts.Need-returns-11 (
@@ -1690,8 +1760,10 @@ mul-in-returns-11 : (t : ℕ) → mul-in-lts.Need-returns-11 (
   append-reads.Learnt,
 ) (mul-in-at t) mul-in.Post
 mul-in-returns-11 t c =
-    rw (runs-deeper (c .before .before .before .before .before .before .before .before .before .before .args .left) (c .before .before .before .before .before .before .before .before .before .if1 .left))
-    (ruled _ _ mulTerm (c .before .before .before .before .before .before .mul-rule .ensures) (c .before .before .before .before .rule9 .given .1)
+    let at-rule9 = c .before .before .before .before in
+    let at-if1 = at-rule9 .before .before .before .before .before in
+    rw (runs-deeper (at-if1 .before .args .left) (at-if1 .if1 .left))
+    (ruled _ _ mulTerm (at-rule9 .before .before .mul-rule .ensures) (at-rule9 .rule9 .given .1)
     (c .times-power .ensures))
 
 mul-in-returns-12 : (t : ℕ) → mul-in-lts.Need-returns-12 (
@@ -1722,8 +1794,10 @@ mul-in-returns-12 : (t : ℕ) → mul-in-lts.Need-returns-12 (
 ) (mul-in-at t) mul-in.Post
 unfolding build
 mul-in-returns-12 t c =
-    rw (runs-deeper (c .before .before .before .before .before .before .before .before .before .before .args .left) (c .before .before .before .before .before .before .before .before .before .if1 .left))
-    (ruled _ _ mulTerm (c .before .before .before .before .before .before .mul-rule .ensures) (c .before .before .before .before .rule10 .given .1)
+    let at-rule10 = c .before .before .before .before in
+    let at-if1 = at-rule10 .before .before .before .before .before in
+    rw (runs-deeper (at-if1 .before .args .left) (at-if1 .if1 .left))
+    (ruled _ _ mulTerm (at-rule10 .before .before .mul-rule .ensures) (at-rule10 .rule10 .given .1)
     (c .append .ensures))
 
 over-exp-exp-sum-requires : (t : ℕ) → over-exp-lts.Need-exp-sum-requires (
@@ -1768,7 +1842,9 @@ over-exp-mul-in-requires : (t : ℕ) → over-exp-lts.Need-mul-in-requires (
   mul-in-below t,
   mul-in.Post,
 ) (over-exp-at t) over-exp.Post
-over-exp-mul-in-requires t c κs = (omega (arith, c .before .before .before .before .before .before .before .before .pre .0), tt)
+over-exp-mul-in-requires t c κs =
+    let start = c .before .before .before .before .before .before .before .before in
+    (omega (arith, start .pre .0), tt)
 
 over-exp-returns-2 : (t : ℕ) → over-exp-lts.Need-returns-2 (
   exp-sum-below t,
@@ -1778,9 +1854,11 @@ over-exp-returns-2 : (t : ℕ) → over-exp-lts.Need-returns-2 (
 ) (over-exp-at t) over-exp.Post
 unfolding build
 over-exp-returns-2 t c =
-    onward (c .before .before .before .before .before .before .exp-sum .last .0) (c .before .before .before .before .before .before .exp-sum .last .1 .0) _
-    (c .before .before .before .before .power .given .1)
-    (c .before .before .before .before .before .before .exp-sum .ensures)
+    let at-power = c .before .before .before .before in
+    let at-exp-sum = at-power .before .before in
+    onward (at-exp-sum .exp-sum .last .0) (at-exp-sum .exp-sum .last .1 .0) _
+    (at-power .power .given .1)
+    (at-exp-sum .exp-sum .ensures)
     (c .mul-in .ensures)
 
 over-exps-mul-in-requires : (t : ℕ) → over-exps-lts.Need-mul-in-requires (
@@ -1825,7 +1903,9 @@ over-exps-over-exp-requires : (t : ℕ) → over-exps-lts.Need-over-exp-requires
   over-exp-below t,
   over-exp.Post,
 ) (over-exps-at t) over-exps.Post
-over-exps-over-exp-requires t c κs = (omega (arith, c .before .before .before .before .before .before .before .before .pre .0), tt)
+over-exps-over-exp-requires t c κs =
+    let start = c .before .before .before .before .before .before .before .before in
+    (omega (arith, start .pre .0), tt)
 
 over-exps-returns-2 : (t : ℕ) → over-exps-lts.Need-returns-2 (
   mul-in-below t,
@@ -1835,9 +1915,11 @@ over-exps-returns-2 : (t : ℕ) → over-exps-lts.Need-returns-2 (
 ) (over-exps-at t) over-exps.Post
 unfolding build
 over-exps-returns-2 t c =
-    onward (c .before .before .before .before .before .before .mul-in .last .0) (c .before .before .before .before .before .before .mul-in .last .1 .0) _
-    (c .before .before .before .before .product .given .1)
-    (c .before .before .before .before .before .before .mul-in .ensures)
+    let at-product = c .before .before .before .before in
+    let at-mul-in = at-product .before .before in
+    onward (at-mul-in .mul-in .last .0) (at-mul-in .mul-in .last .1 .0) _
+    (at-product .product .given .1)
+    (at-mul-in .mul-in .ensures)
     (c .over-exp .ensures)
 
 scales-product-requires : (t : ℕ) → scales-lts.Need-product-requires (
@@ -1890,12 +1972,14 @@ scales-returns : (t : ℕ) → scales-lts.Need-returns (
 ) (scales-at t) scales.Post
 unfolding build
 scales-returns t c =
-    stopped (c .before .before .lit-in .last .0) (c .before .before .lit-in .last .1 .0) _ _ _
+    let at-lit-in = c .before .before in
+    let start = at-lit-in .before .before .before .before in
+    stopped (at-lit-in .lit-in .last .0) (at-lit-in .lit-in .last .1 .0) _ _ _
     (c .enum-told .given .1)
     (literal-made _
-    (c .before .before .before .product .ensures
-    ∙ ap folded (same-product (toZ-ofZ w64 (c .before .before .before .before .before .before .args .x) (c .before .before .before .before .before .before .fits .x)) (toZ-ofZ w64 (c .before .before .before .before .before .before .args .y) (c .before .before .before .before .before .before .fits .y))))
-    (c .before .before .lit-in .ensures))
+    (at-lit-in .before .product .ensures
+    ∙ ap folded (same-product (toZ-ofZ w64 (start .args .x) (start .fits .x)) (toZ-ofZ w64 (start .args .y) (start .fits .y))))
+    (at-lit-in .lit-in .ensures))
 
 scales-under-requires : (t : ℕ) → scales-lts.Need-under-requires (
   product-reads.Asked,
@@ -1905,7 +1989,9 @@ scales-under-requires : (t : ℕ) → scales-lts.Need-under-requires (
   under-below t,
   under.Post,
 ) (scales-at t) scales.Post
-scales-under-requires t c κs = (omega (arith, c .before .before .before .before .before .before .before .before .before .pre .0), tt)
+scales-under-requires t c κs =
+    let start = c .before .before .before .before .before .before .before .before .before in
+    (omega (arith, start .pre .0), tt)
 
 scales-returns-2 : (t : ℕ) → scales-lts.Need-returns-2 (
   product-reads.Asked,
@@ -1917,12 +2003,15 @@ scales-returns-2 : (t : ℕ) → scales-lts.Need-returns-2 (
 ) (scales-at t) scales.Post
 unfolding build
 scales-returns-2 t c =
-    onward (c .before .before .before .before .before .before .lit-in .last .0) (c .before .before .before .before .before .before .lit-in .last .1 .0) _
-    (c .before .before .before .before .factor .given .1)
+    let at-factor = c .before .before .before .before in
+    let at-lit-in = at-factor .before .before in
+    let start = at-lit-in .before .before .before .before in
+    onward (at-lit-in .lit-in .last .0) (at-lit-in .lit-in .last .1 .0) _
+    (at-factor .factor .given .1)
     (literal-made _
-    (c .before .before .before .before .before .before .before .product .ensures
-    ∙ ap folded (same-product (toZ-ofZ w64 (c .before .before .before .before .before .before .before .before .before .before .args .x) (c .before .before .before .before .before .before .before .before .before .before .fits .x)) (toZ-ofZ w64 (c .before .before .before .before .before .before .before .before .before .before .args .y) (c .before .before .before .before .before .before .before .before .before .before .fits .y))))
-    (c .before .before .before .before .before .before .lit-in .ensures))
+    (at-lit-in .before .product .ensures
+    ∙ ap folded (same-product (toZ-ofZ w64 (start .args .x) (start .fits .x)) (toZ-ofZ w64 (start .args .y) (start .fits .y))))
+    (at-lit-in .lit-in .ensures))
     (c .under .ensures)
 
 times-power-pow-sum-requires : (t : ℕ) → times-power-lts.Need-pow-sum-requires (
@@ -1967,7 +2056,9 @@ times-power-mul-in-requires : (t : ℕ) → times-power-lts.Need-mul-in-requires
   mul-in-below t,
   mul-in.Post,
 ) (times-power-at t) times-power.Post
-times-power-mul-in-requires t c κs = (omega (arith, c .before .before .before .before .before .before .before .before .pre .0), tt)
+times-power-mul-in-requires t c κs =
+    let start = c .before .before .before .before .before .before .before .before in
+    (omega (arith, start .pre .0), tt)
 
 times-power-returns-2 : (t : ℕ) → times-power-lts.Need-returns-2 (
   pow-sum-reads.Asked,
@@ -1977,9 +2068,11 @@ times-power-returns-2 : (t : ℕ) → times-power-lts.Need-returns-2 (
 ) (times-power-at t) times-power.Post
 unfolding build
 times-power-returns-2 t c =
-    onward (c .before .before .before .before .before .before .pow-sum .last .0) (c .before .before .before .before .before .before .pow-sum .last .1 .0) _
-    (c .before .before .before .before .power .given .1)
-    (c .before .before .before .before .before .before .pow-sum .ensures)
+    let at-power = c .before .before .before .before in
+    let at-pow-sum = at-power .before .before in
+    onward (at-pow-sum .pow-sum .last .0) (at-pow-sum .pow-sum .last .1 .0) _
+    (at-power .power .given .1)
+    (at-pow-sum .pow-sum .ensures)
     (c .mul-in .ensures)
 
 under-mul-in-requires : (t : ℕ) → under-lts.Need-mul-in-requires (
@@ -2034,9 +2127,11 @@ under-returns-2 : (t : ℕ) → under-lts.Need-returns-2 (
 ) (under-at t) under.Post
 unfolding build
 under-returns-2 t c =
-    onward (c .before .before .before .before .before .before .mul-in .last .0) (c .before .before .before .before .before .before .mul-in .last .1 .0) _
-    (c .before .before .before .before .product .given .1)
-    (c .before .before .before .before .before .before .mul-in .ensures)
+    let at-product = c .before .before .before .before in
+    let at-mul-in = at-product .before .before in
+    onward (at-mul-in .mul-in .last .0) (at-mul-in .mul-in .last .1 .0) _
+    (at-product .product .given .1)
+    (at-mul-in .mul-in .ensures)
     (c .append .ensures)
 
 pub +exp-in+exp-shifted+exp-sum+mul-in+over-exp+over-exps+scales+times-power+under-spec :

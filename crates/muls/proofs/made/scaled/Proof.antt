@@ -27,8 +27,8 @@ enum-told c = search needs
 returns : tie.Need-returns
 unfolding build
 returns c =
-    let start = c .before .before .before .before .before .before in
     let lit = c .before .before in
+    let start = lit .before .before .before .before in
     let ex = toZ-ofZ w64 (start .args .x) (start .fits .x) in
     let ey = toZ-ofZ w64 (start .args .y) (start .fits .y) in
     stopped (lit .lit-in .last .0) (lit .lit-in .last .1 .0) _ _ _ (c .enum-told .given .1)
@@ -40,9 +40,9 @@ append-requires c κs = search needs
 returns-2 : tie.Need-returns-2
 unfolding build
 returns-2 c =
-    let start = c .before .before .before .before .before .before .before .before .before .before in
     let factor = c .before .before .before .before in
     let lit = factor .before .before in
+    let start = lit .before .before .before .before in
     let ex = toZ-ofZ w64 (start .args .x) (start .fits .x) in
     let ey = toZ-ofZ w64 (start .args .y) (start .fits .y) in
     onward (lit .lit-in .last .0) (lit .lit-in .last .1 .0) _ (factor .factor .given .1)

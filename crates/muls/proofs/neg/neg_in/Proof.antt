@@ -26,8 +26,9 @@ returns-2 : tie.Need-returns-2
 unfolding build
 returns-2 c =
     let lit = c .before .before in
-    let start = lit .before .before .before .before .before in
-    rw (runs-deeper (start .args .left) (lit .before .before .before .before .if1 .left))
+    let at-if1 = lit .before .before .before .before in
+    let start = at-if1 .before in
+    rw (runs-deeper (start .args .left) (at-if1 .if1 .left))
     (stopped (lit .lit-in .last .0) (lit .lit-in .last .1 .0) _ _ _ (c .enum-told .given .1)
     (literal-made _ (lit .before .fold .ensures) (lit .lit-in .ensures)))
 
@@ -42,8 +43,9 @@ unfolding build
 returns-3 c =
     let after = c .before .before .before .before in
     let lit = after .before .before in
-    let start = lit .before .before .before .before .before in
-    rw (runs-deeper (start .args .left) (lit .before .before .before .before .if1 .left))
+    let at-if1 = lit .before .before .before .before in
+    let start = at-if1 .before in
+    rw (runs-deeper (start .args .left) (at-if1 .if1 .left))
     (onward (lit .lit-in .last .0) (lit .lit-in .last .1 .0) _ (after .lit .given .1)
     (literal-made _ (lit .before .fold .ensures) (lit .lit-in .ensures))
     (c .mul-in .ensures))

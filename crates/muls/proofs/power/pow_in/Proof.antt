@@ -32,19 +32,21 @@ lit-in-requires c κs = search needs
 returns-2 : tie.Need-returns-2
 unfolding build
 returns-2 c =
-    let start = c .before .before .before .before .before .before in
+    let at-if2 = c .before .before .before .before in
+    let start = at-if2 .before .before in
     let at = nodeIn (now (start .args .kinds)) (now (start .args .words)) in
-    rw (runs-deeper (start .args .left) (c .before .before .before .before .before .if1 .left))
-    (built _ _ (power-zero at (start .args .base) (start .args .exp) (eq-eqb (start .args .exp) 0 (c .before .before .before .before .if2 .taken)))
+    rw (runs-deeper (start .args .left) (at-if2 .before .if1 .left))
+    (built _ _ (power-zero at (start .args .base) (start .args .exp) (eq-eqb (start .args .exp) 0 (at-if2 .if2 .taken)))
     (literal-made _ (c .before .fold .ensures) (c .lit-in .ensures)))
 
 returns-3 : tie.Need-returns-3
 unfolding build
 returns-3 c =
     let start = c .before .before .before in
-    let at = nodeIn (now (start .args .kinds)) (now (start .args .words)) in
-    rw (runs-deeper (start .args .left) (c .before .before .if1 .left))
-    (built _ _ (power-one at (start .args .base) (start .args .exp) (ne-eqb (start .args .exp) 0 (c .before .if2 .left)) (eq-eqb (start .args .exp) 1 (c .if3 .taken))) refl)
+    let args = start .args in
+    let at = nodeIn (now (args .kinds)) (now (args .words)) in
+    rw (runs-deeper (args .left) (c .before .before .if1 .left))
+    (built _ _ (power-one at (args .base) (args .exp) (ne-eqb (args .exp) 0 (c .before .if2 .left)) (eq-eqb (args .exp) 1 (c .if3 .taken))) refl)
 
 shape-at-requires : tie.Need-shape-at-requires
 shape-at-requires c κs = search needs
@@ -58,11 +60,16 @@ append-requires c κs = search needs
 returns-4 : tie.Need-returns-4
 unfolding build
 returns-4 c =
-    let start = c .before .before .before .before .before .before .before .before .before .before in
-    let at = nodeIn (now (start .args .kinds)) (now (start .args .words)) in
-    rw (runs-deeper (start .args .left) (c .before .before .before .before .before .before .before .before .before .if1 .left))
-    (built _ _ (power-of-other at (start .args .base) (start .args .exp) (ne-eqb (start .args .exp) 0 (c .before .before .before .before .before .before .before .before .if2 .left)) (ne-eqb (start .args .exp) 1 (c .before .before .before .before .before .before .before .if3 .left))
-    (lit-missed (at (start .args .base)) (c .before .before .before .before .shape-at .ensures) (1 ∷ 2 ∷ 3 ∷ 4 ∷ 5 ∷ []) tt (c .before .before .before .match .keys2)))
+    let at-shape-at = c .before .before .before .before in
+    let at-if2 = at-shape-at .before .before .before .before in
+    let start = at-if2 .before .before in
+    let args = start .args in
+    let at = nodeIn (now (args .kinds)) (now (args .words)) in
+    rw (runs-deeper (args .left) (at-if2 .before .if1 .left))
+    (built _ _
+    (power-of-other at (args .base) (args .exp) (ne-eqb (args .exp) 0 (at-if2 .if2 .left))
+    (ne-eqb (args .exp) 1 (at-shape-at .before .before .before .if3 .left))
+    (lit-missed (at (args .base)) (at-shape-at .shape-at .ensures) (1 ∷ 2 ∷ 3 ∷ 4 ∷ 5 ∷ []) tt (c .before .before .before .match .keys2)))
     (c .append .ensures))
 
 is-zero-requires : tie.Need-is-zero-requires
@@ -77,14 +84,18 @@ lit-in-requires-2 c κs = search needs
 returns-5 : tie.Need-returns-5
 unfolding build
 returns-5 c =
-    let start = c .before .before .before .before .before .before .before .before .before .before .before .before .before .before .before in
-    let at = nodeIn (now (start .args .kinds)) (now (start .args .words)) in
-    let a = c .before .before .before .before .before .before .before .a .given .0 .0 in
-    let ea : toZ w64 (ofZ w64 a) ≡ a = toZ-ofZ w64 a (record { sfits = c .before .before .before .before .before .before .known-told .given .0 .1 }) in
-    rw (runs-deeper (start .args .left) (c .before .before .before .before .before .before .before .before .before .before .before .before .before .before .if1 .left))
-    (built _ _ (power-of-zero at (start .args .base) (start .args .exp) (ne-eqb (start .args .exp) 0 (c .before .before .before .before .before .before .before .before .before .before .before .before .before .if2 .left)) (ne-eqb (start .args .exp) 1 (c .before .before .before .before .before .before .before .before .before .before .before .before .if3 .left))
-    (lit-found (at (start .args .base)) (c .before .before .before .before .before .before .before .before .before .shape-at .ensures) (c .before .before .before .before .before .before .before .a .given .1))
-    (tested isZero ea (c .before .before .before .before .before .is-zero .ensures) (c .before .before .before .before .if4 .taken)))
+    let at-if4 = c .before .before .before .before in
+    let at-a = at-if4 .before .before .before in
+    let at-if3 = at-a .before .before .before .before .before in
+    let start = at-if3 .before .before .before in
+    let args = start .args in
+    let at = nodeIn (now (args .kinds)) (now (args .words)) in
+    let a = at-a .a .given .0 .0 in
+    let ea : toZ w64 (ofZ w64 a) ≡ a = toZ-ofZ w64 a (record { sfits = at-if4 .before .before .known-told .given .0 .1 }) in
+    rw (runs-deeper (args .left) (at-if3 .before .before .if1 .left))
+    (built _ _ (power-of-zero at (args .base) (args .exp) (ne-eqb (args .exp) 0 (at-if3 .before .if2 .left)) (ne-eqb (args .exp) 1 (at-if3 .if3 .left))
+    (lit-found (at (args .base)) (at-a .before .before .shape-at .ensures) (at-a .a .given .1))
+    (tested isZero ea (at-if4 .before .is-zero .ensures) (at-if4 .if4 .taken)))
     (literal-made _ (c .before .fold2 .ensures) (c .lit-in2 .ensures)))
 
 is-one-requires : tie.Need-is-one-requires
@@ -99,15 +110,20 @@ lit-in-requires-3 c κs = search needs
 returns-6 : tie.Need-returns-6
 unfolding build
 returns-6 c =
-    let start = c .before .before .before .before .before .before .before .before .before .before .before .before .before .before .before .before .before in
-    let at = nodeIn (now (start .args .kinds)) (now (start .args .words)) in
-    let a = c .before .before .before .before .before .before .before .before .before .a .given .0 .0 in
-    let ea : toZ w64 (ofZ w64 a) ≡ a = toZ-ofZ w64 a (record { sfits = c .before .before .before .before .before .before .before .before .known-told .given .0 .1 }) in
-    rw (runs-deeper (start .args .left) (c .before .before .before .before .before .before .before .before .before .before .before .before .before .before .before .before .if1 .left))
-    (built _ _ (power-of-one at (start .args .base) (start .args .exp) (ne-eqb (start .args .exp) 0 (c .before .before .before .before .before .before .before .before .before .before .before .before .before .before .before .if2 .left)) (ne-eqb (start .args .exp) 1 (c .before .before .before .before .before .before .before .before .before .before .before .before .before .before .if3 .left))
-    (lit-found (at (start .args .base)) (c .before .before .before .before .before .before .before .before .before .before .before .shape-at .ensures) (c .before .before .before .before .before .before .before .before .before .a .given .1))
-    (tested isZero ea (c .before .before .before .before .before .before .before .is-zero .ensures) (c .before .before .before .before .before .before .if4 .left)) (tested isOne ea (c .before .before .before .before .before .is-one .ensures) (c .before .before .before .before .if5 .taken)))
-    (literal-made _ (c .before .fold3 .ensures) (c .lit-in3 .ensures)))
+    let at-if5 = c .before .before .before .before in
+    let at-known-told = at-if5 .before .before .before .before in
+    let at-if3 = at-known-told .before .before .before .before .before .before in
+    let start = at-if3 .before .before .before in
+    let args = start .args in
+    let at = nodeIn (now (args .kinds)) (now (args .words)) in
+    let a = at-known-told .before .a .given .0 .0 in
+    let ea : toZ w64 (ofZ w64 a) ≡ a = toZ-ofZ w64 a (record { sfits = at-known-told .known-told .given .0 .1 }) in
+    rw (runs-deeper (args .left) (at-if3 .before .before .if1 .left))
+    (built _ _
+    (power-of-one at (args .base) (args .exp) (ne-eqb (args .exp) 0 (at-if3 .before .if2 .left)) (ne-eqb (args .exp) 1 (at-if3 .if3 .left))
+    (lit-found (at (args .base)) (at-known-told .before .before .before .shape-at .ensures) (at-known-told .before .a .given .1))
+    (tested isZero ea (at-if5 .before .before .before .is-zero .ensures) (at-if5 .before .before .if4 .left))
+    (tested isOne ea (at-if5 .before .is-one .ensures) (at-if5 .if5 .taken))) (literal-made _ (c .before .fold3 .ensures) (c .lit-in3 .ensures)))
 
 append-requires-2 : tie.Need-append-requires-2
 append-requires-2 c κs = search needs
@@ -115,15 +131,20 @@ append-requires-2 c κs = search needs
 returns-7 : tie.Need-returns-7
 unfolding build
 returns-7 c =
-    let start = c .before .before .before .before .before .before .before .before .before .before .before .before .before .before .before .before in
-    let at = nodeIn (now (start .args .kinds)) (now (start .args .words)) in
-    let a = c .before .before .before .before .before .before .before .before .a .given .0 .0 in
-    let ea : toZ w64 (ofZ w64 a) ≡ a = toZ-ofZ w64 a (record { sfits = c .before .before .before .before .before .before .before .known-told .given .0 .1 }) in
-    rw (runs-deeper (start .args .left) (c .before .before .before .before .before .before .before .before .before .before .before .before .before .before .before .if1 .left))
-    (built _ _ (power-of-lit at (start .args .base) (start .args .exp) (ne-eqb (start .args .exp) 0 (c .before .before .before .before .before .before .before .before .before .before .before .before .before .before .if2 .left)) (ne-eqb (start .args .exp) 1 (c .before .before .before .before .before .before .before .before .before .before .before .before .before .if3 .left))
-    (lit-found (at (start .args .base)) (c .before .before .before .before .before .before .before .before .before .before .shape-at .ensures) (c .before .before .before .before .before .before .before .before .a .given .1))
-    (tested isZero ea (c .before .before .before .before .before .before .is-zero .ensures) (c .before .before .before .before .before .if4 .left)) (tested isOne ea (c .before .before .before .before .is-one .ensures) (c .before .before .before .if5 .left)))
-    (c .append2 .ensures))
+    let at-is-one = c .before .before .before .before in
+    let at-a = at-is-one .before .before .before .before in
+    let at-if3 = at-a .before .before .before .before .before in
+    let start = at-if3 .before .before .before in
+    let args = start .args in
+    let at = nodeIn (now (args .kinds)) (now (args .words)) in
+    let a = at-a .a .given .0 .0 in
+    let ea : toZ w64 (ofZ w64 a) ≡ a = toZ-ofZ w64 a (record { sfits = at-is-one .before .before .before .known-told .given .0 .1 }) in
+    rw (runs-deeper (args .left) (at-if3 .before .before .if1 .left))
+    (built _ _
+    (power-of-lit at (args .base) (args .exp) (ne-eqb (args .exp) 0 (at-if3 .before .if2 .left)) (ne-eqb (args .exp) 1 (at-if3 .if3 .left))
+    (lit-found (at (args .base)) (at-a .before .before .shape-at .ensures) (at-a .a .given .1))
+    (tested isZero ea (at-is-one .before .before .is-zero .ensures) (at-is-one .before .if4 .left))
+    (tested isOne ea (at-is-one .is-one .ensures) (c .before .before .before .if5 .left))) (c .append2 .ensures))
 
 pub pow-in-spec : {M : Type 1} → statement M
 pow-in-spec =

@@ -26,12 +26,13 @@ is-zero-requires c κs = search needs
 
 returns : tie.Need-returns
 returns c =
-    let start = c .before .before .before .before .before .before in
-    let at = nodeIn (now (start .args .kinds)) (now (start .args .words)) in
     let shape = c .before .before .before in
+    let start = shape .before .before .before in
+    let at = nodeIn (now (start .args .kinds)) (now (start .args .words)) in
     let z = shape .shape .given .0 .0 in
     let ez : toZ w64 (ofZ w64 z) ≡ z = toZ-ofZ w64 z (record { sfits = c .before .before .known-told .given .0 .1 }) in
-    exp-of-zero at (start .args .arg) (sym (shape .before .before .shape-at .ensures) ∙ shape .shape .given .1) (tested isZero ez (c .before .is-zero .ensures) (c .if1 .taken))
+    exp-of-zero at (start .args .arg) (sym (shape .before .before .shape-at .ensures) ∙ shape .shape .given .1)
+    (tested isZero ez (c .before .is-zero .ensures) (c .if1 .taken))
 
 enum-known-shape-2 : tie.Need-enum-known-shape-2
 enum-known-shape-2 c = search needs
@@ -44,31 +45,32 @@ enum-known-z c = search needs
 
 returns-2 : tie.Need-returns-2
 returns-2 c =
-    let start = c .before .before .before .before .before .before in
-    let at = nodeIn (now (start .args .kinds)) (now (start .args .words)) in
     let shape = c .before .before .before in
+    let start = shape .before .before .before in
+    let at = nodeIn (now (start .args .kinds)) (now (start .args .words)) in
     exp-of-sum at (start .args .arg) (sym (shape .before .before .shape-at .ensures) ∙ shape .shape2 .given .1)
     (lit-missed (at (shape .shape2 .given .0 .1 .0)) (c .before .shape-at2 .ensures) (1 ∷ 2 ∷ 3 ∷ 4 ∷ 5 ∷ []) tt (c .match2 .keys2))
 
 returns-3 : tie.Need-returns-3
 returns-3 c =
-    let start = c .before .before .before .before .before .before in
-    let at = nodeIn (now (start .args .kinds)) (now (start .args .words)) in
     let shape = c .before .before .before in
+    let start = shape .before .before .before in
+    let at = nodeIn (now (start .args .kinds)) (now (start .args .words)) in
     let z = shape .shape .given .0 .0 in
     let ez : toZ w64 (ofZ w64 z) ≡ z = toZ-ofZ w64 z (record { sfits = c .before .before .known-told .given .0 .1 }) in
-    ap lit-exp ez
-    ∙ exp-of-lit at (start .args .arg) (sym (shape .before .before .shape-at .ensures) ∙ shape .shape .given .1) (tested isZero ez (c .before .is-zero .ensures) (c .if1 .left))
+    ap lit-exp ez ∙ exp-of-lit at (start .args .arg) (sym (shape .before .before .shape-at .ensures) ∙ shape .shape .given .1)
+    (tested isZero ez (c .before .is-zero .ensures) (c .if1 .left))
 
 returns-4 : tie.Need-returns-4
 returns-4 c =
-    let start = c .before .before .before .before .before .before .before .before in
-    let at = nodeIn (now (start .args .kinds)) (now (start .args .words)) in
     let shape = c .before .before .before .before .before in
+    let start = shape .before .before .before in
+    let at = nodeIn (now (start .args .kinds)) (now (start .args .words)) in
     let z = c .before .z .given .0 .0 in
     let ez : toZ w64 (ofZ w64 z) ≡ z = toZ-ofZ w64 z (record { sfits = c .known-told3 .given .0 .1 }) in
-    ap (λ z. mul (lit-exp z) (exp (# (shape .shape2 .given .0 .0)))) ez
-    ∙ exp-of-shifted at (start .args .arg) (sym (shape .before .before .shape-at .ensures) ∙ shape .shape2 .given .1) (sym (c .before .before .before .shape-at2 .ensures) ∙ c .before .z .given .1)
+    ap (λ z. mul (lit-exp z) (exp (# (shape .shape2 .given .0 .0)))) ez ∙ exp-of-shifted at (start .args .arg)
+    (sym (shape .before .before .shape-at .ensures) ∙ shape .shape2 .given .1)
+    (sym (c .before .before .before .shape-at2 .ensures) ∙ c .before .z .given .1)
 
 returns-5 : tie.Need-returns-5
 returns-5 c =

@@ -25,7 +25,9 @@ belongs-requires : tie.Need-belongs-requires Inv-loop μ-loop
 belongs-requires c κs = tt
 
 returns : tie.Need-returns Inv-loop μ-loop
-returns c = stops _ _ _ _ (c .before .before .before .before .loop .inv) (c .before .before .before .loop-test .taken) (c .before .belongs .ensures) (not-true _ (c .if1 .taken))
+returns c =
+    let at-loop = c .before .before .before .before in
+    stops _ _ _ _ (at-loop .loop .inv) (c .before .before .before .loop-test .taken) (c .before .belongs .ensures) (not-true _ (c .if1 .taken))
 
 add-i : tie.Need-add-i Inv-loop μ-loop
 add-i c = omega arith
@@ -34,7 +36,9 @@ loop-less : tie.Need-loop-less Inv-loop μ-loop
 loop-less c = omega arith
 
 loop-again : tie.Need-loop-again Inv-loop μ-loop
-loop-again c = goes-on _ _ _ _ (c .before .before .before .before .loop .inv) (c .before .before .before .loop-test .taken) (c .before .belongs .ensures) (not-false _ (c .if1 .left))
+loop-again c =
+    let at-loop = c .before .before .before .before in
+    goes-on _ _ _ _ (at-loop .loop .inv) (c .before .before .before .loop-test .taken) (c .before .belongs .ensures) (not-false _ (c .if1 .left))
 
 returns-2 : tie.Need-returns-2 Inv-loop μ-loop
 returns-2 c = ends _ _ _ _ (c .before .loop .inv) (c .loop-test .left)

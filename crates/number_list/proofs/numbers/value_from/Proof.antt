@@ -25,7 +25,9 @@ is-digit-requires : tie.Need-is-digit-requires Inv-loop μ-loop
 is-digit-requires c κs = tt
 
 returns : tie.Need-returns Inv-loop μ-loop
-returns c = stops _ _ _ _ (c .before .before .before .before .loop .inv) (c .before .before .before .loop-test .taken) (c .before .is-digit .ensures) (not-true _ (c .if1 .taken))
+returns c =
+    let at-loop = c .before .before .before .before in
+    stops _ _ _ _ (at-loop .loop .inv) (c .before .before .before .loop-test .taken) (c .before .is-digit .ensures) (not-true _ (c .if1 .taken))
 
 digit-of-requires : tie.Need-digit-of-requires Inv-loop μ-loop
 digit-of-requires c κs = tt
@@ -35,15 +37,18 @@ has-room-requires c κs = tt
 
 returns-2 : tie.Need-returns-2 Inv-loop μ-loop
 returns-2 c =
-    let turn = c .before .before .before .before .before .before in
-    too-long _ _ _ _ (turn .before .loop .inv) (turn .loop-test .taken) (c .before .before .before .before .is-digit .ensures) (not-false _ (c .before .before .before .if1 .left))
+    let at-is-digit = c .before .before .before .before in
+    let turn = at-is-digit .before .before in
+    too-long _ _ _ _ (turn .before .loop .inv) (turn .loop-test .taken) (at-is-digit .is-digit .ensures) (not-false _ (c .before .before .before .if1 .left))
     (over _ _ _ (c .before .before .digit-of .ensures) (c .before .has-room .ensures) (not-true _ (c .if2 .taken)))
 
 mul-n : tie.Need-mul-n Inv-loop μ-loop
 mul-n c = omega (arith, within _ _ _ (c .before .before .digit-of .ensures) (c .before .has-room .ensures) (not-false _ (c .if2 .left)))
 
 add-n : tie.Need-add-n Inv-loop μ-loop
-add-n c = omega (arith, c .before .before .digit-of .ensures, within _ _ _ (c .before .before .digit-of .ensures) (c .before .has-room .ensures) (not-false _ (c .if2 .left)))
+add-n c =
+    let at-digit-of = c .before .before in
+    omega (arith, at-digit-of .digit-of .ensures, within _ _ _ (at-digit-of .digit-of .ensures) (c .before .has-room .ensures) (not-false _ (c .if2 .left)))
 
 add-i : tie.Need-add-i Inv-loop μ-loop
 add-i c = omega arith
@@ -53,10 +58,12 @@ loop-less c = omega arith
 
 loop-again : tie.Need-loop-again Inv-loop μ-loop
 loop-again c =
-    let turn = c .before .before .before .before .before .before in
-    rw (c .before .before .digit-of .ensures)
-    (goes-on _ _ _ _ (turn .before .loop .inv) (turn .loop-test .taken) (c .before .before .before .before .is-digit .ensures) (not-false _ (c .before .before .before .if1 .left))
-    (within _ _ _ (c .before .before .digit-of .ensures) (c .before .has-room .ensures) (not-false _ (c .if2 .left))))
+    let at-digit-of = c .before .before in
+    let turn = at-digit-of .before .before .before .before in
+    rw (at-digit-of .digit-of .ensures)
+    (goes-on _ _ _ _ (turn .before .loop .inv) (turn .loop-test .taken) (at-digit-of .before .before .is-digit .ensures)
+    (not-false _ (at-digit-of .before .if1 .left))
+    (within _ _ _ (at-digit-of .digit-of .ensures) (c .before .has-room .ensures) (not-false _ (c .if2 .left))))
 
 returns-3 : tie.Need-returns-3 Inv-loop μ-loop
 returns-3 c = ends _ _ _ _ (c .before .loop .inv) (c .loop-test .left)

@@ -30,16 +30,23 @@ wrapping-add-u64-requires c κs = tt
 
 add-i : tie.Need-add-i Inv-loop μ-loop
 add-i c =
-    let turn = c .before .before .before .before .before .before .before .before .before .before .before .before .before in
-    omega (arith, turn .loop-test .taken, turn .before .before .before .before .before .fits .new .fits)
+    let earlier = c .before .before .before .before .before .before in
+    let turn = earlier .before .before .before .before .before .before .before in
+    let start = turn .before .before .before .before .before in
+    omega (arith, turn .loop-test .taken, start .fits .new .fits)
 
 loop-less : tie.Need-loop-less Inv-loop μ-loop
-loop-less c = omega (arith, c .before .before .before .before .before .before .before .before .before .before .before .before .before .loop-test .taken)
+loop-less c =
+    let earlier = c .before .before .before .before .before .before in
+    let at-loop-test = earlier .before .before .before .before .before .before .before in
+    omega (arith, at-loop-test .loop-test .taken)
 
 loop-again : tie.Need-loop-again Inv-loop μ-loop
 loop-again c =
-    let put = c .before .before .before .before .before .set .kept in
-    let before = c .before .before .before .before .before .before .before .before .before .before .before .before .before .before .loop .inv in
+    let at-set = c .before .before .before .before .before in
+    let at-loop = at-set .before .before .before .before .before .before .before .before .before in
+    let put = at-set .set .kept in
+    let before = at-loop .loop .inv in
     (put .0 ∙ before .0, put .1 .0 ∙ before .1)
 
 same-length : tie.Need-same-length Inv-loop μ-loop

@@ -19,7 +19,8 @@ same-words-requires : tie.Need-same-words-requires
 same-words-requires c κs = search needs
 
 returns-3 : tie.Need-returns-3
-returns-3 c = words-tell (c .before .before .before .if1 .left) (c .before .before .same-bytes .ensures) (not-false _ (c .before .if2 .left)) (c .same-words .ensures)
+returns-3 c =
+    words-tell (c .before .before .before .if1 .left) (c .before .before .same-bytes .ensures) (not-false _ (c .before .if2 .left)) (c .same-words .ensures)
 
 pub same-pools-spec : {M : Type 1} → statement M
 same-pools-spec =

@@ -45,19 +45,35 @@ cast-if1 : tie.Need-cast-if1 Inv-loop μ-loop
 cast-if1 c = search needs
 
 returns : tie.Need-returns Inv-loop μ-loop
-returns c = one-is-long (nodeIn (c .before .before .before .before .before .args .kinds .now) (c .before .before .before .before .before .args .words .now)) (c .before .before .before .before .before .args .t3 .len) (c .before .before .before .before .before .args .t3 .coeffs) (c .before .before .before .before .loop .i) (omega (arith, long (c .before .before .before .before .before), c .before .before .before .before .before .pre)) (c .before .before .before .loop-test .taken) (is-long (textOf (nodeIn (c .before .before .before .before .before .args .kinds .now) (c .before .before .before .before .before .args .words .now)) (getD (c .before .before .before .before .before .args .t3 .coeffs) (c .before .before .before .before .loop .i) 0)) (c .before .text-length .ensures) (c .if1 .taken))
+returns c =
+    let at-loop = c .before .before .before .before in
+    let start = at-loop .before in
+    let at = nodeIn (start .args .kinds .now) (start .args .words .now) in
+    one-is-long at (start .args .t3 .len) (start .args .t3 .coeffs) (at-loop .loop .i) (omega (arith, long start, start .pre))
+    (c .before .before .before .loop-test .taken)
+    (is-long (textOf at (getD (start .args .t3 .coeffs) (at-loop .loop .i) 0)) (c .before .text-length .ensures) (c .if1 .taken))
 
 add-i : tie.Need-add-i Inv-loop μ-loop
-add-i c = omega (arith, c .before .before .before .loop-test .taken, c .before .before .before .before .before .pre)
+add-i c =
+    let start = c .before .before .before .before .before in
+    omega (arith, c .before .before .before .loop-test .taken, start .pre)
 
 loop-less : tie.Need-loop-less Inv-loop μ-loop
 loop-less c = omega (arith, c .before .before .before .loop-test .taken)
 
 loop-again : tie.Need-loop-again Inv-loop μ-loop
-loop-again c = one-more-short (nodeIn (c .before .before .before .before .before .args .kinds .now) (c .before .before .before .before .before .args .words .now)) (c .before .before .before .before .before .args .t3 .coeffs) (c .before .before .before .before .loop .i) (c .before .before .before .before .loop .inv) (is-short (textOf (nodeIn (c .before .before .before .before .before .args .kinds .now) (c .before .before .before .before .before .args .words .now)) (getD (c .before .before .before .before .before .args .t3 .coeffs) (c .before .before .before .before .loop .i) 0)) (c .before .text-length .ensures) (c .if1 .left))
+loop-again c =
+    let at-loop = c .before .before .before .before in
+    let start = at-loop .before in
+    let at = nodeIn (start .args .kinds .now) (start .args .words .now) in
+    one-more-short at (start .args .t3 .coeffs) (at-loop .loop .i) (at-loop .loop .inv)
+    (is-short (textOf at (getD (start .args .t3 .coeffs) (at-loop .loop .i) 0)) (c .before .text-length .ensures) (c .if1 .left))
 
 returns-2 : tie.Need-returns-2 Inv-loop μ-loop
-returns-2 c = all-are-short (nodeIn (c .before .before .args .kinds .now) (c .before .before .args .words .now)) (c .before .before .args .t3 .len) (c .before .before .args .t3 .coeffs) (omega (arith, long (c .before .before), c .before .before .pre)) (λ j h. c .before .loop .inv j (omega (arith, c .loop-test .left, h)))
+returns-2 c =
+    let start = c .before .before in
+    all-are-short (nodeIn (start .args .kinds .now) (start .args .words .now)) (start .args .t3 .len) (start .args .t3 .coeffs)
+    (omega (arith, long start, start .pre)) (λ j h. c .before .loop .inv j (omega (arith, c .loop-test .left, h)))
 
 pub all-short-spec : {M : Type 1} → statement M
 all-short-spec =

@@ -16,7 +16,8 @@ only-requires c κs = search needs
 returns : tie.Need-returns
 returns c =
     let a = c .before .before .before .args in
-    refusal-prepared unknownVariable (a .var) (a .order) (pointOf (a .point)) (a .kinds .now) (a .words .now) (c .only .ensures) (no-variable (a .file .now) (a .var) (a .order) (pointOf (a .point)) (c .before .if1 .taken))
+    refusal-prepared unknownVariable (a .var) (a .order) (pointOf (a .point)) (a .kinds .now) (a .words .now) (c .only .ensures)
+    (no-variable (a .file .now) (a .var) (a .order) (pointOf (a .point)) (c .before .if1 .taken))
 
 is-point-requires : tie.Need-is-point-requires
 is-point-requires c κs = search needs
@@ -27,15 +28,20 @@ only-requires-2 c κs = search needs
 returns-2 : tie.Need-returns-2
 returns-2 c =
     let a = c .before .before .before .before .before .args in
-    refusal-prepared notLiteral (a .var) (a .order) (pointOf (a .point)) (a .kinds .now) (a .words .now) (c .only2 .ensures) (no-point (a .file .now) (a .var) (a .order) (pointOf (a .point)) (c .before .before .before .if1 .left) (sym (c .before .before .is-point .ensures) ∙ not-true _ (c .before .if2 .taken)))
+    refusal-prepared notLiteral (a .var) (a .order) (pointOf (a .point)) (a .kinds .now) (a .words .now) (c .only2 .ensures)
+    (no-point (a .file .now) (a .var) (a .order) (pointOf (a .point)) (c .before .before .before .if1 .left)
+    (sym (c .before .before .is-point .ensures) ∙ not-true _ (c .before .if2 .taken)))
 
 only-requires-3 : tie.Need-only-requires-3
 only-requires-3 c κs = search needs
 
 returns-3 : tie.Need-returns-3
 returns-3 c =
-    let a = c .before .before .before .before .before .before .args in
-    refusal-prepared wrongOrder (a .var) (a .order) (pointOf (a .point)) (a .kinds .now) (a .words .now) (c .only3 .ensures) (no-order (a .file .now) (a .var) (a .order) (pointOf (a .point)) (c .before .before .before .before .if1 .left) (sym (c .before .before .before .is-point .ensures) ∙ not-false _ (c .before .before .if2 .left)) (c .before .if3 .taken))
+    let at-if1 = c .before .before .before .before in
+    let a = at-if1 .before .before .args in
+    refusal-prepared wrongOrder (a .var) (a .order) (pointOf (a .point)) (a .kinds .now) (a .words .now) (c .only3 .ensures)
+    (no-order (a .file .now) (a .var) (a .order) (pointOf (a .point)) (at-if1 .if1 .left)
+    (sym (c .before .before .before .is-point .ensures) ∙ not-false _ (c .before .before .if2 .left)) (c .before .if3 .taken))
 
 cast-lines-of : tie.Need-cast-lines-of
 cast-lines-of c = search needs
@@ -48,8 +54,11 @@ lines-of-requires c κs = search needs
 
 returns-4 : tie.Need-returns-4
 returns-4 c =
-    let a = c .before .before .before .before .before .before .before .before .args in
-    prepared-as (ap (λ (k : Coefficients). sheetText (a .var) (a .order) (pointOf (a .point)) k) (sym (in-range (a .file .now) (a .var) (a .order) (pointOf (a .point)) (c .before .before .before .before .before .before .if1 .left) (sym (c .before .before .before .before .before .is-point .ensures) ∙ not-false _ (c .before .before .before .before .if2 .left)) (c .before .before .before .if3 .left)))) (c .lines-of .ensures)
+    let at-if2 = c .before .before .before .before in
+    let a = at-if2 .before .before .before .before .args in
+    prepared-as (ap (λ (k : Coefficients). sheetText (a .var) (a .order) (pointOf (a .point)) k)
+    (sym (in-range (a .file .now) (a .var) (a .order) (pointOf (a .point)) (at-if2 .before .before .if1 .left)
+    (sym (at-if2 .before .is-point .ensures) ∙ not-false _ (at-if2 .if2 .left)) (c .before .before .before .if3 .left)))) (c .lines-of .ensures)
 
 pub asked-spec : {M : Type 1} → statement M
 asked-spec =

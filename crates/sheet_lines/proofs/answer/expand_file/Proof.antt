@@ -21,17 +21,23 @@ answer-of-requires c κs = search needs
 
 returns : tie.Need-returns
 returns c =
+    let start = c .before .before .before .before .before .before .before in
     let made = c .before .before .before .read-file in
     refusal-answers (made .result) (made .last .1 .0) (made .last .1 .1 .0) (c .answer-of .ensures) (c .before .enum-told .given .1)
-    (file-refused (c .before .before .before .before .before .before .before .args .file .now) (c .before .before .before .before .before .before .before .args .var) (pointOf (c .before .before .before .before .before .before .before .args .point)) (c .before .before .before .before .before .before .before .args .order) (made .result) (made .last .1 .0) (made .last .1 .1 .0) (c .before .before .before .before .before .before .before .pre .1) (made .ensures) (c .before .enum-told .given .1))
+    (file-refused (start .args .file .now) (start .args .var) (pointOf (start .args .point)) (start .args .order) (made .result) (made .last .1 .0)
+    (made .last .1 .1 .0) (start .pre .1) (made .ensures) (c .before .enum-told .given .1))
 
 expand-in-requires : tie.Need-expand-in-requires
 expand-in-requires c κs = search needs
 
 returns-2 : tie.Need-returns-2
 returns-2 c =
-    let made = c .before .before .before .before .before .before .read-file in
-    answers-same (c .expand-in .ensures) (file-read (c .before .before .before .before .before .before .before .before .before .before .args .file .now) (c .before .before .before .before .before .before .before .before .before .before .args .var) (pointOf (c .before .before .before .before .before .before .before .before .before .before .args .point)) (c .before .before .before .before .before .before .before .before .before .before .args .order) (made .result) (made .last .1 .0) (made .last .1 .1 .0) (c .before .before .before .before .before .before .before .before .before .before .pre .1) (made .ensures) (c .before .before .before .before .made .given .1))
+    let at-made = c .before .before .before .before in
+    let start = at-made .before .before .before .before .before .before in
+    let made = at-made .before .before .read-file in
+    answers-same (c .expand-in .ensures)
+    (file-read (start .args .file .now) (start .args .var) (pointOf (start .args .point)) (start .args .order) (made .result) (made .last .1 .0)
+    (made .last .1 .1 .0) (start .pre .1) (made .ensures) (at-made .made .given .1))
 
 pub expand-file-spec : {M : Type 1} → statement M
 expand-file-spec =

@@ -25,10 +25,13 @@ only-requires c κs = search needs
 
 returns : tie.Need-returns
 returns c =
-    let a = c .before .before .before .before .before .before .before .before .before .before .before .before .args in
-    let found = c .before .before .before .before .before .before .before .before .expand-file in
+    let at-enum-told = c .before .before .before .before .before .before in
+    let a = at-enum-told .before .before .before .before .before .before .args in
+    let found = at-enum-told .before .before .expand-file in
     refusal-prepared noRoom (a .var) (a .order) (pointOf (a .point)) (found .last .1 .0) (found .last .1 .1 .0) (c .only .ensures)
-    (coefficients-found (a .file .now) (a .var) (pointOf (a .point)) (a .order) (found .ensures) (c .before .before .before .before .before .before .enum-told .given .1) ∙ one-not-printed (poolOf (found .last .1 .0) (found .last .1 .1 .0) (c .before .before .before .before .before .before .enum-told .given .0 .0)) (listOf (found .result .expansion)) (sym (c .before .before .all-short .ensures) ∙ not-true _ (c .before .if1 .taken)))
+    (coefficients-found (a .file .now) (a .var) (pointOf (a .point)) (a .order) (found .ensures) (at-enum-told .enum-told .given .1)
+    ∙ one-not-printed (poolOf (found .last .1 .0) (found .last .1 .1 .0) (at-enum-told .enum-told .given .0 .0)) (listOf (found .result .expansion))
+    (sym (c .before .before .all-short .ensures) ∙ not-true _ (c .before .if1 .taken)))
 
 enum-known-status : tie.Need-enum-known-status
 enum-known-status c = search needs
@@ -38,17 +41,21 @@ only-requires-2 c κs = search needs
 
 returns-2 : tie.Need-returns-2
 returns-2 c =
-    let a = c .before .before .before .before .before .before .before .before .before .before .before .before .args in
-    let found = c .before .before .before .before .before .before .before .before .expand-file in
+    let at-enum-told = c .before .before .before .before .before .before in
+    let a = at-enum-told .before .before .before .before .before .before .args in
+    let found = at-enum-told .before .before .expand-file in
     let short = sym (c .before .before .all-short .ensures) ∙ not-false _ (c .before .if1 .left) in
     lines-prepared (a .var) (a .order) (a .point) (found .result .expansion) (found .last .1 .0) (found .last .1 .1 .0) (found .ensures .tidy) short
-    (coefficients-found (a .file .now) (a .var) (pointOf (a .point)) (a .order) (found .ensures) (c .before .before .before .before .before .before .enum-told .given .1) ∙ all-printed (poolOf (found .last .1 .0) (found .last .1 .1 .0) (c .before .before .before .before .before .before .enum-told .given .0 .0)) (listOf (found .result .expansion)) short)
+    (coefficients-found (a .file .now) (a .var) (pointOf (a .point)) (a .order) (found .ensures) (at-enum-told .enum-told .given .1) ∙ all-printed
+    (poolOf (found .last .1 .0) (found .last .1 .1 .0) (at-enum-told .enum-told .given .0 .0)) (listOf (found .result .expansion)) short)
 
 returns-3 : tie.Need-returns-3
 returns-3 c =
-    let a = c .before .before .before .before .before .before .before .before .args in
-    let found = c .before .before .before .before .expand-file in
-    refusal-prepared (c .before .before .status .given .0 .0) (a .var) (a .order) (pointOf (a .point)) (found .last .1 .0) (found .last .1 .1 .0) (c .only2 .ensures) (refusal-found (a .file .now) (a .var) (pointOf (a .point)) (a .order) (found .ensures) (c .before .before .status .given .1))
+    let at-status = c .before .before in
+    let a = at-status .before .before .before .before .before .before .args in
+    let found = at-status .before .before .expand-file in
+    refusal-prepared (at-status .status .given .0 .0) (a .var) (a .order) (pointOf (a .point)) (found .last .1 .0) (found .last .1 .1 .0)
+    (c .only2 .ensures) (refusal-found (a .file .now) (a .var) (pointOf (a .point)) (a .order) (found .ensures) (at-status .status .given .1))
 
 pub lines-of-spec : {M : Type 1} → statement M
 lines-of-spec =

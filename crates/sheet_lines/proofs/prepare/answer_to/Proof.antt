@@ -23,7 +23,9 @@ asked-requires : tie.Need-asked-requires
 asked-requires c κs = search needs
 
 returns : tie.Need-returns
-returns c = rw (c .before .enum-told .given .1) (only-prepared Usage (c .before .before .before .before .args .kinds .now) (c .before .before .before .before .args .words .now) (c .only .ensures) refl)
+returns c =
+    let start = c .before .before .before .before in
+    rw (c .before .enum-told .given .1) (only-prepared Usage (start .args .kinds .now) (start .args .words .now) (c .only .ensures) refl)
 
 returns-2 : tie.Need-returns-2
 returns-2 c = rw (c .before .before .before .before .before .line .given .1) (rw (c .before .point-of .ensures) at (c .asked .ensures))

@@ -19,7 +19,8 @@ answer-to-requires c κs = search needs
 returns : tie.Need-returns
 returns c =
     let a = c .before .before .before .before .before .before .before .before .args in
-    prepared-as (ap (λ (l : Line). answerTo (a .file .now) (lineIn l)) (c .before .parse .ensures) ∙ same-sheet (a .file .now) (a .line .now)) (c .answer-to .ensures)
+    prepared-as (ap (λ (l : Line). answerTo (a .file .now) (lineIn l)) (c .before .parse .ensures) ∙ same-sheet (a .file .now) (a .line .now))
+    (c .answer-to .ensures)
 
 pub prepared-spec : {M : Type 1} → statement M
 prepared-spec = tie.close (tie.spec parse-requires answer-to-requires returns)

@@ -37,9 +37,14 @@ same-length c = search needs
 
 returns : tie.Need-returns
 returns c =
-    written-after
-    (written-after (written-after (written-after (written-after (c .before .before .before .before .before .before .before .before .before .before .before .before .before .before .before .before .before .before .before .before .before .before .before .before .before .write-exponent .ensures) (c .before .before .before .before .before .before .before .before .before .before .before .before .before .before .before .before .before .before .before .before .write .ensures)) (c .before .before .before .before .before .before .before .before .before .before .before .before .before .before .before .before .write-exponent2 .ensures)) (c .before .before .before .before .before .before .before .before .before .before .before .write2 .ensures)) (c .before .before .before .before .before .before .before .point-text .ensures))
-    (c .before .before .write3 .ensures)
+    let at-point-text = c .before .before .before .before .before .before .before in
+    let at-write2 = at-point-text .before .before .before .before in
+    let at-write-exponent2 = at-write2 .before .before .before .before .before in
+    let at-write = at-write-exponent2 .before .before .before .before in
+    let at-write-exponent = at-write .before .before .before .before .before in
+    written-after (written-after (written-after (written-after
+    (written-after (at-write-exponent .write-exponent .ensures) (at-write .write .ensures)) (at-write-exponent2 .write-exponent2 .ensures))
+    (at-write2 .write2 .ensures)) (at-point-text .point-text .ensures)) (c .before .before .write3 .ensures)
 
 pub first-line-spec : {M : Type 1} → statement M
 first-line-spec =

@@ -18,7 +18,9 @@ same-length : tie.Need-same-length
 same-length c = search needs
 
 returns : tie.Need-returns
-returns c = written-after (c .before .before .before .before .before .before .before .write-exponent .ensures) (c .before .before .write .ensures)
+returns c =
+    let at-write-exponent = c .before .before .before .before .before .before .before in
+    written-after (at-write-exponent .write-exponent .ensures) (c .before .before .write .ensures)
 
 pub label-spec : {M : Type 1} → statement M
 label-spec =

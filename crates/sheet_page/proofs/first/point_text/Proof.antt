@@ -31,7 +31,11 @@ same-length-2 : tie.Need-same-length-2
 same-length-2 c = search needs
 
 returns-2 : tie.Need-returns-2
-returns-2 c = rw (c .before .before .before .before .before .point .given .1) (rw (toZ-ofZ w64 (c .before .before .before .before .before .point .given .0 .0) (record { sfits = c .before .before .before .before .known-told .given .0 .1 })) at (c .before .before .write-literal .ensures))
+returns-2 c =
+    let at-known-told = c .before .before .before .before in
+    rw (at-known-told .before .point .given .1)
+    (rw (toZ-ofZ w64 (at-known-told .before .point .given .0 .0) (record { sfits = at-known-told .known-told .given .0 .1 }))
+    at (c .before .before .write-literal .ensures))
 
 pub point-text-spec : {M : Type 1} → statement M
 point-text-spec =

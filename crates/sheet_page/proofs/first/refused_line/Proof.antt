@@ -24,7 +24,10 @@ same-length : tie.Need-same-length
 same-length c = search needs
 
 returns : tie.Need-returns
-returns c = written-after (written-after (c .before .before .before .before .before .before .before .before .before .before .before .write .ensures) (c .before .before .before .before .before .before .before .write-exponent .ensures)) (c .before .before .write2 .ensures)
+returns c =
+    let at-write-exponent = c .before .before .before .before .before .before .before in
+    let at-write = at-write-exponent .before .before .before .before in
+    written-after (written-after (at-write .write .ensures) (at-write-exponent .write-exponent .ensures)) (c .before .before .write2 .ensures)
 
 pub refused-line-spec : {M : Type 1} → statement M
 refused-line-spec =

@@ -17,7 +17,8 @@ cast-if2 c = search needs
 returns-2 : tie.Need-returns-2
 returns-2 c =
     let a = c .before .before .before .before .args in
-    nothing-put (a .out .now) (too-many (a .page) (a .kinds .now) (a .words .now) (a .line) (a .part) (length (a .out .now)) (c .before .before .if1 .left) (c .if2 .taken))
+    nothing-put (a .out .now)
+    (too-many (a .page) (a .kinds .now) (a .words .now) (a .line) (a .part) (length (a .out .now)) (c .before .before .if1 .left) (c .if2 .taken))
 
 piece-of-requires : tie.Need-piece-of-requires
 piece-of-requires c κs = search needs
@@ -27,8 +28,10 @@ same-length c = search needs
 
 returns-3 : tie.Need-returns-3
 returns-3 c =
-    let a = c .before .before .before .before .before .before .before .before .args in
-    put-as (may-be-put (a .page) (a .kinds .now) (a .words .now) (a .line) (a .part) (length (a .out .now)) (c .before .before .before .before .before .before .if1 .left) (c .before .before .before .before .if2 .left)) (c .before .before .piece-of .ensures)
+    let at-if2 = c .before .before .before .before in
+    let a = at-if2 .before .before .before .before .args in
+    put-as (may-be-put (a .page) (a .kinds .now) (a .words .now) (a .line) (a .part) (length (a .out .now)) (at-if2 .before .before .if1 .left)
+    (at-if2 .if2 .left)) (c .before .before .piece-of .ensures)
 
 pub piece-spec : {M : Type 1} → statement M
 piece-spec =

@@ -19,8 +19,11 @@ same-length c = search needs
 
 returns : tie.Need-returns
 returns c =
-    let a = c .before .before .before .before .before .before .before .args in
-    put-as (ap short (first-piece (a .t1) (a .kinds .now) (a .words .now) (c .before .before .before .before .before .if1 .taken) (c .before .before .before .before .if2 .taken))) (put-short (head-short (a .t1)) (wrote-put (headOf (a .t1)) (c .before .before .head .ensures) (head-short (a .t1)) (c .before .before .before .before .before .before .before .pre .1)))
+    let at-if2 = c .before .before .before .before in
+    let start = at-if2 .before .before .before in
+    let a = start .args in
+    put-as (ap short (first-piece (a .t1) (a .kinds .now) (a .words .now) (at-if2 .before .if1 .taken) (at-if2 .if2 .taken)))
+    (put-short (head-short (a .t1)) (wrote-put (headOf (a .t1)) (c .before .before .head .ensures) (head-short (a .t1)) (start .pre .1)))
 
 returns-2 : tie.Need-returns-2
 returns-2 c =
@@ -43,8 +46,13 @@ same-length-2 c = search needs
 
 returns-4 : tie.Need-returns-4
 returns-4 c =
-    let a = c .before .before .before .before .before .before .before .before .args in
-    put-as (ap short (index-piece (a .t1) (a .kinds .now) (a .words .now) (c .before .before .before .before .before .before .if1 .left) (c .before .before .before .before .before .if3 .left) (c .before .before .before .before .if4 .taken))) (put-short (label-short (a .line - 1)) (wrote-put (decimal (a .line - 1) ++ colon) (c .before .before .label .ensures) (label-short (a .line - 1)) (c .before .before .before .before .before .before .before .before .pre .1)))
+    let at-if4 = c .before .before .before .before in
+    let start = at-if4 .before .before .before .before in
+    let a = start .args in
+    put-as (ap short
+    (index-piece (a .t1) (a .kinds .now) (a .words .now) (at-if4 .before .before .if1 .left) (at-if4 .before .if3 .left) (at-if4 .if4 .taken)))
+    (put-short (label-short (a .line - 1))
+    (wrote-put (decimal (a .line - 1) ++ colon) (c .before .before .label .ensures) (label-short (a .line - 1)) (start .pre .1)))
 
 cast-at : tie.Need-cast-at
 cast-at c = search needs
@@ -63,8 +71,11 @@ same-length-3 c = search needs
 
 returns-5 : tie.Need-returns-5
 returns-5 c =
-    let a = c .before .before .before .before .before .before .before .before .before .before .args in
-    put-as (ap short (text-piece (a .t1) (a .kinds .now) (a .words .now) (c .before .before .before .before .before .before .before .before .if1 .left) (c .before .before .before .before .before .before .before .if3 .left) (c .before .before .before .before .before .if5 .taken))) (c .before .before .text-of .ensures)
+    let at-if5 = c .before .before .before .before .before in
+    let a = at-if5 .before .before .before .before .before .args in
+    put-as (ap short
+    (text-piece (a .t1) (a .kinds .now) (a .words .now) (at-if5 .before .before .before .if1 .left) (at-if5 .before .before .if3 .left)
+    (at-if5 .if5 .taken))) (c .before .before .text-of .ensures)
 
 slice-aggregate-write : tie.Need-slice-aggregate-write
 slice-aggregate-write c = search needs
@@ -77,13 +88,22 @@ same-length-4 c = search needs
 
 returns-6 : tie.Need-returns-6
 returns-6 c =
-    let a = c .before .before .before .before .before .before .before .before .before .before .before .args in
-    put-as (ap short (end-piece (a .t1) (a .kinds .now) (a .words .now) (c .before .before .before .before .before .before .before .before .before .if1 .left) (c .before .before .before .before .before .before .before .before .if3 .left) (c .before .before .before .before .before .if6 .taken))) (put-short end-short (wrote-put lineEnd (c .before .before .write .ensures) end-short (c .before .before .before .before .before .before .before .before .before .before .before .pre .1)))
+    let at-if6 = c .before .before .before .before .before in
+    let at-if1 = at-if6 .before .before .before .before in
+    let start = at-if1 .before .before in
+    let a = start .args in
+    put-as (ap short
+    (end-piece (a .t1) (a .kinds .now) (a .words .now) (at-if1 .if1 .left) (at-if6 .before .before .before .if3 .left) (at-if6 .if6 .taken)))
+    (put-short end-short (wrote-put lineEnd (c .before .before .write .ensures) end-short (start .pre .1)))
 
 returns-7 : tie.Need-returns-7
 returns-7 c =
-    let a = c .before .before .before .before .before .before .args in
-    nothing-put (a .out .now) (ap short (no-part (a .t1) (a .kinds .now) (a .words .now) (c .before .before .before .before .if1 .left) (c .before .before .before .if3 .left) (c .before .before .if4 .left) (c .before .if5 .left) (c .if6 .left)))
+    let at-if1 = c .before .before .before .before in
+    let a = at-if1 .before .before .args in
+    nothing-put (a .out .now)
+    (ap short
+    (no-part (a .t1) (a .kinds .now) (a .words .now) (at-if1 .if1 .left) (c .before .before .before .if3 .left) (c .before .before .if4 .left)
+    (c .before .if5 .left) (c .if6 .left)))
 
 pub piece-of-spec : {M : Type 1} → statement M
 piece-of-spec =

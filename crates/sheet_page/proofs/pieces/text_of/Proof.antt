@@ -26,8 +26,9 @@ same-length-2 c = search needs
 
 returns-2 : tie.Need-returns-2
 returns-2 c =
-    let a = c .before .before .before .before .before .before .args in
-    short-put (textOf (nodeIn (a .kinds .now) (a .words .now)) (a .node)) (c .before .before .before .print-into .ensures) (c .if1 .left) (c .before .before .before .before .before .before .pre)
+    let start = c .before .before .before .before .before .before in
+    let a = start .args in
+    short-put (textOf (nodeIn (a .kinds .now) (a .words .now)) (a .node)) (c .before .before .before .print-into .ensures) (c .if1 .left) (start .pre)
 
 pub text-of-spec : {M : Type 1} → statement M
 text-of-spec =
