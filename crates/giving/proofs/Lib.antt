@@ -1,0 +1,4 @@
+pub mod Work
+pub mod Walks
+pub mod Lists
+pub mod Expansions
