@@ -17,7 +17,7 @@ use Rattle.constructor_laws.proofs.Growth.{grown-by-nothing, grown-by-both}
 use Rattle.taylor.specs.Work.{Result, bind, yield, at}
 use Rattle.book.specs.Formula.{Formula, whole, work, works, row}
 use Rattle.book.specs.Recurrence.{Recurrence}
-use Rattle.giving.proofs.Work.{Gave, accepted}
+use Rattle.constructor_laws.proofs.Giving.{Gave, accepted}
 use Rattle.meaning.specs.Model.{Algebra, Model, Distributive}
 use Rattle.meaning.specs.Value.{Values, value}
 use Rattle.meaning.proofs.Running.{Has, has-later, has-same, Is}

@@ -9,7 +9,7 @@ use Rattle.constructor_laws.specs.Grown.{Grown}
 use Rattle.constructor_laws.specs.Keeps.{Keeps}
 use Rattle.taylor.specs.Work.{Work, bind}
 use Rattle.book.specs.Formula.{Formula, #, whole, _⊕_, _⊖_, _⊗_, _⊘_, _⊟_, Exp, Log, work}
-use Rattle.giving.proofs.Work.{Gives, gives-here, gives-next}
+use Rattle.constructor_laws.proofs.Giving.{Gives, gives-here, gives-next}
 use Rattle.meaning.specs.Model.{Algebra, Model}
 use Rattle.meaning.specs.Value.{Values, value}
 use Rattle.meaning.proofs.Values.{same-op, value-kept}

@@ -21,7 +21,7 @@ use Rattle.constructor_laws.proofs.Growth.{grown-by-nothing, grown-by-both}
 use Rattle.constructor_laws.proofs.Rules.{parts-below}
 use Rattle.constructor_laws.proofs.Coding.{Fine}
 use Rattle.constructor_laws.proofs.Soundness.{Sound, add-sound, mul-sound, div-sound, max-sound, neg-sound, exp-sound, log-sound, pow-sound}
-use Rattle.giving.proofs.Work.{Aims, Gives, ended, gives-weaker, gives-here, gives-next, append-gives}
+use Rattle.constructor_laws.proofs.Giving.{Aims, Gives, ended, gives-weaker, gives-here, gives-next, append-gives}
 use Rattle.meaning.specs.Model.{Algebra, Model, power}
 use Rattle.meaning.specs.Value.{Values, valueNode, value}
 use Rattle.meaning.proofs.Values.{each-below, same-op, falling, node-same, value-law, value-kept}

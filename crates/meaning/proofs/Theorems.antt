@@ -11,7 +11,7 @@ use Rattle.constructors.specs.Build.{calls, literal}
 use Rattle.constructor_laws.specs.Keeps.{Keeps}
 use Rattle.meaning.specs.Model.{Algebra, Model, power}
 use Rattle.meaning.specs.Value.{Values, valueNode, value, Means}
-use Rattle.giving.proofs.Work.{Gives, accepted}
+use Rattle.constructor_laws.proofs.Giving.{Gives, accepted}
 use Rattle.meaning.proofs.Values.{value-kept}
 use Rattle.meaning.proofs.Running.{Has, Is, node-gives, literal-gives, calls-mean}
 

@@ -1,1 +1,3 @@
 pub mod Growing
+pub mod Lists
+pub mod Walking

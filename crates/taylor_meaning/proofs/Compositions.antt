@@ -12,8 +12,8 @@ use Rattle.constructor_laws.specs.Keeps.{Keeps}
 use Rattle.constructor_laws.proofs.Growth.{grown-by-both}
 use Rattle.taylor.specs.Work.{bind, from, mul, at}
 use Rattle.taylor.specs.Expansion.{Expansion, Constant, Polynomial, horner, subst, coeff, derivative, maximum}
-use Rattle.giving.proofs.Work.{Gives, ended, gives-weaker, gives-here, gives-next}
-use Rattle.giving.proofs.Lists.{fold-gives}
+use Rattle.constructor_laws.proofs.Giving.{Gives, ended, gives-weaker, gives-here, gives-next}
+use Rattle.taylor_laws.proofs.Lists.{fold-gives}
 use Rattle.meaning.specs.Model.{Algebra, Model}
 use Rattle.meaning.specs.Value.{Values, value}
 use Rattle.meaning.proofs.Values.{Each, value-kept}

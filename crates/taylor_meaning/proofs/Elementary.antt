@@ -9,8 +9,8 @@ use lib.ListN.{length}
 use Rattle.pool.specs.Pool.{Pool}
 use Rattle.constructor_laws.specs.Keeps.{Keeps}
 use Rattle.taylor.specs.Expansion.{Expansion, expTerm, expAt, exponential, logTerm, logAt, logarithm}
-use Rattle.giving.proofs.Work.{Gives, gives-next}
-use Rattle.giving.proofs.Lists.{Shows, shows-later, shows-none, shows-cons, fold-gives, fill-gives}
+use Rattle.constructor_laws.proofs.Giving.{Gives, gives-next}
+use Rattle.taylor_laws.proofs.Lists.{Shows, shows-later, shows-none, shows-cons, fold-gives, fill-gives}
 use Rattle.meaning.specs.Model.{Algebra, Model}
 use Rattle.meaning.specs.Value.{Values}
 use Rattle.meaning.proofs.Values.{same-op}

@@ -15,8 +15,8 @@ use Rattle.taylor.specs.Work.{bind}
 use Rattle.taylor.specs.Expansion.{Expansion, var, addTo, times, quotient, exponential, logarithm, power}
 use Rattle.taylor.specs.Expand.{State, Went, Walk, Point, none, point, pointNode, ofVariable, expandNode, expandAt, expand}
 use Rattle.taylor.specs.Expand as walk
-use Rattle.giving.proofs.Work.{Gives, gives-next}
-use Rattle.giving.proofs.Expansions.{Good, Walked, ended-walk, Walks, walked-next, walked-here, both-walked, lift-walked, expand-gives}
+use Rattle.constructor_laws.proofs.Giving.{Gives, gives-next}
+use Rattle.taylor_laws.proofs.Walking.{Good, Walked, ended-walk, Walks, walked-next, walked-here, both-walked, lift-walked, expand-gives}
 use Rattle.meaning.specs.Model.{Algebra, Model, Distributive}
 use Rattle.meaning.specs.Value.{Values, valueNode, value}
 use Rattle.meaning.proofs.Values.{Each, falling, value-law}

@@ -11,8 +11,8 @@ use Rattle.constructor_laws.specs.Grown.{Grown}
 use Rattle.constructor_laws.specs.Keeps.{Keeps}
 use Rattle.taylor.specs.Work.{Result, Work, bind, yield, add, sub}
 use Rattle.taylor.specs.Expansion.{Expansion, Constant, Polynomial, var, addTo, negate, subFrom, productAt, times}
-use Rattle.giving.proofs.Work.{Aims, Gives, gives-weaker, gives-here, gives-next}
-use Rattle.giving.proofs.Lists.{Shows, shows-later, shows-none, shows-cons, shows-repeated, ShowsLong, each-gives, each-two-gives, first-gives, fold-gives, fill-gives}
+use Rattle.constructor_laws.proofs.Giving.{Aims, Gives, gives-weaker, gives-here, gives-next}
+use Rattle.taylor_laws.proofs.Lists.{Shows, shows-later, shows-none, shows-cons, shows-repeated, ShowsLong, each-gives, each-two-gives, first-gives, fold-gives, fill-gives}
 use Rattle.meaning.specs.Model.{Algebra, Model}
 use Rattle.meaning.specs.Value.{Values}
 use Rattle.meaning.proofs.Values.{same-op}

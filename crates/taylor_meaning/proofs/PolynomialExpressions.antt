@@ -18,7 +18,7 @@ use Rattle.shape.specs.Shape.{Reach, root, part}
 use Rattle.shape.proofs.Lists.{here}
 use Rattle.taylor.specs.Expansion.{Expansion}
 use Rattle.taylor.specs.Expand.{Point, expand}
-use Rattle.giving.proofs.Work.{Gives, accepted}
+use Rattle.constructor_laws.proofs.Giving.{Gives, accepted}
 use Rattle.meaning.specs.Model.{Algebra, Model, Distributive, power}
 use Rattle.meaning.specs.Value.{Values, valueNode, value}
 use Rattle.meaning.proofs.Values.{Each, each-below, each-had, same-op}

@@ -12,7 +12,7 @@ use Rattle.pool.specs.Pool.{Pool}
 use Rattle.constructor_laws.specs.Keeps.{Keeps}
 use Rattle.taylor.specs.Work.{yield}
 use Rattle.taylor.specs.Expansion.{Expansion, times, powFrom, power}
-use Rattle.giving.proofs.Work.{Gives, gives-weaker, gives-here, gives-next}
+use Rattle.constructor_laws.proofs.Giving.{Gives, gives-weaker, gives-here, gives-next}
 use Rattle.meaning.specs.Model.{Algebra, Model, Distributive}
 use Rattle.meaning.specs.Model as model
 use Rattle.meaning.specs.Value.{Values}

@@ -10,8 +10,8 @@ use Rattle.pool.specs.Pool.{Pool}
 use Rattle.constructor_laws.specs.Keeps.{Keeps}
 use Rattle.taylor.specs.Work.{at}
 use Rattle.taylor.specs.Expansion.{Expansion, Polynomial, quotientAt, quotient}
-use Rattle.giving.proofs.Work.{Gives, gives-weaker, gives-next}
-use Rattle.giving.proofs.Lists.{Shows, shows-later, shows-none, shows-cons, each-gives, fold-gives, fill-gives}
+use Rattle.constructor_laws.proofs.Giving.{Gives, gives-weaker, gives-next}
+use Rattle.taylor_laws.proofs.Lists.{Shows, shows-later, shows-none, shows-cons, each-gives, fold-gives, fill-gives}
 use Rattle.meaning.specs.Model.{Algebra, Model, Distributive}
 use Rattle.meaning.specs.Value.{Values}
 use Rattle.meaning.proofs.Laws.{sum-assoc, product-comm, product-zero}

@@ -19,7 +19,7 @@ use Rattle.constructor_laws.proofs.Rules.{parts-below}
 use Rattle.taylor.specs.Work.{Result}
 use Rattle.taylor.specs.Expansion.{Expansion, Constant, Polynomial, coeff, derivative, maximum, subst, addTo, negate, subFrom, times, quotient, exponential, logarithm, power}
 use Rattle.taylor.specs.Expand.{Point, expand}
-use Rattle.giving.proofs.Work.{Gives, accepted}
+use Rattle.constructor_laws.proofs.Giving.{Gives, accepted}
 use Rattle.meaning.specs.Model.{Algebra, Model, Distributive}
 use Rattle.meaning.specs.Model as model
 use Rattle.meaning.specs.Value.{Values, value, Means}

@@ -6,7 +6,7 @@ use Rattle.pool.specs.Pool.{Pool}
 use Rattle.constructors.specs.Build.{depth}
 use Rattle.constructor_laws.specs.Keeps.{Keeps}
 use Rattle.taylor.specs.Work.{add, mul, div, neg, sub, exp, log, max}
-use Rattle.giving.proofs.Work.{Gives, gives-next}
+use Rattle.constructor_laws.proofs.Giving.{Gives, gives-next}
 use Rattle.meaning.specs.Model.{Algebra, Model}
 use Rattle.meaning.specs.Value.{Values}
 use Rattle.meaning.proofs.Running.{Has, has-later, Is, calls-mean}

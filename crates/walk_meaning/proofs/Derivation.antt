@@ -16,7 +16,7 @@ use Rattle.constructor_laws.proofs.Growth.{earlier-same}
 use Rattle.constructor_laws.proofs.Rules.{AllBelow, parts-below}
 use Rattle.walks.specs.Walk.{State, Went, Walk, bind, lift}
 use Rattle.walks.specs.Derive.{lit, add, mul, div, neg, pow, quotientRule, deriveNode, deriveAt, derive}
-use Rattle.giving.proofs.Walks.{Good, Walked, ended-walk, Walks, walked-next, both-walked, lift-walked, walk-gives}
+use Rattle.walk_laws.proofs.Walking.{Good, Walked, ended-walk, Walks, walked-next, both-walked, lift-walked, walk-gives}
 use Rattle.meaning.specs.Model.{Algebra, Model, power}
 use Rattle.meaning.specs.Value.{Values, valueNode, value, Means}
 use Rattle.meaning.proofs.Values.{falling, value-law}

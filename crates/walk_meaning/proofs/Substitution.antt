@@ -15,7 +15,7 @@ use Rattle.constructor_laws.proofs.Growth.{earlier-same}
 use Rattle.constructor_laws.proofs.Rules.{AllBelow, parts-below}
 use Rattle.walks.specs.Walk.{State, Went, Walk, bind, yield, lift}
 use Rattle.walks.specs.Substitute.{unless, substituteNode, substituteAt, substituteVar}
-use Rattle.giving.proofs.Walks.{Good, Walked, ended-walk, Walks, walked-next, walked-here, both-walked, lift-walked, walk-gives}
+use Rattle.walk_laws.proofs.Walking.{Good, Walked, ended-walk, Walks, walked-next, walked-here, both-walked, lift-walked, walk-gives}
 use Rattle.meaning.specs.Model.{Algebra, Model, power}
 use Rattle.meaning.specs.Value.{Values, valueNode, value, Means}
 use Rattle.meaning.proofs.Values.{falling, same-op, value-law, value-kept}

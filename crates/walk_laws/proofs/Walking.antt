@@ -2,25 +2,16 @@
 -- Assumes nothing.
 use mathlib.Core.Path.{_≡_, refl, sym, subst}
 use mathlib.Core.Bool.{Bool, true, false, cond}
-use mathlib.Core.List.{List, [], _∷_}
 use Prim.Native.Nat.{ℕ, zero, suc}
 use lib.Dec.{eqb}
-use lib.ListN.{getD, set, replicate}
+use lib.ListN.{getD, replicate}
 use borrow.Author.Tests.{eqb-true}
 use Rattle.pool.specs.Pool.{Pool, Out, Run, limit, done, refused}
 use Rattle.constructor_laws.specs.Grown.{Grown}
 use Rattle.constructor_laws.specs.Keeps.{Keeps}
 use Rattle.constructor_laws.proofs.Growth.{grown-by-nothing, grown-by-both}
 use Rattle.walks.specs.Walk.{State, state, Went, Walk, bind, lifted, lift, keep, once, walkBelow, built, walkFrom}
-use Rattle.giving.proofs.Work.{Aims, Gives, gave, ended}
-
--- a fact of each entry of a list still holds when one entry is set
-pub set-entry : {B : Type 0} (other : B) (H : ℕ → B → Type 0) (l : List B) (i : ℕ) (v : B) → H i v → ((j : ℕ) → H j (getD l j other)) → (j : ℕ) → H j (getD (set l i v) j other)
-set-entry other H [] i v h all j = all j
-set-entry other H (x ∷ l) zero v h all zero = h
-set-entry other H (x ∷ l) zero v h all (suc j) = all (suc j)
-set-entry other H (x ∷ l) (suc i) v h all zero = all zero
-set-entry other H (x ∷ l) (suc i) v h all (suc j) = set-entry other (λ k. H (suc k)) l i v h (λ k. all (suc k)) j
+use Rattle.constructor_laws.proofs.Giving.{Aims, Gives, gave, ended, set-entry}
 
 -- from the pool P₀ on, with the aim of each node of it
 module _ (W : Aims ℕ) (P₀ : Pool) (goal : ℕ → W .Aim) where

@@ -13,8 +13,7 @@ use Rattle.constructor_laws.proofs.Growth.{grown-by-nothing, grown-by-both}
 use Rattle.taylor.specs.Work.{Result, Work}
 use Rattle.taylor.specs.Expansion.{Expansion}
 use Rattle.taylor.specs.Expand.{Kept, nothing, kept, State, state, Went, Walk, Point, bind, lifted, lift, keep, once, expandAt, expandBelow, expanded, expand}
-use Rattle.giving.proofs.Work.{Aims, Gives, gave, ended}
-use Rattle.giving.proofs.Walks.{set-entry}
+use Rattle.constructor_laws.proofs.Giving.{Aims, Gives, gave, ended, set-entry}
 
 -- from the pool P₀ on, with the aim of each node of it
 module _ (W : Aims Expansion) (P₀ : Pool) (goal : ℕ → W .Aim) where

@@ -11,7 +11,7 @@ use Rattle.constructor_laws.specs.Keeps.{Keeps}
 use Rattle.constructor_laws.proofs.Growth.{grown-by-nothing, grown-by-both}
 use Rattle.taylor.specs.Work.{Work, at, each, eachTwo, fold, fill}
 use Rattle.taylor.specs.Expansion.{first}
-use Rattle.giving.proofs.Work.{Aims, Gives, gives-weaker, gives-here, gives-next}
+use Rattle.constructor_laws.proofs.Giving.{Aims, Gives, gives-weaker, gives-here, gives-next}
 
 module _ (W : Aims ℕ) where
   -- the entries of a list meet the aims f 0, f 1, ..

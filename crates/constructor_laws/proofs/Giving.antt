@@ -1,19 +1,21 @@
 -- Work that keeps the rules of the pool and gives a result with which an aim is met: one piece after another does. What an aim is, and what meets it, is left open: a node of a value meets that value; where all that is asked is that a node be there, or that it be of some kinds, there is one aim.
 -- Assumes nothing.
 use mathlib.Core.Path.{_≡_, subst}
-use Prim.Native.Nat.{ℕ, _<_}
+use mathlib.Core.List.{List, [], _∷_}
+use Prim.Native.Nat.{ℕ, zero, suc, _<_}
 use native.Mathlib.Omega.{arith}
+use lib.ListN.{getD, set}
 use lib.Seq.{getD-set-same}
 use borrow.Author.Tests.{lt-ltb}
 use Rattle.pool.specs.declared.node.Node.{Node}
 use Rattle.pool.specs.Nodes.{kindOf, wordOf}
-use Rattle.pool.specs.Pool.{Pool, Result, done, refused, Work, bind, append, nodeAt, nodeIn, limit}
+use Rattle.pool.specs.Pool.{Pool, Out, Result, done, refused, Work, bind, append, nodeAt, nodeIn, limit}
 use Rattle.constructor_laws.specs.Grown.{Grown}
 use Rattle.constructor_laws.specs.Keeps.{Keeps, KeptBy}
 use Rattle.constructor_laws.proofs.Growth.{grown-by-nothing, grown-by-both, appended, append-comes-to}
 use Rattle.constructor_laws.proofs.Rules.{rules-of}
 use Rattle.constructor_laws.proofs.Coding.{Fine, fine-is-read}
 use Rattle.constructor_laws.proofs.Appending.{append-kept}
 
 -- the aims that results of the type B may meet
 pub record Aims (B : Type 0) : Type 1 where
@@ -82,3 +84,29 @@ append-gives {P} {x} {S} k fine holds =
     (λ room below kept. gave (kept .keeps) (kept .grown) (holds (appended x P) (kept .keeps) (kept .grown) (kept .there) (appended-node k below fine)))
     (λ kept. ended)
     (append-kept x P k fine)
+
+-- ---- where the aim is to be a node of the pool
+
+pub there-later : {P Q : Pool} {i : ℕ} → Keeps P → Grown P Q → i < P .count → i < Q .count
+there-later k g h = omega (arith, g .no-fewer)
+
+abbrev pub standing : Aims ℕ
+standing = record { Aim = Unit {0}; Meets = λ u P i. i < P .count; later = there-later }
+
+pub kept-gives : {P : Pool} (o : Out) → KeptBy P o → Gives P (standing .Meets tt) o
+kept-gives (done i Q) k = gave (k .keeps) (k .grown) (k .there)
+kept-gives (refused r) k = ended
+
+pub gives-kept : {P : Pool} {o : Out} → Gives P (standing .Meets tt) o → KeptBy P o
+gives-kept (gave k g h) = record { grown = g; keeps = k; there = h }
+gives-kept ended = tt
+
+-- ---- results that are kept in a list
+
+-- a fact of each entry of a list still holds when one entry is set
+pub set-entry : {B : Type 0} (other : B) (H : ℕ → B → Type 0) (l : List B) (i : ℕ) (v : B) → H i v → ((j : ℕ) → H j (getD l j other)) → (j : ℕ) → H j (getD (set l i v) j other)
+set-entry other H [] i v h all j = all j
+set-entry other H (x ∷ l) zero v h all zero = h
+set-entry other H (x ∷ l) zero v h all (suc j) = all (suc j)
+set-entry other H (x ∷ l) (suc i) v h all zero = all zero
+set-entry other H (x ∷ l) (suc i) v h all (suc j) = set-entry other (λ k. H (suc k)) l i v h (λ k. all (suc k)) j

@@ -1,4 +1,0 @@
-pub mod Work
-pub mod Walks
-pub mod Lists
-pub mod Expansions
