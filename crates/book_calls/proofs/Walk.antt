@@ -20,6 +20,7 @@ use Rattle.constructor_laws.specs.Grown.{Grown}
 use Rattle.constructor_laws.specs.Keeps.{Keeps}
 use Rattle.constructor_laws.proofs.Growth.{grown-by-nothing, grown-by-both, earlier-same}
 use Rattle.constructor_laws.proofs.Rules.{AllBelow, below-all, rules-of, node-stands, standing-parts-below}
+use Rattle.constructor_laws.proofs.Giving.{gave, ended}
 use Rattle.taylor.specs.Work.{Result, Work}
 use Rattle.taylor.specs.Work as work
 use Rattle.taylor.specs.Expansion.{Expansion, Constant, order, var, addTo, times, quotient, exponential, logarithm, power}
@@ -153,9 +154,9 @@ module _ (P₀ : Pool) (v : ℕ) (x : Point) (ord : ℕ) where
     lift-steps {term} {X} {S} op U c keeping explain = go (op (U .pool)) refl (keeping .kept (U .pool) (c .right .keeps) (le-refl (U .pool .count)))
       where
         go : (r : Result Expansion) → op (U .pool) ≡ r → KeptAs (Come ord small) (U .pool) r → Steps term X S (lifted (U .results) r)
-        go (done e Q) eq k =
-            stepped (record { right = right-later (c .right) (k .grown) (k .keeps); grown = grown-by-both (c .grown) (k .grown); outside = c .outside }) (k .good) (explain e Q eq)
-        go (refused q) eq k = stopped
+        go _ eq (gave {x = e} {Q} k g come) =
+            stepped (record { right = right-later (c .right) g k; grown = grown-by-both (c .grown) g; outside = c .outside }) come (explain e Q eq)
+        go _ eq ended = stopped
 
     -- ---- the walk at a node
 

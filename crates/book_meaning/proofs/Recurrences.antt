@@ -17,11 +17,11 @@ use Rattle.constructor_laws.proofs.Growth.{grown-by-nothing, grown-by-both}
 use Rattle.taylor.specs.Work.{Result, bind, yield, at}
 use Rattle.book.specs.Formula.{Formula, whole, work, works, row}
 use Rattle.book.specs.Recurrence.{Recurrence}
+use Rattle.constructor_laws.proofs.Giving.{Gave, accepted}
 use Rattle.meaning.specs.Model.{Algebra, Model, Distributive}
 use Rattle.meaning.specs.Value.{Values, value}
-use Rattle.meaning.proofs.Running.{Has, has-later}
+use Rattle.meaning.proofs.Running.{Has, has-later, has-same, Is}
 use Rattle.taylor_meaning.specs.Series.{Fractions}
-use Rattle.taylor_meaning.proofs.Working.{Gives, gave, has-same}
 use Rattle.book_meaning.specs.Value.{formulaValue, Shared}
 use Rattle.book_meaning.proofs.Soundness.{related-formulas-have-one-value}
 use Rattle.book_meaning.proofs.Working.{Names, names-more, Stands, formula-kept, work-has-its-value}
@@ -66,22 +66,11 @@ module _ {A : Algebra} (M : Model A) (env : Values A) where
   pub record Valued (fs : List Formula) (xs : List ℕ) (P Q : Pool) : Type 0 where
     pub keeps : Keeps Q
     pub grown : Grown P Q
-    pub each : (i : ℕ) → i < length fs → Has M env Q (at xs i) (formulaValue A (val Q) (getD fs i (whole 0)))
-
-  record Gave (P : Pool) (x : A .carrier) (c : ℕ) (B : Pool) : Type 0 where
-    keeps : Keeps B
-    grown : Grown P B
-    has : Has M env B c x
-
-  opened : {P : Pool} {x : A .carrier} {r : Result ℕ} {c : ℕ} {B : Pool} → Gives P (λ Q i. Has M env Q i x) r → r ≡ done c B → Gave P x c B
-  opened {P} {x} {c = c} {B} h e = go (subst (Gives P (λ Q i. Has M env Q i x)) e h)
-    where
-      go : Gives P (λ Q i. Has M env Q i x) (done c B) → Gave P x c B
-      go (gave k g s) = record { keeps = k; grown = g; has = s }
+    pub each : (i : ℕ) → i < length fs → Has A env Q (at xs i) (formulaValue A (val Q) (getD fs i (whole 0)))
 
   -- one formula that was worked, its nodes having the values that they have in the end
   pub worked-has-its-value : (f : Formula) (P : Pool) {c : ℕ} {Q : Pool} → Keeps P → Stands P f → work f P ≡ done c Q → val Q c ≡ formulaValue A (val Q) f
-  worked-has-its-value f P k h e = let g = opened (work-has-its-value M env f P k h) e in g .has .is ∙ sym (formula-kept M env k (g .grown) f h)
+  worked-has-its-value f P k h e = let g = accepted (work-has-its-value M env f P k h) e in g .is .is ∙ sym (formula-kept M env k (g .grown) f h)
 
   -- one formula more, worked first
   module _
@@ -97,12 +86,12 @@ module _ {A : Algebra} (M : Model A) (env : Values A) where
     first-stands : Stands P f
     first-stands = names-more first-known f (named 0 (omega arith))
 
-    first-gave : Gave P (formulaValue A (val P) f) c B
-    first-gave = opened (work-has-its-value M env f P k first-stands) e
+    first-gave : Gave P (Is A env (formulaValue A (val P) f)) c B
+    first-gave = accepted (work-has-its-value M env f P k first-stands) e
 
     below-then : (j : ℕ) → K j ⊎ (j ≡ c) → j < B .count
     below-then j (inl h) = omega (arith, below j h, first-gave .grown .no-fewer)
-    below-then j (inr same) = omega (arith, same, first-gave .has .below)
+    below-then j (inr same) = omega (arith, same, first-gave .is .below)
 
     shift : (i j : ℕ) → Known K (c ∷ cs) (suc i) j → Known (λ j. K j ⊎ (j ≡ c)) cs i j
     shift i j (there h) = there (inl h)
@@ -115,9 +104,9 @@ module _ {A : Algebra} (M : Model A) (env : Values A) where
     cons-valued : {Q : Pool} → Valued fs cs B Q → Valued (f ∷ fs) (c ∷ cs) P Q
     cons-valued {Q} tail = record { keeps = tail .keeps; grown = grown-by-both (first-gave .grown) (tail .grown); each = each }
       where
-        each : (i : ℕ) → i < length (f ∷ fs) → Has M env Q (at (c ∷ cs) i) (formulaValue A (val Q) (getD (f ∷ fs) i (whole 0)))
+        each : (i : ℕ) → i < length (f ∷ fs) → Has A env Q (at (c ∷ cs) i) (formulaValue A (val Q) (getD (f ∷ fs) i (whole 0)))
         each zero l =
-            has-same M env (sym (formula-kept M env k (grown-by-both (first-gave .grown) (tail .grown)) f first-stands)) (has-later M env (first-gave .keeps) (tail .grown) (first-gave .has))
+            has-same (sym (formula-kept M env k (grown-by-both (first-gave .grown) (tail .grown)) f first-stands)) (has-later (first-gave .keeps) (tail .grown) (first-gave .is))
         each (suc i) l = tail .each i (omega arith)
 
   -- formulas that have their values, whenever they are worked in turn

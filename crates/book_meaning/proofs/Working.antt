@@ -9,12 +9,13 @@ use Rattle.constructor_laws.specs.Grown.{Grown}
 use Rattle.constructor_laws.specs.Keeps.{Keeps}
 use Rattle.taylor.specs.Work.{Work, bind}
 use Rattle.book.specs.Formula.{Formula, #, whole, _⊕_, _⊖_, _⊗_, _⊘_, _⊟_, Exp, Log, work}
+use Rattle.constructor_laws.proofs.Giving.{Gives, gives-here, gives-next}
 use Rattle.meaning.specs.Model.{Algebra, Model}
 use Rattle.meaning.specs.Value.{Values, value}
 use Rattle.meaning.proofs.Values.{same-op, value-kept}
-use Rattle.meaning.proofs.Running.{Has, has-later}
+use Rattle.meaning.proofs.Running.{Has, has-later, Is, has-same, literal-gives}
 use Rattle.taylor_meaning.specs.Series.{minus}
-use Rattle.taylor_meaning.proofs.Working.{Gives, gives-here, gives-next, Is, has-same, lit-gives, add-gives, sub-gives, mul-gives, div-gives, exp-gives, log-gives}
+use Rattle.taylor_meaning.proofs.Working.{add-gives, sub-gives, mul-gives, div-gives, exp-gives, log-gives}
 use Rattle.book_meaning.specs.Value.{formulaValue}
 
 -- K holds of every node that a formula names
@@ -69,22 +70,22 @@ module _ {A : Algebra} (M : Model A) (env : Values A) where
 
   -- a formula that is worked has its value
   abbrev Worked : Formula → Type 0
-  Worked f = (P : Pool) → Keeps P → Stands P f → Gives P (Is M env (formulaValue A (val P) f)) (work f P)
+  Worked f = (P : Pool) → Keeps P → Stands P f → Gives P (Is A env (formulaValue A (val P) f)) (work f P)
 
   two-worked :
       {op : ℕ → ℕ → Work ℕ} (of : A .carrier → A .carrier → A .carrier) (f g : Formula)
-      → ((P : Pool) (a b : ℕ) (x y : A .carrier) → Keeps P → Has M env P a x → Has M env P b y → Gives P (Is M env (of x y)) (op a b P))
+      → ((P : Pool) (a b : ℕ) (x y : A .carrier) → Keeps P → Has A env P a x → Has A env P b y → Gives P (Is A env (of x y)) (op a b P))
       → Worked f → Worked g
-      → (P : Pool) → Keeps P → Stands P f → Stands P g → Gives P (Is M env (of (formulaValue A (val P) f) (formulaValue A (val P) g))) (bind (work f P) (λ a Q. bind (work g Q) (op a)))
+      → (P : Pool) → Keeps P → Stands P f → Stands P g → Gives P (Is A env (of (formulaValue A (val P) f) (formulaValue A (val P) g))) (bind (work f P) (λ a Q. bind (work g Q) (op a)))
   two-worked of f g last first second P k hf hg =
       gives-next (first P k hf) (λ a Q kQ gQ ha.
       gives-next (second Q kQ (stands-later gQ g hg)) (λ b R kR gR hb.
-      last R a b _ _ kR (has-later M env kQ gR ha) (has-same M env (formula-kept k gQ g hg) hb)))
+      last R a b _ _ kR (has-later kQ gR ha) (has-same (formula-kept k gQ g hg) hb)))
 
   pub work-has-its-value : (f : Formula) → Worked f
   unfolding work formulaValue
   work-has-its-value (# i) P k h = gives-here k (record { below = h; is = refl })
-  work-has-its-value (whole n) P k h = lit-gives M env k (pos n)
+  work-has-its-value (whole n) P k h = literal-gives A env k (pos n)
   work-has-its-value (f ⊕ g) P k h = two-worked (A .plus) f g (λ R a b x y kR ha hb. add-gives M env kR ha hb) (work-has-its-value f) (work-has-its-value g) P k (h .0) (h .1)
   work-has-its-value (f ⊖ g) P k h = two-worked (minus A) f g (λ R a b x y kR ha hb. sub-gives M env kR ha hb) (work-has-its-value f) (work-has-its-value g) P k (h .0) (h .1)
   work-has-its-value (f ⊗ g) P k h = two-worked (A .times) f g (λ R a b x y kR ha hb. mul-gives M env kR ha hb) (work-has-its-value f) (work-has-its-value g) P k (h .0) (h .1)

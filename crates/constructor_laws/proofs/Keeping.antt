@@ -92,6 +92,10 @@ pub literal-keeps : {n : ℕ} (f : Folded) → InLiterals f → Keeping n (liter
 literal-keeps (Value z) h = append-keeps (record { below = tt; range = h })
 literal-keeps (Refused k) h = refuse-keeps k
 
+pub folded-keeps : {n : ℕ} (z : ℤ) → Keeping n (literal (folded z))
+unfolding folded
+folded-keeps z = literal-keeps (folded z) (picked-in-literals (isLiteral z) z outOfRange (λ t. t))
+
 -- ---- the constructors
 
 -- constructors of two nodes, and of one
@@ -113,9 +117,9 @@ pub record AllKeep (c : Calls) : Type 0 where
   pub pow-at : (e : ℕ) → KeepOne (λ base. c .pow-at base e)
 
 pub build-keeps : {c : Calls} → AllKeep c → {n : ℕ} (t : Term) → Sound n t → Keeping n (build c t)
-unfolding build folded expOf logOf
+unfolding build expOf logOf
 build-keeps k (# a) h = yield-keeps h
-build-keeps k (lit z) h = literal-keeps (folded z) (picked-in-literals (isLiteral z) z outOfRange (λ t. t))
+build-keeps k (lit z) h = folded-keeps z
 build-keeps k (lit-exp z) h = literal-keeps (expOf z) (picked-in-literals (isZero z) (pos 1) noExpOrLog (λ t. refl))
 build-keeps k (lit-log z) h = literal-keeps (logOf z) (picked-in-literals (isOne z) (pos 0) noExpOrLog (λ t. refl))
 build-keeps k (add s t) h = both-keep (build-keeps k s (h .0)) (build-keeps k t (h .1)) (k .add-at)

@@ -6,3 +6,4 @@ pub mod Appending
 pub mod Arms
 pub mod Soundness
 pub mod Keeping
+pub mod Giving

@@ -27,8 +27,8 @@ use Rattle.situations.proofs.Steps.{append-refuses}
 use Rattle.situations.proofs.Constructors.{pool-full}
 use Rattle.situations.proofs.Literals.{Long, long-grown}
 use Rattle.situations.proofs.Throughout.{left, right, Walking, throughout}
-use Rattle.situations.proofs.General as law
-use Rattle.situations.proofs.General.{Goes, Holding}
+use Rattle.taylor_laws.proofs.General as law
+use Rattle.taylor_laws.proofs.General.{Goes, Holding}
 use Rattle.situations.proofs.Operations.{refusing-by, called, wider, zero-holds, one-holds, every-constructor}
 
 -- ---- the law

@@ -5,7 +5,6 @@ pub mod Each
 pub mod Throughout
 pub mod Values
 pub mod Walks
-pub mod General
 pub mod Operations
 pub mod Derivative
 pub mod Expansions

@@ -18,7 +18,7 @@ use Rattle.situations.proofs.Steps.{literal-refuses}
 use Rattle.situations.proofs.Constructors.{calls-refuse, literals-refuse}
 use Rattle.situations.proofs.Literals.{Long, long-grown}
 use Rattle.situations.proofs.Each.{add-refuses, neg-refuses, max-refuses}
-use Rattle.situations.proofs.General.{Goes, Law, Holding, Keeping}
+use Rattle.taylor_laws.proofs.General.{Goes, Law, Holding, Keeping}
 
 -- on pools with long tables: the pool grows, and a refusal is one of these numbers
 abbrev pub refusing-by : List ℕ → Law

@@ -11,7 +11,7 @@ use Rattle.situations.proofs.Constructors.{calls-refuse}
 use Rattle.situations.proofs.Each.{add-refuses, div-refuses, max-refuses, pow-refuses, neg-refuses, exp-refuses, log-refuses}
 use Rattle.situations.proofs.Values.{evaluation-refuses, residues-refuse}
 use Rattle.situations.proofs.Walks.{substitution-refuses, derivation-refuses}
-use Rattle.situations.proofs.General as general
+use Rattle.taylor_laws.proofs.General as general
 use Rattle.situations.proofs.Operations.{meets, wider, zero-holds, one-holds, every-constructor, sum-holds, opposite-holds, greater-holds}
 use Rattle.situations.proofs.Derivative.{derivative-refuses}
 use Rattle.situations.proofs.Expansions.{rules-are-long, expansion-refuses}

@@ -1,251 +1,106 @@
--- The operations on expansions only append: each is made of constructors and literals, one after the other.
+-- The operations on expansions only append, as constructors and literals do; and so does the expansion of an expression.
 -- Assumes nothing.
 use mathlib.Core.Bool.{Bool, true, false, cond}
-use mathlib.Core.List.{List, [], _∷_, _++_, reverse}
-use Prim.Native.Nat.{ℕ, zero, suc, _-_, _/_, _%_, min}
+use mathlib.Core.List.{List}
+use Prim.Native.Nat.{ℕ, zero, suc}
 use lib.Dec.{eqb}
-use lib.IntN.{ℤ, pos}
-use lib.ListN.{length, getD, replicate}
+use lib.IntN.{pos}
+use lib.ListN.{getD, replicate}
 use Rattle.refusals.specs.Refusals.{brokenPool, maxReached}
 use Rattle.literal.specs.Literal.{folded}
-use Rattle.pool.specs.Pool.{Pool, Out, done, refused, Run, nodeAt, limit}
+use Rattle.pool.specs.Pool.{Pool, done, refused, nodeAt, limit}
 use Rattle.pool.specs.declared.node.Node.{Node}
 use Rattle.pool.specs.declared.node.Node.the-variants.{Empty, Variable, Lit, Add, Mul, Div, Exp, Log, Pow, Max}
 use Rattle.constructors.specs.Build.{depth}
 use Rattle.constructor_laws.specs.Grown.{Grown}
 pub use Rattle.constructor_laws.proofs.Growth.{Growing}
-use Rattle.constructor_laws.proofs.Growth.{_>>=_, yield-grows, refuse-grows, grown-by-nothing, grown-by-both, literal-grows, append-grows, calls-grow}
-use Rattle.taylor.specs.Work.{Result, Work, bind, yield, refuse, answered, node, lit, from, add, mul, div, neg, sub, at, each, eachTwo, fold, fill}
-use Rattle.taylor.specs.Expansion.{Expansion, Constant, Polynomial, polynomial, constant, first, varCoeffs, var, coeff, derivative, addTo, negate, subFrom, productAt, times, quotientAt, quotient, expTerm, expAt, exponential, logTerm, logAt, logarithm, powFrom, power, maximum, horner, subst}
+use Rattle.constructor_laws.proofs.Growth.{_>>=_, grown-by-nothing, grown-by-both, literal-grows, append-grows, calls-grow}
+use Rattle.taylor.specs.Work.{Result, Work}
+use Rattle.taylor.specs.Expansion.{Expansion, Constant, var, coeff, derivative, addTo, negate, subFrom, times, quotient, exponential, logarithm, power, maximum, subst}
 use Rattle.taylor.specs.Expand.{Kept, State, state, Went, Walk, lifted, lift, keep, once, Point, none, point, pointNode, ofVariable, expandNode, expandAt, expandBelow, expanded, expand}
 use Rattle.taylor.specs.Expand as walk
 use Rattle.taylor_laws.specs.Grown.{Grows}
+use Rattle.taylor_laws.proofs.General.{Goes, Law, Holding, Keeping, var-holds, coeff-holds, derivative-holds, add-to-holds, negate-holds, sub-from-holds, times-holds, quotient-holds, exponential-holds, logarithm-holds, power-holds, maximum-holds, subst-holds}
 
--- ---- constructors and literals
-lit-grows : (z : ℤ) → Growing (lit z)
-lit-grows z = (literal-grows (folded z))
+-- ---- the law: the pool has grown, and nothing is said of a refusal
 
-from-grows : (n : ℕ) → Growing (from n)
-from-grows n = lit-grows (pos n)
+abbrev growth : Law
+growth =
+    record {
+      Fit = λ P. Unit {0};
+      Good = Grown;
+      Bad = λ k. Unit {0};
+      fits = λ P Q f g. tt;
+      same = grown-by-nothing;
+      both = λ P Q R g h. grown-by-both g h;
+    }
 
-add-grows : (a b : ℕ) → Growing (add a b)
-add-grows a b = (calls-grow depth .add-at a b)
+holding : {A : Type 0} {work : Work A} → Growing work → Holding growth work
+holding {A} {work} g = record { holds = λ P f. go P (work P) (g .grows P) }
+  where
+    go : (P : Pool) (r : Result A) → Grows P r → Goes Grown (λ k. Unit {0}) P r
+    go P (done x Q) h = h
+    go P (refused k) h = tt
 
-mul-grows : (a b : ℕ) → Growing (mul a b)
-mul-grows a b = (calls-grow depth .mul-at a b)
+growing : {A : Type 0} {work : Work A} → Holding growth work → Growing work
+growing {A} {work} g = record { grows = λ P. go P (work P) (g .holds P tt) }
+  where
+    go : (P : Pool) (r : Result A) → Goes Grown (λ k. Unit {0}) P r → Grows P r
+    go P (done x Q) h = h
+    go P (refused k) h = tt
 
-div-grows : (a b : ℕ) → Growing (div a b)
-div-grows a b = (calls-grow depth .div-at a b)
+every : Keeping growth
+every =
+    record {
+      lit-holds = λ z. holding (literal-grows (folded z));
+      add-holds = λ a b. holding (calls-grow depth .add-at a b);
+      mul-holds = λ a b. holding (calls-grow depth .mul-at a b);
+      div-holds = λ a b. holding (calls-grow depth .div-at a b);
+      neg-holds = λ a. holding (calls-grow depth .neg-at a);
+      exp-holds = λ a. holding (calls-grow depth .exp-at a);
+      log-holds = λ a. holding (calls-grow depth .log-at a);
+    }
 
-neg-grows : (a : ℕ) → Growing (neg a)
-neg-grows a = (calls-grow depth .neg-at a)
-
-sub-grows : (a b : ℕ) → Growing (sub a b)
-sub-grows a b = do
-  n ← neg-grows b
-  add-grows a n
-
--- ---- loops
-module _ {f : ℕ → Work ℕ} (g : (c : ℕ) → Growing (f c)) where
-  each-grows : (cs : List ℕ) → Growing (each f cs)
-  unfolding each
-  each-grows [] = yield-grows []
-  each-grows (c ∷ cs) = do
-    r ← g c
-    rs ← each-grows cs
-    yield-grows (r ∷ rs)
-
-  first-grows : (cs : List ℕ) → Growing (first f cs)
-  first-grows [] = yield-grows []
-  first-grows (c ∷ cs) = do
-    r ← g c
-    yield-grows (r ∷ cs)
-
-two-grow : {f : ℕ → ℕ → Work ℕ} → ((u w : ℕ) → Growing (f u w)) → (us ws : List ℕ) → Growing (eachTwo f us ws)
-unfolding eachTwo
-two-grow g [] ws = yield-grows []
-two-grow g (u ∷ us) [] = yield-grows []
-two-grow g (u ∷ us) (w ∷ ws) = do
-  r ← g u w
-  rs ← two-grow g us ws
-  yield-grows (r ∷ rs)
-
-fold-grows : {f : ℕ → ℕ → Work ℕ} → ((acc j : ℕ) → Growing (f acc j)) → (j todo acc : ℕ) → Growing (fold f j todo acc)
-unfolding fold
-fold-grows g j zero acc = yield-grows acc
-fold-grows g j (suc todo) acc = do
-  next ← g acc j
-  fold-grows g (suc j) todo next
-
-fill-grows : {f : List ℕ → ℕ → Work ℕ} → ((res : List ℕ) (k : ℕ) → Growing (f res k)) → (todo : ℕ) (res : List ℕ) → Growing (fill f todo res)
-unfolding fill
-fill-grows g zero res = yield-grows res
-fill-grows g (suc todo) res = do
-  c ← g res (length res)
-  fill-grows g todo (res ++ (c ∷ []))
-
--- ---- the operations, in the order of their definitions
-polynomial-grows : {work : Work (List ℕ)} → Growing work → Growing (polynomial work)
-polynomial-grows g = do
-  cs ← g
-  yield-grows (Polynomial cs)
-
-constant-grows : {work : Work ℕ} → Growing work → Growing (constant work)
-constant-grows g = do
-  c ← g
-  yield-grows (Constant c)
+-- ---- the operations
 
 pub var-grows : (x order : ℕ) → Growing (var x order)
-var-grows x order = polynomial-grows (coeffs order)
-  where
-    coeffs : (order : ℕ) → Growing (varCoeffs x order)
-    coeffs zero = do
-      z ← from-grows 0
-      yield-grows (x ∷ [])
-    coeffs (suc n) = do
-      z ← from-grows 0
-      o ← from-grows 1
-      yield-grows (x ∷ o ∷ replicate n z)
+var-grows x order = growing (var-holds (every .lit-holds (pos 0)) (every .lit-holds (pos 1)) x order)
 
 pub coeff-grows : (e : Expansion) (k : ℕ) → Growing (coeff e k)
-coeff-grows (Polynomial cs) k = yield-grows (at cs k)
-coeff-grows (Constant c) zero = yield-grows c
-coeff-grows (Constant c) (suc k) = from-grows 0
+coeff-grows e k = growing (coeff-holds (every .lit-holds (pos 0)) e k)
 
 pub derivative-grows : (e : Expansion) (k : ℕ) → Growing (derivative e k)
-derivative-grows (Polynomial cs) k = do
-  one ← from-grows 1
-  factorial ← fold-grows (λ acc i. from-grows i >>= (λ n. mul-grows acc n)) 1 k one
-  mul-grows factorial (at cs k)
-derivative-grows (Constant c) zero = yield-grows c
-derivative-grows (Constant c) (suc k) = from-grows 0
+derivative-grows e k = growing (derivative-holds every e k)
 
 pub add-to-grows : (s t : Expansion) → Growing (addTo s t)
-add-to-grows (Constant l) (Constant r) = constant-grows (add-grows l r)
-add-to-grows (Polynomial cs) (Constant r) = polynomial-grows (first-grows (λ c. add-grows c r) cs)
-add-to-grows (Constant c) (Polynomial ws) = polynomial-grows (first-grows (λ w. add-grows w c) ws)
-add-to-grows (Polynomial us) (Polynomial ws) = polynomial-grows (two-grow (λ u w. add-grows w u) us ws)
+add-to-grows s t = growing (add-to-holds (every .add-holds) s t)
 
 pub negate-grows : (e : Expansion) → Growing (negate e)
-negate-grows (Constant c) = constant-grows (neg-grows c)
-negate-grows (Polynomial cs) = polynomial-grows (each-grows neg-grows cs)
+negate-grows e = growing (negate-holds (every .neg-holds) e)
 
 pub sub-from-grows : (s t : Expansion) → Growing (subFrom s t)
-sub-from-grows (Constant l) (Constant r) = constant-grows (sub-grows l r)
-sub-from-grows (Polynomial cs) (Constant r) = polynomial-grows (first-grows (λ c. sub-grows c r) cs)
-sub-from-grows (Constant c) (Polynomial ws) = polynomial-grows (each-grows neg-grows ws >>= first-grows (λ w. add-grows w c))
-sub-from-grows (Polynomial us) (Polynomial ws) = polynomial-grows (two-grow (λ u w. sub-grows u w) us ws)
-
-product-grows : (us ws : List ℕ) (z : ℕ) (res : List ℕ) (k : ℕ) → Growing (productAt us ws z res k)
-product-grows us ws z res k = fold-grows (λ sum j. mul-grows (at us j) (at ws (k - j)) >>= (λ t. add-grows sum t)) 0 (suc k) z
+sub-from-grows s t = growing (sub-from-holds (every .neg-holds) (every .add-holds) s t)
 
 pub times-grows : (s t : Expansion) → Growing (times s t)
-unfolding times
-times-grows (Constant l) (Constant r) = constant-grows (mul-grows l r)
-times-grows (Constant c) (Polynomial ws) = polynomial-grows (each-grows (λ w. mul-grows w c) ws)
-times-grows (Polynomial us) (Constant c) = polynomial-grows (each-grows (λ u. mul-grows u c) us)
-times-grows (Polynomial us) (Polynomial ws) = polynomial-grows (from-grows 0 >>= (λ z. fill-grows (product-grows us ws z) (min (length us) (length ws)) []))
-
-quotient-at-grows : (start : ℕ → ℕ) (ws : List ℕ) (scale : ℕ) (res : List ℕ) (k : ℕ) → Growing (quotientAt start ws scale res k)
-quotient-at-grows start ws scale res k = do
-  s ← fold-grows (λ sum i. mul-grows (at res i) (at ws (k - i)) >>= (λ t. sub-grows sum t)) 0 k (start k)
-  mul-grows scale s
+times-grows s t = growing (times-holds every s t)
 
 pub quotient-grows : (s t : Expansion) → Growing (quotient s t)
-quotient-grows (Constant l) (Constant r) = constant-grows (div-grows l r)
-quotient-grows (Polynomial us) (Constant c) = polynomial-grows (each-grows (λ u. div-grows u c) us)
-quotient-grows (Constant c) (Polynomial ws) = polynomial-grows (do
-  z ← from-grows 0
-  o ← from-grows 1
-  scale ← div-grows o (at ws 0)
-  r ← mul-grows c scale
-  fill-grows (quotient-at-grows (λ k. z) ws scale) (length ws - 1) (r ∷ []))
-quotient-grows (Polynomial us) (Polynomial ws) = polynomial-grows (do
-  z ← from-grows 0
-  o ← from-grows 1
-  scale ← div-grows o (at ws 0)
-  r ← mul-grows scale (at us 0)
-  fill-grows (quotient-at-grows (λ k. at us k) ws scale) (min (length us) (length ws) - 1) (r ∷ []))
-
-exp-at-grows : (us : List ℕ) (z : ℕ) (res : List ℕ) (k : ℕ) → Growing (expAt us z res k)
-exp-at-grows us z res k = do
-  s ← fold-grows (λ sum j. term sum j) 1 k z
-  n ← from-grows k
-  div-grows s n
-  where
-    term : (sum j : ℕ) → Growing (expTerm res us k sum j)
-    term sum j = do
-      p ← mul-grows (at res (k - j)) (at us j)
-      n ← from-grows j
-      t ← mul-grows p n
-      add-grows sum t
+quotient-grows s t = growing (quotient-holds every s t)
 
 pub exponential-grows : (e : Expansion) → Growing (exponential e)
-exponential-grows (Constant c) = constant-grows ((calls-grow depth .exp-at c))
-exponential-grows (Polynomial us) = polynomial-grows (do
-  z ← from-grows 0
-  r ← (calls-grow depth .exp-at (at us 0))
-  fill-grows (exp-at-grows us z) (length us - 1) (r ∷ []))
-
-log-at-grows : (us : List ℕ) (z : ℕ) (res : List ℕ) (k : ℕ) → Growing (logAt us z res k)
-log-at-grows us z res k = do
-  s ← fold-grows (λ sum j. term sum j) 1 (k - 1) z
-  n ← from-grows k
-  p ← mul-grows (at us k) n
-  d ← sub-grows p s
-  q ← div-grows d (at us 0)
-  m ← from-grows k
-  div-grows q m
-  where
-    term : (sum j : ℕ) → Growing (logTerm res us k sum j)
-    term sum j = do
-      p ← mul-grows (at us (k - j)) (at res j)
-      n ← from-grows j
-      t ← mul-grows p n
-      add-grows sum t
+exponential-grows e = growing (exponential-holds every e)
 
 pub logarithm-grows : (e : Expansion) → Growing (logarithm e)
-logarithm-grows (Constant c) = constant-grows ((calls-grow depth .log-at c))
-logarithm-grows (Polynomial us) = polynomial-grows (do
-  z ← from-grows 0
-  r ← (calls-grow depth .log-at (at us 0))
-  fill-grows (log-at-grows us z) (length us - 1) (r ∷ []))
-
-when-grows : (t : Bool) {a b : Work Expansion} → Growing a → Growing b → Growing (cond t a b)
-when-grows true g h = g
-when-grows false g h = h
-
-pow-from-grows : (k e : ℕ) (res base : Expansion) → Growing (powFrom k e res base)
-unfolding powFrom
-pow-from-grows zero e res base = yield-grows res
-pow-from-grows (suc k) e res base = do
-  res2 ← when-grows (eqb (e % 2) 1) (times-grows res base) (yield-grows res)
-  when-grows (eqb (e / 2) 0) (yield-grows res2) (times-grows base base >>= (λ base2. pow-from-grows k (e / 2) res2 base2))
+logarithm-grows e = growing (logarithm-holds every e)
 
 pub power-grows : (base : Expansion) (e : ℕ) → Growing (power base e)
-power-grows base e = do
-  o ← from-grows 1
-  pow-from-grows _ e (Constant o) base
+power-grows base e = growing (power-holds every base e)
 
 pub maximum-grows : (s t : Expansion) → Growing (maximum s t)
-maximum-grows (Constant a) (Constant b) = constant-grows ((calls-grow depth .max-at a b))
-maximum-grows (Constant a) (Polynomial ws) = refuse-grows maxReached
-maximum-grows (Polynomial us) (Constant b) = refuse-grows maxReached
-maximum-grows (Polynomial us) (Polynomial ws) = refuse-grows maxReached
-
-horner-grows : (inner : Expansion) (cs : List ℕ) (res : Expansion) → Growing (horner inner cs res)
-unfolding horner
-horner-grows inner [] res = yield-grows res
-horner-grows inner (c ∷ cs) res = do
-  p ← times-grows res inner
-  s ← add-to-grows p (Constant c)
-  horner-grows inner cs s
+maximum-grows s t = growing (maximum-holds (λ a b. holding (calls-grow depth .max-at a b)) tt s t)
 
 pub subst-grows : (outer inner : Expansion) → Growing (subst outer inner)
-subst-grows (Constant c) inner = yield-grows (Constant c)
-subst-grows (Polynomial cs) inner = do
-  z ← from-grows 0
-  horner-grows inner (reverse cs) (Constant z)
+subst-grows outer inner = growing (subst-holds every outer inner)
 
 -- ---- the expansion of an expression
 abbrev GrowsWalk : Pool → Went → Type 0
@@ -286,7 +141,7 @@ keep-grows i e = record { grows = λ S. grown-by-nothing (S .pool) }
 module _ (v : ℕ) (x : Point) (order : ℕ) where
   point-grows : (x : Point) → Growing (pointNode v x)
   point-grows none = (append-grows (Variable v))
-  point-grows (point z) = lit-grows z
+  point-grows (point z) = literal-grows (folded z)
 
   variable-grows : (t : Bool) (term : ℕ) → GrowingWalk (ofVariable t term v x order)
   variable-grows true term = lift-grows (point-grows x >>= (λ p. var-grows p order))

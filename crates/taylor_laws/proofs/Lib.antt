@@ -1,1 +1,4 @@
+pub mod General
 pub mod Growing
+pub mod Lists
+pub mod Walking

@@ -9,15 +9,17 @@ use lib.ListN.{length}
 use Rattle.pool.specs.Pool.{Pool}
 use Rattle.constructor_laws.specs.Keeps.{Keeps}
 use Rattle.taylor.specs.Expansion.{Expansion, expTerm, expAt, exponential, logTerm, logAt, logarithm}
+use Rattle.constructor_laws.proofs.Giving.{Gives, gives-next}
+use Rattle.taylor_laws.proofs.Lists.{Shows, shows-later, shows-none, shows-cons, fold-gives, fill-gives}
 use Rattle.meaning.specs.Model.{Algebra, Model}
 use Rattle.meaning.specs.Value.{Values}
 use Rattle.meaning.proofs.Values.{same-op}
 use Rattle.meaning.proofs.Laws.{product-comm, product-assoc, product-zero, zero-product}
-use Rattle.meaning.proofs.Running.{Has, has-later}
+use Rattle.meaning.proofs.Running.{Has, has-later, Is, has-same, is-same, literal-gives, valued}
 use Rattle.taylor_meaning.specs.Series.{minus, sum, Series, recurrence, expStep, logStep}
 use Rattle.taylor_meaning.proofs.Sums.{sum-more, sum-none, recurrence-solves, exp-looks-below, log-looks-below}
 use Rattle.taylor_meaning.proofs.SeriesRing.{sum-zeros}
-use Rattle.taylor_meaning.proofs.Working.{Gives, gives-next, Is, has-same, is-same, lit-gives, add-gives, mul-gives, div-gives, exp-gives, log-gives, sub-gives, Shows, shows-later, shows-none, shows-cons, fold-gives, fill-gives}
+use Rattle.taylor_meaning.proofs.Working.{add-gives, mul-gives, div-gives, exp-gives, log-gives, sub-gives}
 use Rattle.taylor_meaning.proofs.Operations.{Expands, constant, list, constant-gives, list-gives, minus-zero}
 
 module _ {A : Algebra} (M : Model A) (env : Values A) where
@@ -53,21 +55,21 @@ module _ {A : Algebra} (M : Model A) (env : Values A) where
     exp-term-gives :
         {P : Pool} {us rs : List ℕ} (k a j : ℕ)
         → Keeps P
-        → Shows M env u P us
-        → Shows M env expV P rs
+        → Shows (valued A env) u P us
+        → Shows (valued A env) expV P rs
         → length rs ≡ suc k
         → suc k < length us
         → 1 ≤ j
         → j < 1 + suc k
-        → Has M env P a (partial (expTerms k) j)
-        → Gives P (Is M env (partial (expTerms k) (suc j))) (expTerm rs us (suc k) a j P)
+        → Has A env P a (partial (expTerms k) j)
+        → Gives P (Is A env (partial (expTerms k) (suc j))) (expTerm rs us (suc k) a j P)
     exp-term-gives k a zero kP su sv long lu l m ha = no-step l
     exp-term-gives k a (suc i) kP su sv long lu l m ha =
         gives-next (mul-gives M env kP (sv .entry (suc k - suc i) (omega arith)) (su .entry (suc i) (omega arith))) (λ p Q kQ gQ hp.
-        gives-next (lit-gives M env kQ (pos (suc i))) (λ n R kR gR hn.
-        gives-next (mul-gives M env kR (has-later M env kQ gR hp) hn) (λ t T kT gT ht.
-        is-same M env (sym (sum-more A (expTerms k) i))
-        (add-gives M env kT (has-later M env kR gT (has-later M env kQ gR (has-later M env kP gQ ha))) (has-same M env (order-of k i) ht)))))
+        gives-next (literal-gives A env kQ (pos (suc i))) (λ n R kR gR hn.
+        gives-next (mul-gives M env kR (has-later kQ gR hp) hn) (λ t T kT gT ht.
+        is-same (sym (sum-more A (expTerms k) i))
+        (add-gives M env kT (has-later kR gT (has-later kQ gR (has-later kP gQ ha))) (has-same (order-of k i) ht)))))
       where
         order-of : (k i : ℕ) → expV (suc k - suc i) ⊗ u (suc i) ⊗ int (pos (suc i)) ≡ expTerms k i
         order-of k i =
@@ -77,38 +79,38 @@ module _ {A : Algebra} (M : Model A) (env : Values A) where
     exp-at-gives :
         {P : Pool} {us rs : List ℕ} {z : ℕ} (k : ℕ)
         → Keeps P
-        → Shows M env u P us
-        → Shows M env expV P rs
-        → Has M env P z (int (pos 0))
+        → Shows (valued A env) u P us
+        → Shows (valued A env) expV P rs
+        → Has A env P z (int (pos 0))
         → length rs ≡ k
         → k < length us
         → 1 ≤ k
-        → Gives P (Is M env (expV k)) (expAt us z rs k P)
+        → Gives P (Is A env (expV k)) (expAt us z rs k P)
     unfolding expStep
     exp-at-gives zero kP su sv hz long lu some = no-step some
     exp-at-gives {P} {us} {rs} {z} (suc k) kP su sv hz long lu some =
         gives-next
-        (fold-gives M env (partial (expTerms k)) 1 (suc k) z P kP (has-same M env (sym (sum-none A (expTerms k))) hz) (λ Q a j kQ gQ l m ha.
-        exp-term-gives k a j kQ (shows-later M env kP gQ su) (shows-later M env kP gQ sv) long lu l m ha)) (λ s Q kQ gQ hs.
-        gives-next (lit-gives M env kQ (pos (suc k))) (λ n R kR gR hn.
-        is-same M env (sym (recurrence-solves A (expStep A u) (exp-looks-below A u) (suc k)))
-        (div-gives M env kR (has-later M env kQ gR (has-same M env (ap (partial (expTerms k)) (one-and (suc k))) hs)) hn)))
+        (fold-gives (valued A env) (partial (expTerms k)) 1 (suc k) z P kP (has-same (sym (sum-none A (expTerms k))) hz) (λ Q a j kQ gQ l m ha.
+        exp-term-gives k a j kQ (shows-later kP gQ su) (shows-later kP gQ sv) long lu l m ha)) (λ s Q kQ gQ hs.
+        gives-next (literal-gives A env kQ (pos (suc k))) (λ n R kR gR hn.
+        is-same (sym (recurrence-solves A (expStep A u) (exp-looks-below A u) (suc k)))
+        (div-gives M env kR (has-later kQ gR (has-same (ap (partial (expTerms k)) (one-and (suc k))) hs)) hn)))
 
-    pub exponential-gives : {n : ℕ} {P : Pool} {s : Expansion} → Keeps P → Expands M env n u P s → Gives P (Expands M env n (recurrence A (expStep A u))) (exponential s P)
+    pub exponential-gives : {n : ℕ} {P : Pool} {s : Expansion} → Keeps P → Expands A env n u P s → Gives P (Expands A env n (recurrence A (expStep A u))) (exponential s P)
     unfolding expStep
     exponential-gives k (constant hu zu) =
-        constant-gives M env expV (λ j.
+        constant-gives expV (λ j.
         recurrence-solves A (expStep A u) (exp-looks-below A u) (suc j)
         ∙ ap (λ x. x ⊘ int (pos (suc j))) (sum-zeros M (expTerms j) (suc j) (λ i l. ap (λ x. expV (j - i) ⊗ (int (pos (suc i)) ⊗ x)) (zu i) ∙ ap (λ x. expV (j - i) ⊗ x) (product-zero M (int (pos (suc i)))) ∙ product-zero M (expV (j - i))))
         ∙ M .zero-over (int (pos (suc j))))
-        (is-same M env (sym (recurrence-solves A (expStep A u) (exp-looks-below A u) 0)) (exp-gives M env k hu))
+        (is-same (sym (recurrence-solves A (expStep A u) (exp-looks-below A u) 0)) (exp-gives M env k hu))
     exponential-gives {P = P} k (list {cs = us} some l su) =
-        list-gives M env {m = 1 + (length us - 1)} expV (omega arith) (omega arith)
-        (gives-next (lit-gives M env k (pos 0)) (λ z Q kQ gQ hz.
-        gives-next (exp-gives M env kQ (has-later M env k gQ (su .entry 0 some))) (λ r R kR gR hr.
-        fill-gives M env (expAt us z) expV (length us - 1) (r ∷ []) R kR
-        (shows-cons M env (has-same M env (sym (recurrence-solves A (expStep A u) (exp-looks-below A u) 0)) hr) (shows-none M env)) (λ T rs kT gT hrs a b.
-        exp-at-gives (length rs) kT (shows-later M env kR gT (shows-later M env kQ gR (shows-later M env k gQ su))) hrs (has-later M env kR gT (has-later M env kQ gR hz)) refl (omega arith) (omega arith)))))
+        list-gives {m = 1 + (length us - 1)} expV (omega arith) (omega arith)
+        (gives-next (literal-gives A env k (pos 0)) (λ z Q kQ gQ hz.
+        gives-next (exp-gives M env kQ (has-later k gQ (su .entry 0 some))) (λ r R kR gR hr.
+        fill-gives (expAt us z) expV (length us - 1) (r ∷ []) R kR
+        (shows-cons (has-same (sym (recurrence-solves A (expStep A u) (exp-looks-below A u) 0)) hr) shows-none) (λ T rs kT gT hrs a b.
+        exp-at-gives (length rs) kT (shows-later kR gT (shows-later kQ gR (shows-later k gQ su))) hrs (has-later kR gT (has-later kQ gR hz)) refl (omega arith) (omega arith)))))
 
   -- ---- log
 
@@ -123,21 +125,21 @@ module _ {A : Algebra} (M : Model A) (env : Values A) where
     log-term-gives :
         {P : Pool} {us rs : List ℕ} (k a j : ℕ)
         → Keeps P
-        → Shows M env u P us
-        → Shows M env logV P rs
+        → Shows (valued A env) u P us
+        → Shows (valued A env) logV P rs
         → length rs ≡ suc k
         → suc k < length us
         → 1 ≤ j
         → j < 1 + k
-        → Has M env P a (partial (logTerms k) j)
-        → Gives P (Is M env (partial (logTerms k) (suc j))) (logTerm rs us (suc k) a j P)
+        → Has A env P a (partial (logTerms k) j)
+        → Gives P (Is A env (partial (logTerms k) (suc j))) (logTerm rs us (suc k) a j P)
     log-term-gives k a zero kP su sv long lu l m ha = no-step l
     log-term-gives k a (suc i) kP su sv long lu l m ha =
         gives-next (mul-gives M env kP (su .entry (suc k - suc i) (omega arith)) (sv .entry (suc i) (omega arith))) (λ p Q kQ gQ hp.
-        gives-next (lit-gives M env kQ (pos (suc i))) (λ n R kR gR hn.
-        gives-next (mul-gives M env kR (has-later M env kQ gR hp) hn) (λ t T kT gT ht.
-        is-same M env (sym (sum-more A (logTerms k) i))
-        (add-gives M env kT (has-later M env kR gT (has-later M env kQ gR (has-later M env kP gQ ha))) (has-same M env (order-of k i) ht)))))
+        gives-next (literal-gives A env kQ (pos (suc i))) (λ n R kR gR hn.
+        gives-next (mul-gives M env kR (has-later kQ gR hp) hn) (λ t T kT gT ht.
+        is-same (sym (sum-more A (logTerms k) i))
+        (add-gives M env kT (has-later kR gT (has-later kQ gR (has-later kP gQ ha))) (has-same (order-of k i) ht)))))
       where
         order-of : (k i : ℕ) → u (suc k - suc i) ⊗ logV (suc i) ⊗ int (pos (suc i)) ≡ logTerms k i
         order-of k i =
@@ -147,43 +149,43 @@ module _ {A : Algebra} (M : Model A) (env : Values A) where
     log-at-gives :
         {P : Pool} {us rs : List ℕ} {z : ℕ} (k : ℕ)
         → Keeps P
-        → Shows M env u P us
-        → Shows M env logV P rs
-        → Has M env P z (int (pos 0))
+        → Shows (valued A env) u P us
+        → Shows (valued A env) logV P rs
+        → Has A env P z (int (pos 0))
         → length rs ≡ k
         → k < length us
         → 1 ≤ k
-        → Gives P (Is M env (logV k)) (logAt us z rs k P)
+        → Gives P (Is A env (logV k)) (logAt us z rs k P)
     unfolding logStep
     log-at-gives zero kP su sv hz long lu some = no-step some
     log-at-gives {P} {us} {rs} {z} (suc k) kP su sv hz long lu some =
         gives-next
-        (fold-gives M env (partial (logTerms k)) 1 (suc k - 1) z P kP (has-same M env (sym (sum-none A (logTerms k))) hz) (λ Q a j kQ gQ l m ha.
-        log-term-gives k a j kQ (shows-later M env kP gQ su) (shows-later M env kP gQ sv) long lu l (omega arith) ha)) (λ s Q kQ gQ hs.
-        let uQ = shows-later M env kP gQ su in
-        gives-next (lit-gives M env kQ (pos (suc k))) (λ n R kR gR hn.
-        let uR = shows-later M env kQ gR uQ in
+        (fold-gives (valued A env) (partial (logTerms k)) 1 (suc k - 1) z P kP (has-same (sym (sum-none A (logTerms k))) hz) (λ Q a j kQ gQ l m ha.
+        log-term-gives k a j kQ (shows-later kP gQ su) (shows-later kP gQ sv) long lu l (omega arith) ha)) (λ s Q kQ gQ hs.
+        let uQ = shows-later kP gQ su in
+        gives-next (literal-gives A env kQ (pos (suc k))) (λ n R kR gR hn.
+        let uR = shows-later kQ gR uQ in
         gives-next (mul-gives M env kR (uR .entry (suc k) lu) hn) (λ p T kT gT hp.
-        gives-next (sub-gives M env kT (has-same M env (product-comm M (u (suc k)) (int (pos (suc k)))) hp) (has-later M env kR gT (has-later M env kQ gR (has-same M env (ap (partial (logTerms k)) (ends k)) hs)))) (λ d U kU gU hd.
-        let uU = shows-later M env kT gU (shows-later M env kR gT uR) in
+        gives-next (sub-gives M env kT (has-same (product-comm M (u (suc k)) (int (pos (suc k)))) hp) (has-later kR gT (has-later kQ gR (has-same (ap (partial (logTerms k)) (ends k)) hs)))) (λ d U kU gU hd.
+        let uU = shows-later kT gU (shows-later kR gT uR) in
         gives-next (div-gives M env kU hd (uU .entry 0 (omega arith))) (λ q W kW gW hq.
-        gives-next (lit-gives M env kW (pos (suc k))) (λ m X kX gX hm.
-        is-same M env (sym (recurrence-solves A (logStep A u) (log-looks-below A u) (suc k))) (div-gives M env kX (has-later M env kW gX hq) hm)))))))
+        gives-next (literal-gives A env kW (pos (suc k))) (λ m X kX gX hm.
+        is-same (sym (recurrence-solves A (logStep A u) (log-looks-below A u) (suc k))) (div-gives M env kX (has-later kW gX hq) hm)))))))
       where
         ends : (k : ℕ) → 1 + (suc k - 1) ≡ suc k
         ends k = omega arith
 
-    pub logarithm-gives : {n : ℕ} {P : Pool} {s : Expansion} → Keeps P → Expands M env n u P s → Gives P (Expands M env n (recurrence A (logStep A u))) (logarithm s P)
+    pub logarithm-gives : {n : ℕ} {P : Pool} {s : Expansion} → Keeps P → Expands A env n u P s → Gives P (Expands A env n (recurrence A (logStep A u))) (logarithm s P)
     unfolding logStep
     logarithm-gives k (constant hu zu) =
-        constant-gives M env logV (λ j.
+        constant-gives logV (λ j.
         recurrence-solves A (logStep A u) (log-looks-below A u) (suc j)
         ∙ ap (λ x. x ⊘ u 0 ⊘ int (pos (suc j)))
         (same-op (minus A) (ap (λ x. int (pos (suc j)) ⊗ x) (zu j) ∙ product-zero M (int (pos (suc j)))) (sum-zeros M (logTerms j) j (λ i l. no-term j i l (zu (j - suc i))))
-        ∙ minus-zero M env (int (pos 0)))
+        ∙ minus-zero M (int (pos 0)))
         ∙ ap (λ x. x ⊘ int (pos (suc j))) (M .zero-over (u 0))
         ∙ M .zero-over (int (pos (suc j))))
-        (is-same M env (sym (recurrence-solves A (logStep A u) (log-looks-below A u) 0)) (log-gives M env k hu))
+        (is-same (sym (recurrence-solves A (logStep A u) (log-looks-below A u) 0)) (log-gives M env k hu))
       where
         above : (j i : ℕ) → i < j → j - i ≡ suc (j - suc i)
         above j i l = omega arith
@@ -191,9 +193,9 @@ module _ {A : Algebra} (M : Model A) (env : Values A) where
         no-term : (j i : ℕ) → i < j → u (suc (j - suc i)) ≡ int (pos 0) → logTerms j i ≡ int (pos 0)
         no-term j i l z = ap (λ x. x ⊗ (int (pos (suc i)) ⊗ logV (suc i))) (ap u (above j i l) ∙ z) ∙ zero-product M (int (pos (suc i)) ⊗ logV (suc i))
     logarithm-gives {P = P} k (list {cs = us} some l su) =
-        list-gives M env {m = 1 + (length us - 1)} logV (omega arith) (omega arith)
-        (gives-next (lit-gives M env k (pos 0)) (λ z Q kQ gQ hz.
-        gives-next (log-gives M env kQ (has-later M env k gQ (su .entry 0 some))) (λ r R kR gR hr.
-        fill-gives M env (logAt us z) logV (length us - 1) (r ∷ []) R kR
-        (shows-cons M env (has-same M env (sym (recurrence-solves A (logStep A u) (log-looks-below A u) 0)) hr) (shows-none M env)) (λ T rs kT gT hrs a b.
-        log-at-gives (length rs) kT (shows-later M env kR gT (shows-later M env kQ gR (shows-later M env k gQ su))) hrs (has-later M env kR gT (has-later M env kQ gR hz)) refl (omega arith) (omega arith)))))
+        list-gives {m = 1 + (length us - 1)} logV (omega arith) (omega arith)
+        (gives-next (literal-gives A env k (pos 0)) (λ z Q kQ gQ hz.
+        gives-next (log-gives M env kQ (has-later k gQ (su .entry 0 some))) (λ r R kR gR hr.
+        fill-gives (logAt us z) logV (length us - 1) (r ∷ []) R kR
+        (shows-cons (has-same (sym (recurrence-solves A (logStep A u) (log-looks-below A u) 0)) hr) shows-none) (λ T rs kT gT hrs a b.
+        log-at-gives (length rs) kT (shows-later kR gT (shows-later kQ gR (shows-later k gQ su))) hrs (has-later kR gT (has-later kQ gR hz)) refl (omega arith) (omega arith)))))

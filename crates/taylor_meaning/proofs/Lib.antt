@@ -7,7 +7,6 @@ pub mod Quotients
 pub mod Polynomials
 pub mod Powers
 pub mod Compositions
-pub mod Walking
 pub mod Expanding
 pub mod Book
 pub mod Theorems

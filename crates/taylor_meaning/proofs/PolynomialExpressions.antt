@@ -18,13 +18,13 @@ use Rattle.shape.specs.Shape.{Reach, root, part}
 use Rattle.shape.proofs.Lists.{here}
 use Rattle.taylor.specs.Expansion.{Expansion}
 use Rattle.taylor.specs.Expand.{Point, expand}
+use Rattle.constructor_laws.proofs.Giving.{Gives, accepted}
 use Rattle.meaning.specs.Model.{Algebra, Model, Distributive, power}
 use Rattle.meaning.specs.Value.{Values, valueNode, value}
 use Rattle.meaning.proofs.Values.{Each, each-below, each-had, same-op}
 use Rattle.taylor_meaning.specs.Series.{Series, plusSeries, timesSeries, series, polynomials}
 use Rattle.taylor_meaning.specs.Coefficients.{MeansSeries, asSeries}
 use Rattle.taylor_meaning.specs.PolynomialExpressions.{PlainNode, PlainExpression, PolynomialNode, PolynomialExpression}
-use Rattle.taylor_meaning.proofs.Working.{Gives, kept-by}
 use Rattle.taylor_meaning.proofs.Operations.{Expands}
 use Rattle.taylor_meaning.proofs.Polynomials.{powers-same}
 use Rattle.taylor_meaning.proofs.Expanding.{Allowed, expansion-gives}
@@ -83,7 +83,7 @@ module _ {A : Algebra} (M : Model A) (D : Distributive A) where
     plain-allowed (Max a b) h p = absurd p
 
     module _ (words : (i : ℕ) → getD (P .words) i 0 < 2 ^ 64) (r : ℕ) (h : r < P .count) where
-      plain-expansion-gives : PlainExpression (nodeAt P) r → Gives P (Expands M env (suc order) (value (series A) (asSeries A env v x) (nodeAt P) r)) (expand r v x order P)
+      plain-expansion-gives : PlainExpression (nodeAt P) r → Gives P (Expands A env (suc order) (value (series A) (asSeries A env v x) (nodeAt P) r)) (expand r v x order P)
       plain-expansion-gives p =
           expansion-gives M D env keeps v known x order (λ i. Reach (nodeAt P) (r ∷ []) i × (i < P .count)) (λ i c. c .1)
           (λ i c. each-both (Reach (nodeAt P) (r ∷ [])) (λ a. a < P .count) (parts (nodeAt P i)) (each-had (parts (nodeAt P i)) (λ a m. part (c .0) m)) (each-below (parts (nodeAt P i)) (parts-below keeps i) (λ a m. m)))
@@ -95,7 +95,7 @@ module _ {A : Algebra} (M : Model A) (D : Distributive A) where
       plain-expansion-means p eq = series-meant M env keeps (plain-expansion-gives p) eq
 
       pub plain-expansion-keeps : {e : Expansion} {Q : Pool} → PlainExpression (nodeAt P) r → expand r v x order P ≡ done e Q → Keeps Q
-      plain-expansion-keeps p eq = kept-by (plain-expansion-gives p) eq
+      plain-expansion-keeps p eq = accepted (plain-expansion-gives p) eq .keeps
 
       -- an accepted expansion of a polynomial expression: coefficient k is that of t^k in its value at x + t, in the ring of series
       pub polynomial-expansion-means :

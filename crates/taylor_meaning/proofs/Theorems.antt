@@ -1,6 +1,5 @@
 -- In every ring that is a model, for all values of the variables: what an accepted operation on expansions answers has the coefficients of the series' operation, and what an accepted expansion of an expression answers has the coefficients of the expression's value in the algebra of series.
 -- Assumes nothing.
-use mathlib.Core.Path as path
 use mathlib.Core.Path.{_≡_, refl, sym}
 use mathlib.Core.Bool.{Bool, true, false, cond}
 use mathlib.Core.List.{List}
@@ -20,13 +19,14 @@ use Rattle.constructor_laws.proofs.Rules.{parts-below}
 use Rattle.taylor.specs.Work.{Result}
 use Rattle.taylor.specs.Expansion.{Expansion, Constant, Polynomial, coeff, derivative, maximum, subst, addTo, negate, subFrom, times, quotient, exponential, logarithm, power}
 use Rattle.taylor.specs.Expand.{Point, expand}
+use Rattle.constructor_laws.proofs.Giving.{Gives, accepted}
 use Rattle.meaning.specs.Model.{Algebra, Model, Distributive}
 use Rattle.meaning.specs.Model as model
 use Rattle.meaning.specs.Value.{Values, value, Means}
 use Rattle.meaning.proofs.Values.{each-below, value-kept}
+use Rattle.meaning.proofs.Theorems.{meant}
 use Rattle.taylor_meaning.specs.Series.{minus, Series, constantSeries, composed, factorialIn, plusSeries, timesSeries, recurrence, overStep, expStep, logStep, series, Fractions}
 use Rattle.taylor_meaning.specs.Coefficients.{Present, Long, InPool, coefficient, MeansSeries, asSeries}
-use Rattle.taylor_meaning.proofs.Working.{Gives, gave, kept-by, Is}
 use Rattle.taylor_meaning.proofs.Operations.{Expands, constant, list, add-to-gives, negate-gives, sub-from-gives, times-gives}
 use Rattle.taylor_meaning.proofs.Elementary.{exponential-gives, logarithm-gives}
 use Rattle.taylor_meaning.proofs.Quotients.{quotient-by-list-gives, quotient-gives}
@@ -58,7 +58,7 @@ node-short P words i = short-pick (ltb i limit) (decode (getD (P .kinds) i 0) (g
 
 module _ {A : Algebra} (M : Model A) (env : Values A) where
   -- an expansion of the pool has the coefficients that it has
-  expands-itself : {P : Pool} {n : ℕ} (e : Expansion) → InPool P e → Long n e → Expands M env n (coefficient A env P e) P e
+  expands-itself : {P : Pool} {n : ℕ} (e : Expansion) → InPool P e → Long n e → Expands A env n (coefficient A env P e) P e
   unfolding coefficient
   expands-itself (Constant c) h long = constant (record { below = h; is = refl }) (λ k. refl)
   expands-itself {n = n} (Polynomial cs) h long = list (h .0) (at-most n (length cs) long) (record { entry = λ k l. record { below = h .1 k l; is = refl } })
@@ -67,7 +67,7 @@ module _ {A : Algebra} (M : Model A) (env : Values A) where
       at-most zero m f = omega arith
       at-most (suc n) m f = f n (omega arith)
 
-  shown : {n : ℕ} {f : Series A} {Q : Pool} {e : Expansion} → Expands M env n f Q e → Long n e × ((k : ℕ) → Present e k → coefficient A env Q e k ≡ f k)
+  shown : {n : ℕ} {f : Series A} {Q : Pool} {e : Expansion} → Expands A env n f Q e → Long n e × ((k : ℕ) → Present e k → coefficient A env Q e k ≡ f k)
   unfolding coefficient
   shown {f = f} {Q} (constant {c} h z) = ((λ k l. tt), go)
     where
@@ -78,23 +78,14 @@ module _ {A : Algebra} (M : Model A) (env : Values A) where
 
   module _ {P : Pool} (keeps : Keeps P) where
     -- what is known after accepted work that gives a series
-    pub series-meant : {n : ℕ} {f : Series A} {r : Result Expansion} {e : Expansion} {Q : Pool} → Gives P (Expands M env n f) r → r ≡ done e Q → MeansSeries A env P n f e Q
-    series-meant {n} {f} {r} {e} {Q} h eq = go (path.subst (Gives P (Expands M env n f)) eq h)
-      where
-        go : Gives P (Expands M env n f) (done e Q) → MeansSeries A env P n f e Q
-        go (gave k g s) = record { long = shown s .0; coefficients = shown s .1; earlier = value-kept A env keeps g }
-
-    number-meant : {x : A .carrier} {r : Result ℕ} {i : ℕ} {Q : Pool} → Gives P (Is M env x) r → r ≡ done i Q → Means A env P x i Q
-    number-meant {x} {r} {i} {Q} h eq = go (path.subst (Gives P (Is M env x)) eq h)
-      where
-        go : Gives P (Is M env x) (done i Q) → Means A env P x i Q
-        go (gave k g s) = record { answer = s .is; earlier = value-kept A env keeps g }
+    pub series-meant : {n : ℕ} {f : Series A} {r : Result Expansion} {e : Expansion} {Q : Pool} → Gives P (Expands A env n f) r → r ≡ done e Q → MeansSeries A env P n f e Q
+    series-meant h eq = let known = accepted h eq in record { long = shown (known .is) .0; coefficients = shown (known .is) .1; earlier = value-kept A env keeps (known .grown) }
 
     module _ (n : ℕ) (s : Expansion) (hs : InPool P s) (ls : Long n s) where
       abbrev u : Series A
       u = coefficient A env P s
 
-      itself : Expands M env n u P s
+      itself : Expands A env n u P s
       itself = expands-itself s hs ls
 
       -- v_k = -u_k
@@ -103,10 +94,10 @@ module _ {A : Algebra} (M : Model A) (env : Values A) where
 
       -- coefficient k, and k! times coefficient k
       pub coeff-means : {i : ℕ} {Q : Pool} → (k : ℕ) → k < n → coeff s k P ≡ done i Q → Means A env P (u k) i Q
-      coeff-means k l eq = number-meant (coeff-gives M env k l keeps itself) eq
+      coeff-means k l eq = meant M env keeps (coeff-gives M env k l keeps itself) eq
 
       pub derivative-means : {i : ℕ} {Q : Pool} → (k : ℕ) → k < n → derivative s k P ≡ done i Q → Means A env P (A .times (factorialIn A k) (u k)) i Q
-      derivative-means k l eq = number-meant (derivative-gives M env k l keeps itself) eq
+      derivative-means k l eq = meant M env keeps (derivative-gives M env k l keeps itself) eq
 
       -- the series of the book's recurrence for exp u
       pub exponential-means : {e : Expansion} {Q : Pool} → exponential s P ≡ done e Q → MeansSeries A env P n (recurrence A (expStep A u)) e Q
@@ -124,7 +115,7 @@ module _ {A : Algebra} (M : Model A) (env : Values A) where
         abbrev w : Series A
         w = coefficient A env P t
 
-        itself′ : Expands M env n w P t
+        itself′ : Expands A env n w P t
         itself′ = expands-itself t ht lt
 
         -- v_k = u_k + w_k
@@ -175,7 +166,7 @@ module _ {A : Algebra} (M : Model A) (env : Values A) where
 
       expression-gives :
           Fractions A → ((i : ℕ) → getD (P .words) i 0 < 2 ^ 64) → (root : ℕ) → root < P .count
-          → Gives P (Expands M env (suc order) (value (series A) (asSeries A env v x) (nodeAt P) root)) (expand root v x order P)
+          → Gives P (Expands A env (suc order) (value (series A) (asSeries A env v x) (nodeAt P) root)) (expand root v x order P)
       expression-gives fractions words root h =
           expansion-gives M D env keeps v known x order (λ i. i < P .count) (λ i l. l) (λ i l. each-below (parts (nodeAt P i)) (parts-below keeps i) (λ a m. m)) (λ i l. short-allowed fractions (nodeAt P i) (node-short P words i)) root h
 
@@ -187,4 +178,4 @@ module _ {A : Algebra} (M : Model A) (env : Values A) where
       expansion-means fractions words root h eq = series-meant (expression-gives fractions words root h) eq
 
       pub expansion-keeps : Fractions A → ((i : ℕ) → getD (P .words) i 0 < 2 ^ 64) → {e : Expansion} {Q : Pool} (root : ℕ) → root < P .count → expand root v x order P ≡ done e Q → Keeps Q
-      expansion-keeps fractions words root h eq = kept-by (expression-gives fractions words root h) eq
+      expansion-keeps fractions words root h eq = accepted (expression-gives fractions words root h) eq .keeps

@@ -2,29 +2,26 @@
 -- Assumes nothing.
 use mathlib.Core.Bool.{Bool, true, false, cond}
 use mathlib.Core.Path.{_≡_, refl}
-use mathlib.Core.Logic.{_⊎_, inl, inr}
-use mathlib.Core.List.{List, [], _∷_}
+use mathlib.Core.Logic.{inl, inr}
 use Prim.Native.Nat.{ℕ, zero, suc, _/_, _%_, min, _≤_, _<_}
 use native.Mathlib.Nat.{le-refl, min-eq-left, min-eq-right}
-use native.Mathlib.Decide.{ℕ-discrete}
 use native.Mathlib.Omega.{arith}
 use lib.Dec.{eqb}
-use lib.ListN.{getD, set, replicate}
-use borrow.Author.Tests.{eq-eqb, ne-eqb}
-use Rattle.refusals.specs.Refusals.{brokenPool, maxReached}
 use Rattle.pool.specs.declared.node.Node.{Node}
 use Rattle.pool.specs.declared.node.Node.the-variants.{Empty, Variable, Lit, Add, Mul, Div, Exp, Log, Pow, Max}
 use Rattle.pool.specs.Nodes.{parts, greatestVariable}
-use Rattle.pool.specs.Pool.{Pool, limit, nodeAt, done, refused}
+use Rattle.pool.specs.Pool.{Pool, nodeAt, done}
 use Rattle.constructor_laws.specs.Grown.{Grown}
 use Rattle.constructor_laws.specs.Keeps.{Keeps}
-use Rattle.constructor_laws.proofs.Growth.{grown-by-nothing, grown-by-both}
+use Rattle.constructor_laws.proofs.Growth.{earlier-same}
 use Rattle.constructor_laws.proofs.Rules.{AllBelow, parts-below}
 use Rattle.constructor_laws.proofs.Keeping.{append-keeps}
-use Rattle.taylor.specs.Work.{Result, Work}
+use Rattle.constructor_laws.proofs.Giving.{Aims}
+use Rattle.taylor.specs.Work.{Work}
 use Rattle.taylor.specs.Work as work
 use Rattle.taylor.specs.Expansion.{Expansion, Constant, order, times, powFrom, power, endless}
-use Rattle.taylor.specs.Expand.{Kept, nothing, kept, State, state, Went, Walk, bind, yield, refuse, lifted, lift, keep, once, Point, none, point, pointNode, ofVariable, expandNode, expandAt, expandBelow, expanded, expand}
+use Rattle.taylor.specs.Expand.{State, Went, Walk, bind, lift, Point, none, point, pointNode, ofVariable, expandNode, expandAt, expand}
+use Rattle.taylor_laws.proofs.Walking.{Good, Walked, ended-walk, Walks, walked-next, walked-here, both-walked, lift-walked, expand-gives}
 use Rattle.taylor_base.specs.Answers.{terms}
 use Rattle.taylor_rules.specs.Kept.{ExpandedOrder}
 use Rattle.taylor_rules.proofs.Nodes.{KeptAs, Keeping, yield-keeps, next-keeps, said-as, node-keeps, lit-keeps, from-keeps}
@@ -76,159 +73,70 @@ module _ (ord : ℕ) (small : ord < terms) where
 
   -- ---- walks
 
-  -- a state in which the pool keeps the rules
-  record Rightful (S : State) : Type 0 where
-    pub keeps : Keeps (S .pool)
-    pub results : (j : ℕ) (e : Expansion) → getD (S .results) j nothing ≡ kept e → Come (S .pool .count) e
+  -- the one aim: an expansion that a walk may come to
+  pub come-later : {P Q : Pool} {e : Expansion} → Keeps P → Grown P Q → Come (P .count) e → Come (Q .count) e
+  come-later k g h = come-more (g .no-fewer) h
 
-  record Walked (S : State) (e : Expansion) (T : State) : Type 0 where
-    pub grown : Grown (S .pool) (T .pool)
-    pub rightful : Rightful T
-    pub come : Come (T .pool .count) e
-
-  abbrev WalkKept : State → Went → Type 0
-  WalkKept S (done e T) = Walked S e T
-  WalkKept S (refused k) = Unit {0}
-
-  -- a walk that keeps the rules of every pool with n nodes or more
-  record WalkKeeps (n : ℕ) (walk : Walk) : Type 0 where
-    pub walked : (S : State) → Rightful S → n ≤ S .pool .count → WalkKept S (walk S)
-
-  kept-from : (S T : State) → Grown (S .pool) (T .pool) → (w : Went) → WalkKept T w → WalkKept S w
-  kept-from S T g (done e U) k = record { grown = grown-by-both g (k .grown); rightful = k .rightful; come = k .come }
-  kept-from S T g (refused r) k = tt
-
-  stays : {S : State} {e : Expansion} → Rightful S → Come (S .pool .count) e → Walked S e S
-  stays {S} r h = record { grown = grown-by-nothing (S .pool); rightful = r; come = h }
-
-  yield-walks : {n : ℕ} {e : Expansion} → Come n e → WalkKeeps n (yield e)
-  yield-walks h = record { walked = λ S r more. stays r (come-more more h) }
-
-  refuse-walks : {n : ℕ} (k : ℕ) → WalkKeeps n (refuse k)
-  refuse-walks k = record { walked = λ S r more. tt }
-
-  -- one step, and then another that may use its expansion
-  then-walks : {n : ℕ} {walk : Walk} {next : Expansion → Walk} → WalkKeeps n walk → ((m : ℕ) (e : Expansion) → n ≤ m → Come m e → WalkKeeps m (next e)) → WalkKeeps n (λ S. bind (walk S) next)
-  then-walks {n} {walk} {next} first then = record { walked = λ S r more. go S more (walk S) (first .walked S r more) }
-    where
-      go : (S : State) → n ≤ S .pool .count → (w : Went) → WalkKept S w → WalkKept S (bind w next)
-      go S more (done e T) k =
-          let grown : S .pool .count ≤ T .pool .count = k .grown .no-fewer in
-          kept-from S T (k .grown) (next e T) (then (T .pool .count) e (omega arith) (k .come) .walked T (k .rightful) (le-refl (T .pool .count)))
-      go S more (refused r) k = tt
+  abbrev pub coming : Aims Expansion
+  coming = record { Aim = Unit {0}; Meets = λ u P e. Come (P .count) e; later = come-later }
 
   -- an operation called by a walk
-  lift-walks : {n : ℕ} {work : Work Expansion} → Keeping n Come work → WalkKeeps n (lift work)
-  lift-walks {n} {work} w = record { walked = λ S r more. go S r (work (S .pool)) (w .kept (S .pool) (r .keeps) more) }
-    where
-      go : (S : State) → Rightful S → (x : Result Expansion) → KeptAs Come (S .pool) x → WalkKept S (lifted (S .results) x)
-      go S r (done e P) k =
-          record {
-            grown = k .grown;
-            rightful = record { keeps = k .keeps; results = λ j d h. come-more (k .grown .no-fewer) (r .results j d h) };
-            come = k .good;
-          }
-      go S r (refused q) k = tt
-
-  set-read : (l : List Kept) (i : ℕ) (e d : Expansion) (j : ℕ) → getD (set l i (kept e)) j nothing ≡ kept d → (kept e ≡ kept d) ⊎ (getD l j nothing ≡ kept d)
-  set-read [] i e d j h = inr h
-  set-read (x ∷ l) zero e d zero h = inl h
-  set-read (x ∷ l) zero e d (suc j) h = inr h
-  set-read (x ∷ l) (suc i) e d zero h = inr h
-  set-read (x ∷ l) (suc i) e d (suc j) h = set-read l i e d j h
-
-  keep-walks : {n : ℕ} (i : ℕ) (e : Expansion) → Come n e → WalkKeeps n (keep i e)
-  keep-walks {n} i e h = record { walked = λ S r more. go S r (come-more more h) }
-    where
-      go : (S : State) → Rightful S → Come (S .pool .count) e → WalkKept S (keep i e S)
-      go S r here =
-          record { grown = grown-by-nothing (S .pool); rightful = record { keeps = r .keeps; results = λ j d k. one j d (set-read (S .results) i e d j k) }; come = here }
-        where
-          one : (j : ℕ) (d : Expansion) → (kept e ≡ kept d) ⊎ (getD (S .results) j nothing ≡ kept d) → Come (S .pool .count) d
-          one j d (inl same) = let p : e ≡ d = cc in rw p at here
-          one j d (inr there) = r .results j d there
-
-  once-kept : (visit : ℕ → Walk) (i : ℕ) (S : State) → Rightful S → WalkKeeps (S .pool .count) (visit i) → (r : Kept) → getD (S .results) i nothing ≡ r → WalkKept S (once visit i r S)
-  once-kept visit i S s w nothing e = then-walks w (λ m d more h. keep-walks i d h) .walked S s (le-refl (S .pool .count))
-  once-kept visit i S s w (kept d) e = stays s (s .results i d e)
-
-  -- ---- nodes
-
-  -- a walk from each node of a pool with n₀ nodes or more
-  abbrev WalksFrom : ℕ → (ℕ → Walk) → Type 0
-  WalksFrom n₀ down = (m i : ℕ) → n₀ ≤ m → i < m → WalkKeeps m (down i)
+  called : {P₀ : Pool} {S : State} (work : Work Expansion) → Good coming P₀ (λ j. tt) S → Keeping (S .pool .count) Come work → Walked coming P₀ (λ j. tt) S tt (lift work S)
+  called {S = S} work good w = lift-walked work good (w .kept (S .pool) (good .keeps) (le-refl (S .pool .count)))
 
   module _ (v : ℕ) (x : Point) (variable : v ≤ greatestVariable) where
     pub point-keeps : {n : ℕ} (p : Point) → Keeping n nodes.Node (pointNode v p)
     point-keeps none = node-keeps (append-keeps (record { below = tt; range = variable }))
     point-keeps (point z) = lit-keeps z
 
-    leaf-walks : {n : ℕ} (sought : Bool) (term : ℕ) → term < n → WalkKeeps n (ofVariable sought term v x ord)
-    leaf-walks true term l = lift-walks (next-keeps (point-keeps x) (λ m p more lp. come-by (inr refl) (var-keeps p ord lp small)))
-    leaf-walks false term l = yield-walks (constant-come l)
+    module _ {P₀ : Pool} (k₀ : Keeps P₀) where
+      abbrev Fit : State → Type 0
+      Fit = Good coming P₀ (λ j. tt)
 
-    module _ {n₀ n : ℕ} {down : ℕ → Walk} (walks : WalksFrom n₀ down) (more : n₀ ≤ n) (term : ℕ) (h : term < n) where
-      both-walk :
-          {a b : ℕ} {work : Expansion → Expansion → Work Expansion} → a < n → b < n
-          → ((m : ℕ) (s t : Expansion) → Within m s → Within m t → Keeping m (Series (min (order s) (order t))) (work s t))
-          → WalkKeeps n (λ S. bind (down a S) (λ s T. bind (down b T) (λ t. lift (work s t))))
-      both-walk {a} {b} la lb work =
-          then-walks (walks n a more la)
-          (λ m s m-more cs. then-walks (walks m b (omega arith) (omega arith))
-          (λ m′ t m′-more ct. lift-walks (come-by (shorter (order s) (order t) (cs .size) (ct .size)) (work m′ s t (within-more s m′-more (cs .within)) (ct .within)))))
+      abbrev Comes : State → Went → Type 0
+      Comes S = Walked coming P₀ (λ j. tt) S tt
 
-      one-walk :
-          {a : ℕ} {work : Expansion → Work Expansion} → a < n → ((m : ℕ) (s : Expansion) → Within m s → Keeping m (Series (order s)) (work s)) → WalkKeeps n (λ S. bind (down a S) (λ s. lift (work s)))
-      one-walk {a} la work = then-walks (walks n a more la) (λ m s m-more cs. lift-walks (come-by (cs .size) (work m s (cs .within))))
+      abbrev WalksFrom : (ℕ → Walk) → Type 0
+      WalksFrom walk = Walks coming P₀ (λ j. tt) (λ i. i < P₀ .count) walk
 
-      node-walks : (x′ : Node) → AllBelow n (parts x′) → WalkKeeps n (expandNode v x ord down term x′)
-      node-walks Empty l = refuse-walks brokenPool
-      node-walks (Variable u) l = leaf-walks (eqb u v) term h
-      node-walks (Lit z) l = yield-walks (constant-come h)
-      node-walks (Add a b) (la, (lb, _)) = both-walk la lb (λ m s t hs ht. add-to-keeps s t hs ht)
-      node-walks (Mul a b) (la, (lb, _)) = both-walk la lb (λ m s t hs ht. times-keeps s t hs ht)
-      node-walks (Div a b) (la, (lb, _)) = both-walk la lb (λ m s t hs ht. quotient-keeps s t hs ht)
-      node-walks (Exp a) (la, _) = one-walk la (λ m s hs. exponential-keeps s hs)
-      node-walks (Log a) (la, _) = one-walk la (λ m s hs. logarithm-keeps s hs)
-      node-walks (Pow a e) (la, _) =
-          then-walks (walks n a more la) (λ m s m-more cs. lift-walks (power-comes s e cs))
-      node-walks (Max a b) l = refuse-walks maxReached
+      module _ {down : ℕ → Walk} (walks : WalksFrom down) (term : ℕ) (h : term < P₀ .count) (S : State) (good : Fit S) where
+        itself : Comes S (done (Constant term) S)
+        itself = walked-here good (constant-come (omega (arith, good .grown .no-fewer)))
 
-    at-walks : {n₀ : ℕ} {down : ℕ → Walk} → WalksFrom n₀ down → WalksFrom n₀ (expandAt v x ord down)
-    at-walks walks m i more h =
-        record { walked = λ S s l. node-walks walks (omega arith) i (omega arith) (nodeAt (S .pool) i) (parts-below (s .keeps) i) .walked S s (le-refl (S .pool .count)) }
+        leaf-walks : (sought : Bool) → Comes S (ofVariable sought term v x ord S)
+        leaf-walks true = called _ good (next-keeps (point-keeps x) (λ m p more lp. come-by (inr refl) (var-keeps p ord lp small)))
+        leaf-walks false = itself
 
-    -- with one node more below the bound
-    more-walks : {n₀ : ℕ} (k : ℕ) → WalksFrom n₀ (expandBelow v x ord k) → WalksFrom n₀ (expandBelow v x ord (suc k))
-    unfolding expandBelow
-    more-walks k less m i more h = record { walked = λ S s l. go S s l (ℕ-discrete i k) }
-      where
-        go : (S : State) → Rightful S → m ≤ S .pool .count → Dec (i ≡ k) → WalkKept S (expandBelow v x ord (suc k) i S)
-        go S s l (yes e) =
-            rw (e, eq-eqb k k refl)
-            (once-kept (expandAt v x ord (expandBelow v x ord k)) k S s (at-walks less (S .pool .count) k (omega arith) (omega arith)) (getD (S .results) k nothing) refl)
-        go S s l (no n) = rw (ne-eqb i k n) (less m i more h .walked S s l)
+        both-walk :
+            {a b : ℕ} {work : Expansion → Expansion → Work Expansion} → a < P₀ .count → b < P₀ .count
+            → ((m : ℕ) (s t : Expansion) → Within m s → Within m t → Keeping m (Series (min (order s) (order t))) (work s t))
+            → Comes S (bind (down a S) (λ s T. bind (down b T) (λ t. lift (work s t))))
+        both-walk {a} {b} {work} la lb keeps =
+            both-walked walks good a b la lb (λ s t T good-T cs ct.
+            called (work s t) good-T (come-by (shorter (order s) (order t) (cs .size) (ct .size)) (keeps (T .pool .count) s t (cs .within) (ct .within))))
 
-    below-walks : {n₀ : ℕ} (k : ℕ) → WalksFrom n₀ (expandBelow v x ord k)
-    unfolding expandBelow
-    below-walks zero m i more h = record { walked = λ S s l. tt }
-    below-walks (suc k) m i more h = more-walks k (below-walks k) m i more h
+        one-walk :
+            {a : ℕ} {work : Expansion → Work Expansion} → a < P₀ .count → ((m : ℕ) (s : Expansion) → Come m s → Keeping m Come (work s)) → Comes S (bind (down a S) (λ s. lift (work s)))
+        one-walk {a} {work} la keeps = walked-next (walks a la S good) (λ s T good-T g cs. called (work s) good-T (keeps (T .pool .count) s cs))
 
-    nothing-kept : (k j : ℕ) (e : Expansion) → getD (replicate k nothing) j nothing ≡ kept e → ⊥
-    nothing-kept zero j e h = let z : _≡_ {A = ℕ} 0 1 = cc in omega arith
-    nothing-kept (suc k) zero e h = let z : _≡_ {A = ℕ} 0 1 = cc in omega arith
-    nothing-kept (suc k) (suc j) e h = nothing-kept k j e h
+        node-walks : (y : Node) → AllBelow (P₀ .count) (parts y) → Comes S (expandNode v x ord down term y S)
+        node-walks Empty l = ended-walk
+        node-walks (Variable u) l = leaf-walks (eqb u v)
+        node-walks (Lit z) l = itself
+        node-walks (Add a b) (la, (lb, _)) = both-walk la lb (λ m s t hs ht. add-to-keeps s t hs ht)
+        node-walks (Mul a b) (la, (lb, _)) = both-walk la lb (λ m s t hs ht. times-keeps s t hs ht)
+        node-walks (Div a b) (la, (lb, _)) = both-walk la lb (λ m s t hs ht. quotient-keeps s t hs ht)
+        node-walks (Exp a) (la, _) = one-walk la (λ m s cs. come-by (cs .size) (exponential-keeps s (cs .within)))
+        node-walks (Log a) (la, _) = one-walk la (λ m s cs. come-by (cs .size) (logarithm-keeps s (cs .within)))
+        node-walks (Pow a e) (la, _) = one-walk la (λ m s cs. power-comes s e cs)
+        node-walks (Max a b) l = ended-walk
+
+      at-walks : (down : ℕ → Walk) → WalksFrom down → WalksFrom (expandAt v x ord down)
+      at-walks down walks i h S good = node-walks walks i h S good (nodeAt (S .pool) i) (rw same (parts-below k₀ i))
+        where
+          same : nodeAt (S .pool) i ≡ nodeAt P₀ i
+          same = earlier-same (good .grown) i h
 
     -- a whole walk
     pub expand-comes : {P : Pool} (root : ℕ) → Keeps P → root < P .count → KeptAs Come P (expand root v x ord P)
-    expand-comes {P} root k h = go (expandBelow v x ord (suc root) root S) (below-walks (suc root) (P .count) root (le-refl (P .count)) h .walked S start (le-refl (P .count)))
-      where
-        S : State
-        S = state P (replicate limit nothing)
-
-        start : Rightful S
-        start = record { keeps = k; results = λ j e there. absurd (nothing-kept limit j e there) }
-
-        go : (w : Went) → WalkKept S w → KeptAs Come P (expanded w)
-        go (done e T) w = record { grown = w .grown; keeps = w .rightful .keeps; good = w .come }
-        go (refused r) w = tt
+    expand-comes root k h = expand-gives v x ord (at-walks k) k root h

@@ -7,65 +7,42 @@ use native.Mathlib.Nat.{le-refl, suc-min-suc, zero-min, min-zero}
 use native.Mathlib.Omega.{arith}
 use lib.IntN.{ℤ, pos}
 use lib.ListN.{length, length-append}
-use Rattle.literal.specs.Literal.{folded}
-use Rattle.pool.specs.Pool.{Pool, Out, done, refused, Run}
-use Rattle.constructors.specs.Terms as terms
-use Rattle.constructors.specs.Build.{depth, literal, build}
-use Rattle.constructor_laws.specs.Grown.{Grown}
+use Rattle.pool.specs.Pool.{Pool, Run}
+use Rattle.constructors.specs.Build.{depth}
 use Rattle.constructor_laws.specs.Keeps.{Keeps}
-use Rattle.constructor_laws.specs.Keeps as nodes
-use Rattle.constructor_laws.proofs.Growth.{grown-by-nothing, grown-by-both}
+use Rattle.constructor_laws.proofs.Giving.{Gives, ended, gives-weaker, gives-here, gives-next, kept-gives}
 use Rattle.constructor_laws.proofs.Rules.{AllBelow, all-below-more}
-use Rattle.constructor_laws.proofs.Keeping.{calls-keep, build-keeps}
+use Rattle.constructor_laws.proofs.Keeping.{folded-keeps, calls-keep}
 use Rattle.constructor_laws.proofs.Keeping as runs
-use Rattle.taylor.specs.Work.{Result, Work, bind, yield, refuse, answered, node, lit, from, add, mul, div, neg, sub, exp, log, max, at, each, eachTwo, fold, fill}
+use Rattle.taylor.specs.Work.{Result, Work, bind, yield, refuse, lit, from, add, mul, div, neg, sub, exp, log, max, at, each, eachTwo, fold, fill}
 use Rattle.taylor.specs.Expansion.{first}
 
 -- ---- pieces of work
 
--- Q is P with some nodes appended by the rules, and what is said of the answer holds with as many nodes as there are now
-pub record KeptWith {A : Type 0} (Good : ℕ → A → Type 0) (P : Pool) (x : A) (Q : Pool) : Type 0 where
-  pub grown : Grown P Q
-  pub keeps : Keeps Q
-  pub good : Good (Q .count) x
-
+-- work that keeps the rules, and what is said of the answer holds with as many nodes as there are then
 abbrev pub KeptAs : {A : Type 0} → (ℕ → A → Type 0) → Pool → Result A → Type 0
-KeptAs Good P (done x Q) = KeptWith Good P x Q
-KeptAs Good P (refused k) = Unit {0}
+KeptAs Good P r = Gives P (λ Q x. Good (Q .count) x) r
 
--- work that keeps the rules of every pool with n nodes or more
+-- so it does on every pool with n nodes or more
 pub record Keeping {A : Type 0} (n : ℕ) (Good : ℕ → A → Type 0) (work : Work A) : Type 0 where
   pub kept : (P : Pool) → Keeps P → n ≤ P .count → KeptAs Good P (work P)
 
 pub yield-keeps : {A : Type 0} {n : ℕ} {Good : ℕ → A → Type 0} {x : A} → ((m : ℕ) → n ≤ m → Good m x) → Keeping n Good (yield x)
-yield-keeps h = record { kept = λ P k more. record { grown = grown-by-nothing P; keeps = k; good = h (P .count) more } }
+yield-keeps h = record { kept = λ P k more. gives-here k (h (P .count) more) }
 
 pub refuse-keeps : {A : Type 0} {n : ℕ} {Good : ℕ → A → Type 0} (k : ℕ) → Keeping n Good (refuse k)
-refuse-keeps k = record { kept = λ P s more. tt }
-
-kept-from : {A : Type 0} (Good : ℕ → A → Type 0) {P Q : Pool} → Grown P Q → (x : Result A) → KeptAs Good Q x → KeptAs Good P x
-kept-from Good g (done x R) k = record { grown = grown-by-both g (k .grown); keeps = k .keeps; good = k .good }
-kept-from Good g (refused r) k = tt
+refuse-keeps k = record { kept = λ P s more. ended }
 
 -- one piece of work, and then another that may use its answer
 pub next-keeps :
     {A B : Type 0} {n : ℕ} {Good : ℕ → A → Type 0} {Last : ℕ → B → Type 0} {work : Work A} {next : A → Work B}
     → Keeping n Good work → ((m : ℕ) (x : A) → n ≤ m → Good m x → Keeping m Last (next x)) → Keeping n Last (λ P. bind (work P) next)
-next-keeps {A = A} {n = n} {Good = Good} {Last = Last} {work = work} {next = next} w h = record { kept = λ P k more. go P more (work P) (w .kept P k more) }
-  where
-    go : (P : Pool) → n ≤ P .count → (x : Result A) → KeptAs Good P x → KeptAs Last P (bind x next)
-    go P more (done x Q) k =
-        let grown : P .count ≤ Q .count = k .grown .no-fewer in
-        kept-from Last (k .grown) (next x Q) (h (Q .count) x (omega arith) (k .good) .kept Q (k .keeps) (le-refl (Q .count)))
-    go P more (refused r) k = tt
+next-keeps w h =
+    record { kept = λ P k more. gives-next (w .kept P k more) (λ x Q kQ g good. h (Q .count) x (omega (arith, g .no-fewer)) good .kept Q kQ (le-refl (Q .count))) }
 
 -- less said of the answer
 pub said-as : {A : Type 0} {n : ℕ} {Good Said : ℕ → A → Type 0} {work : Work A} → ((m : ℕ) (x : A) → Good m x → Said m x) → Keeping n Good work → Keeping n Said work
-said-as {A = A} {Good = Good} {Said = Said} {work = work} h w = record { kept = λ P k more. go P (work P) (w .kept P k more) }
-  where
-    go : (P : Pool) (x : Result A) → KeptAs Good P x → KeptAs Said P x
-    go P (done x Q) k = record { grown = k .grown; keeps = k .keeps; good = h (Q .count) x (k .good) }
-    go P (refused r) k = tt
+said-as h w = record { kept = λ P k more. gives-weaker (λ Q x g good. h (Q .count) x good) (w .kept P k more) }
 
 -- ---- constructors and literals
 
@@ -73,21 +50,12 @@ said-as {A = A} {Good = Good} {Said = Said} {work = work} h w = record { kept = 
 abbrev pub Node : ℕ → ℕ → Type 0
 Node m a = a < m
 
-pub node-keeps : {n : ℕ} {run : Run} → runs.Keeping n run → Keeping n Node (node run)
-node-keeps {n} {run} w = record { kept = λ P k more. go P (run P) (w .kept P k more) }
-  where
-    go : (P : Pool) (o : Out) → nodes.KeptBy P o → KeptAs Node P (answered o)
-    go P (done i Q) k = record { grown = k .grown; keeps = k .keeps; good = k .there }
-    go P (refused r) k = tt
+pub node-keeps : {n : ℕ} {run : Run} → runs.Keeping n run → Keeping n Node run
+node-keeps {run = run} w = record { kept = λ P k more. kept-gives (run P) (w .kept P k more) }
 
 module _ {n : ℕ} where
-  -- a literal is a term with no node in it
-  run-lit-keeps : (z : ℤ) → runs.Keeping n (literal (folded z))
-  unfolding build
-  run-lit-keeps z = build-keeps (calls-keep depth) (terms.lit z) tt
-
   pub lit-keeps : (z : ℤ) → Keeping n Node (lit z)
-  lit-keeps z = node-keeps (run-lit-keeps z)
+  lit-keeps z = node-keeps (folded-keeps z)
 
   pub from-keeps : (i : ℕ) → Keeping n Node (from i)
   from-keeps i = lit-keeps (pos i)

@@ -7,6 +7,7 @@ use Rattle.pool.specs.Nodes.{greatestVariable}
 use Rattle.pool.specs.Pool.{Pool, done, refused}
 use Rattle.constructor_laws.specs.Keeps.{Keeps}
 use Rattle.constructor_laws.proofs.Rules.{all-below, below-all}
+use Rattle.constructor_laws.proofs.Giving.{gave, ended, gives-kept}
 use Rattle.taylor.specs.Work.{Result, Work}
 use Rattle.taylor.specs.Expansion.{Expansion, order, var, coeff, derivative, addTo, negate, subFrom, times, quotient, exponential, logarithm, power, maximum, subst}
 use Rattle.taylor.specs.Expand.{Point, expand}
@@ -25,18 +26,14 @@ fits {n} e h = record { nodes = below-all n (nodesOf e) (h .below); least = h .l
 
 module _ {P : Pool} (keeps : Keeps P) where
   series-kept : {k : ℕ} (work : Work Expansion) → Keeping (P .count) (Series k) work → KeptBy P (λ j. j ≡ k) (work P)
-  series-kept {k} work w = go (work P) (w .kept P keeps (le-refl (P .count)))
+  series-kept {k} work w = go (w .kept P keeps (le-refl (P .count)))
     where
-      go : (r : Result Expansion) → KeptAs (Series k) P r → KeptBy P (λ j. j ≡ k) r
-      go (done e Q) s = record { grown = s .grown; keeps = s .keeps; fits = fits e (s .good .within); order = s .good .order }
-      go (refused q) s = tt
+      go : {r : Result Expansion} → KeptAs (Series k) P r → KeptBy P (λ j. j ≡ k) r
+      go (gave {x = e} kQ g s) = record { grown = g; keeps = kQ; fits = fits e (s .within); order = s .order }
+      go ended = tt
 
   node-kept : (work : Work ℕ) → Keeping (P .count) Node work → NodeKeptBy P (work P)
-  node-kept work w = go (work P) (w .kept P keeps (le-refl (P .count)))
-    where
-      go : (r : Result ℕ) → KeptAs Node P r → NodeKeptBy P r
-      go (done i Q) s = record { grown = s .grown; keeps = s .keeps; there = s .good }
-      go (refused q) s = tt
+  node-kept work w = gives-kept (w .kept P keeps (le-refl (P .count)))
 
   pub var-kept : (x order : ℕ) → x < P .count → order < terms → KeptBy P (λ j. j ≡ suc order) (var x order P)
   var-kept x order lx l = series-kept (var x order) (var-keeps x order lx l)
@@ -83,8 +80,8 @@ module _ {P : Pool} (keeps : Keeps P) where
 
   -- a constant, or a coefficient for each order
   pub expand-kept : (root v : ℕ) (x : Point) (order : ℕ) → root < P .count → v ≤ greatestVariable → order < terms → KeptBy P (ExpandedOrder order) (expand root v x order P)
-  expand-kept root v x order lr lv lo = go (expand root v x order P) (expand-comes order lo v x lv root keeps lr)
+  expand-kept root v x order lr lv lo = go (expand-comes order lo v x lv root keeps lr)
     where
-      go : (r : Result Expansion) → KeptAs (Come order lo) P r → KeptBy P (ExpandedOrder order) r
-      go (done e Q) s = record { grown = s .grown; keeps = s .keeps; fits = fits e (s .good .within); order = s .good .size }
-      go (refused q) s = tt
+      go : {r : Result Expansion} → KeptAs (Come order lo) P r → KeptBy P (ExpandedOrder order) r
+      go (gave {x = e} kQ g s) = record { grown = g; keeps = kQ; fits = fits e (s .within); order = s .size }
+      go ended = tt

@@ -1,8 +1,8 @@
 -- Derivation only appends, and keeps the rules of a pool that has its root: what is done at a node of each kind does.
 -- Assumes nothing.
+use mathlib.Core.Path.{_≡_}
 use mathlib.Core.Bool.{cond}
-use Prim.Native.Nat.{ℕ, _-_, _≤_, _<_}
-use native.Mathlib.Nat.{le-refl}
+use Prim.Native.Nat.{ℕ, _-_, _<_}
 use native.Mathlib.Omega.{arith}
 use lib.Dec.{eqb}
 use lib.IntN.{ℤ, pos}
@@ -12,19 +12,16 @@ use Rattle.pool.specs.declared.node.Node.{Node}
 use Rattle.pool.specs.declared.node.Node.the-variants.{Empty, Variable, Lit, Add, Mul, Div, Exp, Log, Pow, Max}
 use Rattle.pool.specs.Nodes.{parts}
 use Rattle.pool.specs.Pool.{Pool, nodeAt}
-use Rattle.constructors.specs.Terms as terms
-use Rattle.constructors.specs.Build.{depth, literal, build}
-use Rattle.constructor_laws.specs.Keeps.{Keeps}
-use Rattle.constructor_laws.specs.Keeps as pools
+use Rattle.constructors.specs.Build.{depth}
+use Rattle.constructor_laws.specs.Keeps.{Keeps, KeptBy}
 use Rattle.constructor_laws.proofs.Rules.{AllBelow, parts-below}
-use Rattle.constructor_laws.proofs.Growth.{calls-grow, literal-grows}
+use Rattle.constructor_laws.proofs.Growth.{earlier-same, calls-grow, literal-grows}
 use Rattle.constructor_laws.proofs.Growth as runs
-use Rattle.constructor_laws.proofs.Keeping.{calls-keep, build-keeps}
-use Rattle.constructor_laws.proofs.Keeping as kept
+use Rattle.constructor_laws.proofs.Keeping.{folded-keeps, calls-keep}
 use Rattle.walks.specs.Walk.{Walk}
 use Rattle.walks.specs.Derive.{lit, add, mul, div, neg, pow, quotientRule, deriveNode, deriveAt, derive}
 use Rattle.walk_laws.proofs.Growth.{Growing, _>>=_, refuse-grows, lift-grows, GrowsAt, walk-grows}
-use Rattle.walk_laws.proofs.Keeping.{Keeping, refuse-keeps, next-keeps, lift-keeps, KeepsFrom, KeepsAt, parts-keep, walk-kept}
+use Rattle.walk_laws.proofs.Keeping.{Keeping, KeepsFrom, refuse-keeps, next-keeps, lift-keeps, part-keeps, parts-keep, walk-kept}
 
 -- ---- it only appends
 
@@ -98,31 +95,26 @@ module _ (var : ℕ) where
 
 -- ---- it keeps the rules
 
-module _ {n : ℕ} where
-  -- a literal is a term with no node in it
-  run-lit-keeps : (z : ℤ) → kept.Keeping n (literal (folded z))
-  unfolding build
-  run-lit-keeps z = build-keeps (calls-keep depth) (terms.lit z) tt
+module _ {P₀ : Pool} {n : ℕ} where
+  lit-keeps : (z : ℤ) → Keeping P₀ n (lit z)
+  lit-keeps z = lift-keeps (folded-keeps z)
 
-  lit-keeps : (z : ℤ) → Keeping n (lit z)
-  lit-keeps z = lift-keeps (run-lit-keeps z)
-
-  add-keeps : {a b : ℕ} → a < n → b < n → Keeping n (add a b)
+  add-keeps : {a b : ℕ} → a < n → b < n → Keeping P₀ n (add a b)
   add-keeps {a} {b} la lb = lift-keeps (calls-keep depth .add-at n a b la lb)
 
-  mul-keeps : {a b : ℕ} → a < n → b < n → Keeping n (mul a b)
+  mul-keeps : {a b : ℕ} → a < n → b < n → Keeping P₀ n (mul a b)
   mul-keeps {a} {b} la lb = lift-keeps (calls-keep depth .mul-at n a b la lb)
 
-  div-keeps : {a b : ℕ} → a < n → b < n → Keeping n (div a b)
+  div-keeps : {a b : ℕ} → a < n → b < n → Keeping P₀ n (div a b)
   div-keeps {a} {b} la lb = lift-keeps (calls-keep depth .div-at n a b la lb)
 
-  neg-keeps : {a : ℕ} → a < n → Keeping n (neg a)
+  neg-keeps : {a : ℕ} → a < n → Keeping P₀ n (neg a)
   neg-keeps {a} la = lift-keeps (calls-keep depth .neg-at n a la)
 
-  pow-keeps : {a : ℕ} (e : ℕ) → a < n → Keeping n (pow a e)
+  pow-keeps : {a : ℕ} (e : ℕ) → a < n → Keeping P₀ n (pow a e)
   pow-keeps {a} e la = lift-keeps (calls-keep depth .pow-at e n a la)
 
-quotient-keeps : {n a b da db : ℕ} → a < n → b < n → da < n → db < n → Keeping n (quotientRule a b da db)
+quotient-keeps : {P₀ : Pool} {n a b da db : ℕ} → a < n → b < n → da < n → db < n → Keeping P₀ n (quotientRule a b da db)
 quotient-keeps la lb lda ldb =
     next-keeps (mul-keeps la ldb)
     (λ m₁ x s₁ lx. next-keeps (mul-keeps (omega arith) (omega arith))
@@ -132,32 +124,34 @@ quotient-keeps la lb lda ldb =
     (λ m₅ s s₅ ls. div-keeps ls (omega arith))))))
 
 module _ (var : ℕ) where
-  module _ {n₀ n : ℕ} {down : ℕ → Walk} (keeps : KeepsFrom n₀ down) (more : n₀ ≤ n) (term : ℕ) (h : term < n) where
-    node-keeps : (x : Node) → AllBelow n (parts x) → Keeping n (deriveNode var down term x)
+  module _ {P₀ : Pool} {down : ℕ → Walk} (keeps : KeepsFrom P₀ down) (term : ℕ) (h : term < P₀ .count) where
+    node-keeps : (x : Node) → AllBelow (P₀ .count) (parts x) → Keeping P₀ (P₀ .count) (deriveNode var down term x)
     node-keeps Empty l = refuse-keeps brokenPool
     node-keeps (Variable v) l = lit-keeps (cond (eqb v var) (pos 1) (pos 0))
     node-keeps (Lit z) l = lit-keeps (pos 0)
-    node-keeps (Add a b) (la, (lb, _)) = parts-keep keeps more (la, lb) (λ m da db s lda ldb. add-keeps lda ldb)
+    node-keeps (Add a b) (la, (lb, _)) = parts-keep keeps (la, lb) (λ m da db s lda ldb. add-keeps lda ldb)
     node-keeps (Mul a b) (la, (lb, _)) =
-        parts-keep keeps more (la, lb)
+        parts-keep keeps (la, lb)
         (λ m da db s lda ldb. next-keeps (mul-keeps (omega arith) ldb)
         (λ m₁ x s₁ lx. next-keeps (mul-keeps (omega arith) (omega arith))
         (λ m₂ y s₂ ly. add-keeps (omega arith) ly)))
-    node-keeps (Div a b) (la, (lb, _)) = parts-keep keeps more (la, lb) (λ m da db s lda ldb. quotient-keeps (omega arith) (omega arith) lda ldb)
-    node-keeps (Exp a) (la, _) = next-keeps (keeps n a more la) (λ m da s lda. mul-keeps lda (omega arith))
-    node-keeps (Log a) (la, _) = next-keeps (keeps n a more la) (λ m da s lda. div-keeps lda (omega arith))
+    node-keeps (Div a b) (la, (lb, _)) = parts-keep keeps (la, lb) (λ m da db s lda ldb. quotient-keeps (omega arith) (omega arith) lda ldb)
+    node-keeps (Exp a) (la, _) = next-keeps (part-keeps keeps la) (λ m da s lda. mul-keeps lda (omega arith))
+    node-keeps (Log a) (la, _) = next-keeps (part-keeps keeps la) (λ m da s lda. div-keeps lda (omega arith))
     node-keeps (Pow a e) (la, _) =
-        next-keeps (keeps n a more la)
+        next-keeps (part-keeps keeps la)
         (λ m da s lda. next-keeps (pow-keeps (e - 1) (omega arith))
         (λ m₁ p s₁ lp. next-keeps (lit-keeps (pos e))
         (λ m₂ c s₂ lc. next-keeps (mul-keeps lc (omega arith))
         (λ m₃ t s₃ lt. mul-keeps lt (omega arith)))))
     node-keeps (Max a b) l = refuse-keeps maxReached
 
-  at-keeps : (n₀ : ℕ) → KeepsAt n₀ (deriveAt var)
-  at-keeps n₀ down keeps m i more h =
-      record { kept = λ S s l. node-keeps keeps (omega arith) i (omega arith) (nodeAt (S .pool) i) (parts-below (s .keeps) i) .kept S s (le-refl (S .pool .count)) }
+  at-keeps : {P₀ : Pool} → Keeps P₀ → (down : ℕ → Walk) → KeepsFrom P₀ down → KeepsFrom P₀ (deriveAt var down)
+  at-keeps {P₀} k down keeps i h S good = node-keeps keeps i h (nodeAt (S .pool) i) (rw same (parts-below k i)) .kept S good (good .grown .no-fewer)
+    where
+      same : nodeAt (S .pool) i ≡ nodeAt P₀ i
+      same = earlier-same (good .grown) i h
 
-  pub derive-kept : {P : Pool} (root : ℕ) → Keeps P → root < P .count → pools.KeptBy P (derive root var P)
+  pub derive-kept : {P : Pool} (root : ℕ) → Keeps P → root < P .count → KeptBy P (derive root var P)
   unfolding derive
-  derive-kept {P} root k h = walk-kept (at-keeps (P .count)) root k (le-refl (P .count)) h
+  derive-kept root k h = walk-kept (at-keeps k) root k h

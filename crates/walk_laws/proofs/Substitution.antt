@@ -1,8 +1,8 @@
 -- Substitution only appends, and keeps the rules of a pool that has its root and the node put in: what is done at a node of each kind does.
 -- Assumes nothing.
+use mathlib.Core.Path.{_≡_}
 use mathlib.Core.Bool.{Bool, true, false, _&&_, cond}
-use Prim.Native.Nat.{ℕ, _≤_, _<_}
-use native.Mathlib.Nat.{le-refl}
+use Prim.Native.Nat.{ℕ, _<_}
 use native.Mathlib.Omega.{arith}
 use lib.Dec.{eqb}
 use Rattle.refusals.specs.Refusals.{brokenPool}
@@ -11,16 +11,15 @@ use Rattle.pool.specs.declared.node.Node.the-variants.{Empty, Variable, Lit, Ad
 use Rattle.pool.specs.Nodes.{parts}
 use Rattle.pool.specs.Pool.{Pool, nodeAt}
 use Rattle.constructors.specs.Build.{depth}
-use Rattle.constructor_laws.specs.Keeps.{Keeps}
-use Rattle.constructor_laws.specs.Keeps as pools
+use Rattle.constructor_laws.specs.Keeps.{Keeps, KeptBy}
 use Rattle.constructor_laws.proofs.Rules.{AllBelow, parts-below}
-use Rattle.constructor_laws.proofs.Growth.{calls-grow}
+use Rattle.constructor_laws.proofs.Growth.{earlier-same, calls-grow}
 use Rattle.constructor_laws.proofs.Growth as runs
 use Rattle.constructor_laws.proofs.Keeping.{calls-keep}
 use Rattle.walks.specs.Walk.{Walk}
 use Rattle.walks.specs.Substitute.{unless, substituteNode, substituteAt, substituteVar}
 use Rattle.walk_laws.proofs.Growth.{Growing, _>>=_, yield-grows, refuse-grows, lift-grows, GrowsAt, walk-grows}
-use Rattle.walk_laws.proofs.Keeping.{Keeping, yield-keeps, refuse-keeps, next-keeps, lift-keeps, KeepsFrom, KeepsAt, parts-keep, walk-kept}
+use Rattle.walk_laws.proofs.Keeping.{Keeping, KeepsFrom, yield-keeps, refuse-keeps, next-keeps, lift-keeps, part-keeps, parts-keep, walk-kept}
 
 -- ---- it only appends
 
@@ -69,7 +68,7 @@ module _ (var value : ℕ) where
 
 -- ---- it keeps the rules
 
-unless-keeps : {n : ℕ} (same : Bool) {term : ℕ} {rebuilt : Walk} → term < n → Keeping n rebuilt → Keeping n (unless same term rebuilt)
+unless-keeps : {P₀ : Pool} {n : ℕ} (same : Bool) {term : ℕ} {rebuilt : Walk} → term < n → Keeping P₀ n rebuilt → Keeping P₀ n (unless same term rebuilt)
 unless-keeps true h k = yield-keeps h
 unless-keeps false h k = k
 
@@ -78,30 +77,32 @@ picked true ha hb = ha
 picked false ha hb = hb
 
 module _ (var value : ℕ) where
-  module _ {n₀ n : ℕ} {down : ℕ → Walk} (keeps : KeepsFrom n₀ down) (more : n₀ ≤ n) (given : value < n) (term : ℕ) (h : term < n) where
-    node-keeps : (x : Node) → AllBelow n (parts x) → Keeping n (substituteNode var value down term x)
+  module _ {P₀ : Pool} {down : ℕ → Walk} (keeps : KeepsFrom P₀ down) (given : value < P₀ .count) (term : ℕ) (h : term < P₀ .count) where
+    node-keeps : (x : Node) → AllBelow (P₀ .count) (parts x) → Keeping P₀ (P₀ .count) (substituteNode var value down term x)
     node-keeps Empty l = refuse-keeps brokenPool
     node-keeps (Variable v) l = yield-keeps (picked (eqb v var) given h)
     node-keeps (Lit z) l = yield-keeps h
     node-keeps (Add a b) (la, (lb, _)) =
-        parts-keep keeps more (la, lb) (λ m x y m-more lx ly. unless-keeps (eqb a x && eqb b y) (omega arith) (lift-keeps (calls-keep depth .add-at m x y lx ly)))
+        parts-keep keeps (la, lb) (λ m x y m-more lx ly. unless-keeps (eqb a x && eqb b y) (omega arith) (lift-keeps (calls-keep depth .add-at m x y lx ly)))
     node-keeps (Mul a b) (la, (lb, _)) =
-        parts-keep keeps more (la, lb) (λ m x y m-more lx ly. unless-keeps (eqb a x && eqb b y) (omega arith) (lift-keeps (calls-keep depth .mul-at m x y lx ly)))
+        parts-keep keeps (la, lb) (λ m x y m-more lx ly. unless-keeps (eqb a x && eqb b y) (omega arith) (lift-keeps (calls-keep depth .mul-at m x y lx ly)))
     node-keeps (Div a b) (la, (lb, _)) =
-        parts-keep keeps more (la, lb) (λ m x y m-more lx ly. unless-keeps (eqb a x && eqb b y) (omega arith) (lift-keeps (calls-keep depth .div-at m x y lx ly)))
+        parts-keep keeps (la, lb) (λ m x y m-more lx ly. unless-keeps (eqb a x && eqb b y) (omega arith) (lift-keeps (calls-keep depth .div-at m x y lx ly)))
     node-keeps (Exp a) (la, _) =
-        next-keeps (keeps n a more la) (λ m x m-more lx. unless-keeps (eqb a x) (omega arith) (lift-keeps (calls-keep depth .exp-at m x lx)))
+        next-keeps (part-keeps keeps la) (λ m x m-more lx. unless-keeps (eqb a x) (omega arith) (lift-keeps (calls-keep depth .exp-at m x lx)))
     node-keeps (Log a) (la, _) =
-        next-keeps (keeps n a more la) (λ m x m-more lx. unless-keeps (eqb a x) (omega arith) (lift-keeps (calls-keep depth .log-at m x lx)))
+        next-keeps (part-keeps keeps la) (λ m x m-more lx. unless-keeps (eqb a x) (omega arith) (lift-keeps (calls-keep depth .log-at m x lx)))
     node-keeps (Pow a e) (la, _) =
-        next-keeps (keeps n a more la) (λ m x m-more lx. unless-keeps (eqb a x) (omega arith) (lift-keeps (calls-keep depth .pow-at e m x lx)))
+        next-keeps (part-keeps keeps la) (λ m x m-more lx. unless-keeps (eqb a x) (omega arith) (lift-keeps (calls-keep depth .pow-at e m x lx)))
     node-keeps (Max a b) (la, (lb, _)) =
-        parts-keep keeps more (la, lb) (λ m x y m-more lx ly. unless-keeps (eqb a x && eqb b y) (omega arith) (lift-keeps (calls-keep depth .max-at m x y lx ly)))
+        parts-keep keeps (la, lb) (λ m x y m-more lx ly. unless-keeps (eqb a x && eqb b y) (omega arith) (lift-keeps (calls-keep depth .max-at m x y lx ly)))
 
-  at-keeps : {n₀ : ℕ} → value < n₀ → KeepsAt n₀ (substituteAt var value)
-  at-keeps given down keeps m i more h =
-      record { kept = λ S s l. node-keeps keeps (omega arith) (omega arith) i (omega arith) (nodeAt (S .pool) i) (parts-below (s .keeps) i) .kept S s (le-refl (S .pool .count)) }
+  at-keeps : {P₀ : Pool} → Keeps P₀ → value < P₀ .count → (down : ℕ → Walk) → KeepsFrom P₀ down → KeepsFrom P₀ (substituteAt var value down)
+  at-keeps {P₀} k given down keeps i h S good = node-keeps keeps given i h (nodeAt (S .pool) i) (rw same (parts-below k i)) .kept S good (good .grown .no-fewer)
+    where
+      same : nodeAt (S .pool) i ≡ nodeAt P₀ i
+      same = earlier-same (good .grown) i h
 
-  pub substitute-kept : {P : Pool} (root : ℕ) → Keeps P → root < P .count → value < P .count → pools.KeptBy P (substituteVar root var value P)
+  pub substitute-kept : {P : Pool} (root : ℕ) → Keeps P → root < P .count → value < P .count → KeptBy P (substituteVar root var value P)
   unfolding substituteVar
-  substitute-kept {P} root k h given = walk-kept (at-keeps given) root k (le-refl (P .count)) h
+  substitute-kept root k h given = walk-kept (at-keeps k given) root k h

@@ -1,4 +1,3 @@
-pub mod Walking
 pub mod Substitution
 pub mod Slopes
 pub mod Derivation

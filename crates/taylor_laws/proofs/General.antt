@@ -9,7 +9,7 @@ use lib.ListN.{length, replicate}
 use Rattle.refusals.specs.Refusals.{maxReached}
 use Rattle.pool.specs.Pool.{Pool, done, refused}
 use Rattle.taylor.specs.Work.{Result, Work, bind, yield, lit, from, zeroLit, oneLit, add, mul, div, neg, sub, exp, log, max, at, each, eachTwo, fold, fill}
-use Rattle.taylor.specs.Expansion.{Expansion, Constant, Polynomial, polynomial, constant, first, varCoeffs, var, coeff, addTo, negate, subFrom, productAt, times, quotientAt, quotient, expTerm, expAt, exponential, logTerm, logAt, logarithm, powFrom, power, maximum, horner, subst}
+use Rattle.taylor.specs.Expansion.{Expansion, Constant, Polynomial, polynomial, constant, first, varCoeffs, var, coeff, derivative, addTo, negate, subFrom, productAt, times, quotientAt, quotient, expTerm, expAt, exponential, logTerm, logAt, logarithm, powFrom, power, maximum, horner, subst}
 
 -- what a law says of a piece of work: of the pool that it leaves, or of its refusal number
 abbrev pub Goes : {A : Type 0} → (Pool → Pool → Type 0) → (ℕ → Type 0) → Pool → Result A → Type 0
@@ -161,6 +161,14 @@ module _ {L : Law} where
 
     take-away-holds : (a b : ℕ) → Holding L (sub a b)
     take-away-holds = sub-holds (all .neg-holds) (all .add-holds)
+
+    pub derivative-holds : (e : Expansion) (k : ℕ) → Holding L (derivative e k)
+    derivative-holds (Polynomial cs) k = do
+      one ← from-holds 1
+      factorial ← fold-holds (λ acc i. from-holds i >>= (λ n. all .mul-holds acc n)) 1 k one
+      all .mul-holds factorial (at cs k)
+    derivative-holds (Constant c) zero = yield-holds c
+    derivative-holds (Constant c) (suc k) = from-holds 0
 
     product-holds : (us ws : List ℕ) (z : ℕ) (res : List ℕ) (k : ℕ) → Holding L (productAt us ws z res k)
     product-holds us ws z res k = fold-holds (λ sum j. all .mul-holds (at us j) (at ws (k - j)) >>= (λ t. all .add-holds sum t)) 0 (suc k) z
