@@ -1,10 +1,10 @@
 // A coefficient or a derivative of an expansion.
 ghost use mathlib.Core.Path.{_≡_};
-ghost use Rattle.pool.specs.Made.{poolOf};
+ghost use Rattle.pool.specs.Made.{made, poolOf};
 ghost use Rattle.pool.specs.Pool.{limit};
 ghost use lib.ListN.{length};
 ghost use Rattle.lent.specs.Call.{left, onPool};
-ghost use Rattle.taylor_base.specs.Answers.{expansionOf, Given, HasIndex, worked};
+ghost use Rattle.taylor_base.specs.Answers.{expansionOf, Given, HasIndex};
 ghost use Rattle.engine_series.specs.Operations.{indexedWork, hasIndex, onIndex, coeffCall, derivativeCall};
 use lent::Answer;
 use lent_series::ENDLESS;
@@ -31,7 +31,7 @@ fn indexed_in(
     requires { ⌜ HasIndex e index ⌝ }
     requires { ⌜ length (now kinds) ≡ limit ⌝ }
     requires { ⌜ length (now words) ≡ limit ⌝ }
-    ensures { λ r. ⌜ worked r (now (kinds .exit)) (now (words .exit)) ≡ indexedWork op (expansionOf e) index (poolOf (now (kinds .entry)) (now (words .entry)) room) ⌝ }
+    ensures { λ r. ⌜ made r (now (kinds .exit)) (now (words .exit)) ≡ indexedWork op (expansionOf e) index (poolOf (now (kinds .entry)) (now (words .entry)) room) ⌝ }
 {
     match op {
         Indexed::Coeff => taylor_base::coeff_in(kinds, words, room, e, index),

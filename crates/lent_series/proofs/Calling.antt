@@ -17,7 +17,7 @@ use Rattle.lent.specs.Call as lent
 use Rattle.lent.specs.declared.Answer.{Answer}
 use Rattle.lent.specs.declared.Answer.the-variants.{Node, Refused}
 use Rattle.lent.proofs.Calling.{is-pool, sizes}
-use Rattle.taylor.specs.Work.{Result, Work, answered}
+use Rattle.taylor.specs.Work.{Result, Work}
 use Rattle.taylor.specs.Expansion.{Expansion}
 use Rattle.taylor_base.specs.Answers.{statusOf}
 use Rattle.taylor_base.specs.declared.answer.Status.{Status}
@@ -83,10 +83,10 @@ pub appends : {A : Type 0} {work : Work A} {P : Pool} {x : Result A} → Growing
 appends {P = P} g e = rw e (g .grows P)
 
 -- work that gives a node, as the calls that give one have it
-pub grows-node : (P : Pool) (o : Out) → Grows P (answered o) → plain.Grows P o
+pub grows-node : (P : Pool) (o : Out) → Grows P o → plain.Grows P o
 grows-node P (done i Q) g = g
 grows-node P (refused k) g = tt
 
-pub out-answered : (o : Out) → o ≡ out (answered o)
+pub out-answered : (o : Out) → o ≡ out o
 out-answered (done i P) = refl
 out-answered (refused k) = refl

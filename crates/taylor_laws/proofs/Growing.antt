@@ -8,14 +8,14 @@ use lib.IntN.{ℤ, pos}
 use lib.ListN.{length, getD, replicate}
 use Rattle.refusals.specs.Refusals.{brokenPool, maxReached}
 use Rattle.literal.specs.Literal.{folded}
-use Rattle.pool.specs.Pool.{Pool, Out, done, refused, Run, nodeAt, limit}
+use Rattle.pool.specs.Pool.{Pool, done, refused, nodeAt, limit}
 use Rattle.pool.specs.declared.node.Node.{Node}
 use Rattle.pool.specs.declared.node.Node.the-variants.{Empty, Variable, Lit, Add, Mul, Div, Exp, Log, Pow, Max}
 use Rattle.constructors.specs.Build.{depth}
 use Rattle.constructor_laws.specs.Grown.{Grown}
 pub use Rattle.constructor_laws.proofs.Growth.{Growing}
 use Rattle.constructor_laws.proofs.Growth.{_>>=_, yield-grows, refuse-grows, grown-by-nothing, grown-by-both, literal-grows, append-grows, calls-grow}
-use Rattle.taylor.specs.Work.{Result, Work, bind, yield, refuse, answered, node, lit, from, add, mul, div, neg, sub, at, each, eachTwo, fold, fill}
+use Rattle.taylor.specs.Work.{Result, Work, bind, yield, refuse, lit, from, add, mul, div, neg, sub, at, each, eachTwo, fold, fill}
 use Rattle.taylor.specs.Expansion.{Expansion, Constant, Polynomial, polynomial, constant, first, varCoeffs, var, coeff, derivative, addTo, negate, subFrom, productAt, times, quotientAt, quotient, expTerm, expAt, exponential, logTerm, logAt, logarithm, powFrom, power, maximum, horner, subst}
 use Rattle.taylor.specs.Expand.{Kept, State, state, Went, Walk, lifted, lift, keep, once, Point, none, point, pointNode, ofVariable, expandNode, expandAt, expandBelow, expanded, expand}
 use Rattle.taylor.specs.Expand as walk

@@ -13,7 +13,7 @@ use Rattle.constructors.specs.Build.{depth}
 use Rattle.constructor_laws.specs.Grown.{Grown}
 use Rattle.constructor_laws.specs.Keeps.{Keeps}
 use Rattle.constructor_laws.proofs.Growth.{grown-by-nothing, grown-by-both}
-use Rattle.taylor.specs.Work.{Result, Work, bind, answered, lit, add, mul, div, neg, sub, exp, log, max, at, each, eachTwo, fold, fill}
+use Rattle.taylor.specs.Work.{Result, Work, bind, lit, add, mul, div, neg, sub, exp, log, max, at, each, eachTwo, fold, fill}
 use Rattle.meaning.specs.Model.{Algebra, Model}
 use Rattle.meaning.specs.Value.{Values, value}
 use Rattle.meaning.proofs.Values.{same-op}
@@ -72,7 +72,7 @@ module _ {A : Algebra} (M : Model A) (env : Values A) where
   pub is-same : {P : Pool} {x y : carrier} {r : Result ℕ} → x ≡ y → Gives P (Is x) r → Gives P (Is y) r
   is-same e h = gives-weaker (λ Q i g s. has-same e s) h
 
-  pub answered-gives : {P : Pool} {x : carrier} {o : Out} → After M env P (λ y. y ≡ x) o → Gives P (Is x) (answered o)
+  pub answered-gives : {P : Pool} {x : carrier} {o : Out} → After M env P (λ y. y ≡ x) o → Gives P (Is x) o
   answered-gives (came k e) = gave (k .keeps) (k .grown) (record { below = k .there; is = e })
   answered-gives ended = ended-work
 

@@ -18,7 +18,7 @@ use Rattle.constructor_laws.proofs.Growth.{grown-by-nothing, grown-by-both}
 use Rattle.constructor_laws.proofs.Rules.{AllBelow, all-below-more}
 use Rattle.constructor_laws.proofs.Keeping.{calls-keep, build-keeps}
 use Rattle.constructor_laws.proofs.Keeping as runs
-use Rattle.taylor.specs.Work.{Result, Work, bind, yield, refuse, answered, node, lit, from, add, mul, div, neg, sub, exp, log, max, at, each, eachTwo, fold, fill}
+use Rattle.taylor.specs.Work.{Result, Work, bind, yield, refuse, lit, from, add, mul, div, neg, sub, exp, log, max, at, each, eachTwo, fold, fill}
 use Rattle.taylor.specs.Expansion.{first}
 
 -- ---- pieces of work
@@ -73,10 +73,10 @@ said-as {A = A} {Good = Good} {Said = Said} {work = work} h w = record { kept = 
 abbrev pub Node : ℕ → ℕ → Type 0
 Node m a = a < m
 
-pub node-keeps : {n : ℕ} {run : Run} → runs.Keeping n run → Keeping n Node (node run)
+pub node-keeps : {n : ℕ} {run : Run} → runs.Keeping n run → Keeping n Node run
 node-keeps {n} {run} w = record { kept = λ P k more. go P (run P) (w .kept P k more) }
   where
-    go : (P : Pool) (o : Out) → nodes.KeptBy P o → KeptAs Node P (answered o)
+    go : (P : Pool) (o : Out) → nodes.KeptBy P o → KeptAs Node P o
     go P (done i Q) k = record { grown = k .grown; keeps = k .keeps; good = k .there }
     go P (refused r) k = tt
 

@@ -4,7 +4,7 @@ use Prim.Native.Nat.{ℕ}
 use mathlib.Core.Path.{ap, _∙_}
 use borrow.Author.Needs.{needs}
 use Rattle.pool.specs.Made.{poolOf}
-use Rattle.taylor.specs.Work.{answered, mul}
+use Rattle.taylor.specs.Work.{mul}
 use Rattle.taylor_base.proofs.Steps.{onward, handed-on}
 use Rattle.taylor_derivative.proofs.derivative_list.Statement.{statement}
 use Rattle.taylor_derivative.proofs.derivative_list.Tie as tie
@@ -33,7 +33,7 @@ returns-2 : tie.Need-returns-2
 returns-2 c =
     let product = c .before .before .before .before .before .before .before .factorial-in in
     onward (product .last .0) (product .last .1 .0) _ (c .before .before .before .before .before .product .given .1) (product .ensures)
-    (ap answered (c .mul-in .ensures) ∙ ap (λ (x : ℕ). mul (c .before .before .before .before .before .product .given .0 .0) x (poolOf (product .last .0) (product .last .1 .0) (c .before .before .before .before .before .product .given .0 .1 .0))) (c .before .before .before .at .ensures))
+    (c .mul-in .ensures ∙ ap (λ (x : ℕ). mul (c .before .before .before .before .before .product .given .0 .0) x (poolOf (product .last .0) (product .last .1 .0) (c .before .before .before .before .before .product .given .0 .1 .0))) (c .before .before .before .at .ensures))
 
 pub derivative-list-spec : {M : Type 1} → statement M
 derivative-list-spec =
