@@ -33,7 +33,7 @@ pub fn substitute_var(
     let room = Room {
         word: pool::EMPTY_ROOM + n,
     };
-    let made = substitute::substitute_in(
+    let made = build_walk::substitute_in(
         &mut k,
         &mut w,
         room,
@@ -63,6 +63,6 @@ pub fn derive(kinds: &mut [u8], words: &mut [u64], count: &mut u64, root: u64, v
     let room = Room {
         word: pool::EMPTY_ROOM + n,
     };
-    let made = derive::derive_in(&mut k, &mut w, room, root as u32, var as u32);
+    let made = build_walk::derive_in(&mut k, &mut w, room, root as u32, var as u32);
     lent::finish(kinds, words, count, &k, &w, made)
 }
