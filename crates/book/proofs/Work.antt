@@ -10,7 +10,7 @@ use Rattle.pool.specs.Pool.{Pool, Out, done, refused, Run}
 use Rattle.constructors.specs.Build.{depth}
 use Rattle.constructor_laws.specs.Grown.{Grown, Grows}
 use Rattle.constructor_laws.proofs.Growth.{Growing, grown-by-nothing, grown-by-both, literal-grows, calls-grow}
-use Rattle.taylor.specs.Work.{Result, Work, bind, yield, answered, node, sub, at}
+use Rattle.taylor.specs.Work.{Result, Work, bind, yield, sub, at}
 use Rattle.book.specs.Formula.{Formula, #, whole, _⊕_, _⊖_, _⊗_, _⊘_, _⊟_, Exp, Log, work, works, row}
 use Rattle.book.specs.Recurrence.{Coefficient}
 
@@ -60,10 +60,10 @@ Appends P r = Came P (λ v Q. Unit {0}) r
 appends-next : {A B : Type 0} {P : Pool} {r : Result A} {next : A → Work B} → Appends P r → ((v : A) (Q : Pool) → Appends Q (next v Q)) → Appends P (bind r next)
 appends-next h go = came-next h (λ v Q e g x. go v Q)
 
-node-appends : {run : Run} → Growing run → (P : Pool) → Appends P (node run P)
+node-appends : {run : Run} → Growing run → (P : Pool) → Appends P (run P)
 node-appends {run} g P = go (run P) (g .grows P)
   where
-    go : (o : Out) → Grows P o → Appends P (answered o)
+    go : (o : Out) → Grows P o → Appends P o
     go (done i Q) h = came h tt
     go (refused k) h = ended
 

@@ -1,6 +1,5 @@
-// `derive_with` of the source: a walk from a node to its parts, with each visited node's derivative kept.
+// `derive_with` of the source, at a node: what is made of the node and of the derivatives of its parts.
 mod quotient;
 mod rules;
-mod walk;
 
-pub use walk::derive_in;
+pub use rules::derived_in;

@@ -12,7 +12,7 @@ use Rattle.pool.specs.declared.table.Room.{Room}
 use Rattle.taylor.specs.Work.{Result, at}
 use Rattle.taylor.specs.Expansion.{Expansion}
 use Rattle.taylor.specs.Expand.{Kept, nothing, kept, State, state, Went, expanded}
-use Rattle.taylor_base.specs.Answers.{terms, shape, expansionOf, Given}
+use Rattle.taylor_base.specs.Answers.{terms, constantOr, expansionOf, Given}
 use Rattle.taylor_base.specs.declared.answer.Expansion as coded
 use Rattle.taylor_base.specs.declared.answer.Status.{Status}
 use Rattle.taylor_base.specs.declared.answer.Status.the-variants.{Done, Refused}
@@ -23,7 +23,7 @@ constantMark = suc terms
 
 -- a mark from there on is that of a constant, a smaller one is a list's length
 abbrev pub rowOf : ℕ → List ℕ → Expansion
-rowOf mark row = shape (leb constantMark mark) (at row 0) (take mark row)
+rowOf mark row = constantOr (leb constantMark mark) (at row 0) (take mark row)
 
 -- the mark 0: nothing is kept
 abbrev pub keptOf : ℕ → List ℕ → Kept

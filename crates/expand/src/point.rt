@@ -1,9 +1,9 @@
 // The sought variable, at a point.
 ghost use mathlib.Core.Path.{_≡_};
 ghost use Prim.Native.Nat.{_<_};
-ghost use Rattle.pool.specs.Made.{poolOf};
+ghost use Rattle.pool.specs.Made.{made, poolOf};
 ghost use Rattle.taylor.specs.Expand.{pointNode, isPoint};
-ghost use Rattle.taylor_base.specs.Answers.{terms, Answers, worked};
+ghost use Rattle.taylor_base.specs.Answers.{terms, Answers};
 ghost use Rattle.expand.specs.Points.{pointOf, variableWork};
 use pool::LIMIT;
 use pool::Made;
@@ -43,7 +43,7 @@ fn point_in(
     var: u32,
     point: Point,
 ) -> Made
-    ensures { λ r. ⌜ worked r (now (kinds .exit)) (now (words .exit)) ≡ pointNode var (pointOf point) (poolOf (now (kinds .entry)) (now (words .entry)) room) ⌝ }
+    ensures { λ r. ⌜ made r (now (kinds .exit)) (now (words .exit)) ≡ pointNode var (pointOf point) (poolOf (now (kinds .entry)) (now (words .entry)) room) ⌝ }
 {
     match point {
         Point::None => pool::append(kinds, words, room, Node::Variable(var)),

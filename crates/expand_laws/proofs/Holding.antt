@@ -14,7 +14,7 @@ use Rattle.pool.specs.declared.node.Node.{Node}
 use Rattle.pool.specs.declared.node.Node.the-variants.{Empty, Variable, Lit, Add, Mul, Div, Exp, Log, Pow, Max}
 use Rattle.pool.specs.Pool.{nodeAt, done, refused}
 use Rattle.constructor_laws.specs.Grown.{Goes}
-use Rattle.constructor_laws.proofs.Going.{Going, Ways, goes-from, then-goes, yield-goes, refuse-goes}
+use Rattle.constructor_laws.proofs.Going.{Going, Ways, then-goes, yield-goes, refuse-goes}
 use Rattle.taylor.specs.Work.{Result, Work}
 use Rattle.taylor.specs.Work as work
 use Rattle.taylor.specs.Expansion.{Expansion, Constant, var, addTo, times, quotient, exponential, logarithm, power}

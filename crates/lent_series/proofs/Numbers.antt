@@ -17,7 +17,7 @@ use Rattle.pool.specs.Pool.{limit}
 use Rattle.lent.proofs.Finishing.{and-left, and-right}
 use Rattle.taylor.specs.Work.{at}
 use Rattle.taylor.specs.Expansion.{Expansion, order, endless}
-use Rattle.taylor_base.specs.Answers.{terms, listOf, shape, expansionOf, constantOf, Tidy, Tidied}
+use Rattle.taylor_base.specs.Answers.{terms, listOf, constantOr, expansionOf, constantOf, Tidy, Tidied}
 use Rattle.taylor_base.specs.declared.answer.Expansion as coded
 use Rattle.taylor_base.proofs.Lists.{constant-tidy, list-tidied, list-long}
 use Rattle.taylor_base.proofs.Copying.{Copied}
@@ -137,7 +137,7 @@ first-of (c ∷ cs) h = refl
 pub tidy-series : (e : coded.Expansion) → Tidy e → e .coeffs ≡ coeffsOf (expansionOf e)
 tidy-series e t = go (e .constant) refl
   where
-    go : (b : Bool) → e .constant ≡ b → e .coeffs ≡ coeffsOf (shape b (at (e .coeffs) 0) (listOf e))
+    go : (b : Bool) → e .constant ≡ b → e .coeffs ≡ coeffsOf (constantOr b (at (e .coeffs) 0) (listOf e))
     go true h =
         let one : e .len ≡ 1 = t .single h in
         let rest : drop 1 (e .coeffs) ≡ replicate (terms - 1) 0 = rw one at (t .zeros) in
@@ -180,7 +180,7 @@ module _ (s : Series) (u : Usable s) where
 pub given-order : (s : Series) → length (s .coeffs) ≡ terms → lengthOk s ≡ true → s .order ≡ order (given s)
 given-order s long ok = go (isConstant s) refl
   where
-    go : (t : Bool) → isConstant s ≡ t → s .order ≡ order (shape t (at (s .coeffs) 0) (take (s .order) (s .coeffs)))
+    go : (t : Bool) → isConstant s ≡ t → s .order ≡ order (constantOr t (at (s .coeffs) 0) (take (s .order) (s .coeffs)))
     go true e = eqb-true (s .order) endless e
     go false e =
         let most : s .order ≤ terms = length-between s (eqb-false (s .order) endless e) ok .1 in

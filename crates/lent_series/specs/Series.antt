@@ -9,7 +9,7 @@ use lib.ListN.{length, getD, take, replicate}
 use Rattle.pool.specs.Pool.{limit}
 use Rattle.taylor.specs.Work.{at}
 use Rattle.taylor.specs.Expansion.{Expansion, Constant, Polynomial, order, endless}
-use Rattle.taylor_base.specs.Answers.{terms, shape, expansionOf, Tidy}
+use Rattle.taylor_base.specs.Answers.{terms, constantOr, expansionOf, Tidy}
 use Rattle.taylor_base.specs.declared.answer.Expansion as coded
 use Rattle.lent_series.specs.declared.series.Series.{Series}
 
@@ -30,7 +30,7 @@ lengthOk s = isConstant s || (leb 1 (s .order) && leb (s .order) terms)
 
 -- the expansion that is given
 abbrev pub given : Series → Expansion
-given s = shape (isConstant s) (at (s .coeffs) 0) (take (s .order) (s .coeffs))
+given s = constantOr (isConstant s) (at (s .coeffs) 0) (take (s .order) (s .coeffs))
 
 -- an expansion as an answer: "0 past the list's end in answers"
 abbrev pub coeffsOf : Expansion → List ℕ

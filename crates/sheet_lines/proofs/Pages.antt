@@ -26,7 +26,7 @@ use Rattle.walks.specs.Print.{textOf}
 use Rattle.taylor.specs.Work.{at}
 use Rattle.taylor.specs.Expansion.{Expansion, greatestOrder}
 use Rattle.taylor.specs.Expand.{Point, expand, isPoint}
-use Rattle.taylor_base.specs.Answers.{terms, listOf, shape, expansionOf, statusOf, Answers, Tidy}
+use Rattle.taylor_base.specs.Answers.{terms, listOf, constantOr, expansionOf, statusOf, Answers, Tidy}
 use Rattle.taylor_base.specs.declared.answer.Expanded.{Expanded}
 use Rattle.taylor_base.specs.declared.answer.Status.the-variants as status
 use Rattle.taylor_base.specs.declared.answer.Expansion as coded
@@ -127,7 +127,7 @@ coefficients-are e P t = go (e .constant) refl
     first-of [] h = none-left (nodeAt P) h
     first-of (c ∷ cs) h = refl
 
-    go : (b : Bool) → e .constant ≡ b → coefficientsOf (done (shape b (at (e .coeffs) 0) (listOf e)) P) ≡ printAll P (listOf e)
+    go : (b : Bool) → e .constant ≡ b → coefficientsOf (done (constantOr b (at (e .coeffs) 0) (listOf e)) P) ≡ printAll P (listOf e)
     go true h = ap (printAll P) (sym (first-of (e .coeffs) (omega (arith, t .long)))) ∙ ap (λ (n : ℕ). printAll P (take n (e .coeffs))) (sym (t .single h))
     go false h = refl
 

@@ -14,7 +14,7 @@ use Rattle.pool.specs.Pool.{Pool, Out, done, refused, nodeAt}
 use Rattle.constructors.specs.Build.{literal, build, calls, depth}
 use Rattle.constructor_laws.specs.Grown.{Grown, Grows}
 use Rattle.constructor_laws.proofs.Growth.{append-comes-to, appended-grown, earlier-same, literal-grows}
-use Rattle.taylor.specs.Work.{Result, Work, bind, answered, from, oneLit, mul, at, fold}
+use Rattle.taylor.specs.Work.{Result, Work, bind, from, oneLit, mul, at, fold}
 use Rattle.taylor.specs.Expansion.{Expansion, Constant, Polynomial, derivative}
 use Rattle.situations.specs.Refusal.{OneOf, Among, ofOut, ofResult}
 use Rattle.situations.specs.Situations.{ofFolding}
@@ -41,7 +41,7 @@ abbrev Lands : Result ℕ → Type 0
 Lands (done a Q) = Literal a Q
 Lands (refused k) = OneOf ofFolding k
 
-answered-lands : (o : Out) → LandsOut o → Lands (answered o)
+answered-lands : (o : Out) → LandsOut o → Lands o
 answered-lands (done a Q) h = h
 answered-lands (refused k) h = h
 
@@ -73,7 +73,7 @@ step acc i P = bind (from i P) (λ n. mul acc n)
 step-lands : (acc i : ℕ) (P : Pool) → Literal acc P → Lands (step acc i P)
 step-lands acc i P l = go (literal (folded (pos i)) P) (literal-grows (folded (pos i)) .grows P) (literal-lands (pos i) P (l .long))
   where
-    go : (o : Out) → Grows P o → LandsOut o → Lands (bind (answered o) (λ n. mul acc n))
+    go : (o : Out) → Grows P o → LandsOut o → Lands (bind o (λ n. mul acc n))
     go (done n Q) g h = answered-lands (calls depth .mul-at acc n Q) (product-lands (depth - 1) acc n Q (still g l) h)
     go (refused k) g h = h
 
@@ -92,7 +92,7 @@ last-meets f x Q l =
     full : OneOf ofFolding poolFull
     full = inr (inl refl)
 
-    answered-meets : (o : Out) → Among ofFolding (ofOut o) → Among ofFolding (ofResult (answered o))
+    answered-meets : (o : Out) → Among ofFolding (ofOut o) → Among ofFolding (ofResult o)
     answered-meets (done i R) h = tt
     answered-meets (refused k) h = h
 

@@ -11,7 +11,7 @@ use Rattle.pool.specs.Pool.{Pool, Out, done, refused, Run}
 use Rattle.constructors.specs.Build.{depth}
 use Rattle.constructor_laws.specs.Grown.{Grown, Grows}
 use Rattle.constructor_laws.proofs.Growth.{Growing, grown-by-nothing, grown-by-both, calls-grow, literal-grows}
-use Rattle.taylor.specs.Work.{Result, Work, answered, node, zeroLit, oneLit, add, neg, max}
+use Rattle.taylor.specs.Work.{Result, Work, zeroLit, oneLit, add, neg, max}
 use Rattle.situations.specs.Refusal.{OneOf, Among, ofOut, ofResult}
 use Rattle.situations.specs.Situations.{ofConstructors, ofSums, ofAppending, ofMax}
 use Rattle.situations.proofs.Steps.{literal-refuses}
@@ -32,10 +32,10 @@ refusing-by ks =
       both = λ P Q R g h. grown-by-both g h;
     }
 
-pub called : (ks : List ℕ) {run : Run} → Growing run → ((P : Pool) → Long P → Among ks (ofOut (run P))) → Holding (refusing-by ks) (node run)
+pub called : (ks : List ℕ) {run : Run} → Growing run → ((P : Pool) → Long P → Among ks (ofOut (run P))) → Holding (refusing-by ks) run
 called ks {run} g r = record { holds = λ P l. go P (run P) (g .grows P) (r P l) }
   where
-    go : (P : Pool) (o : Out) → Grows P o → Among ks (ofOut o) → Goes Grown (OneOf ks) P (answered o)
+    go : (P : Pool) (o : Out) → Grows P o → Among ks (ofOut o) → Goes Grown (OneOf ks) P o
     go P (done i Q) h s = h
     go P (refused k) h s = s
 

@@ -1,5 +1,4 @@
-// `substitute_with` of the source: a walk from a node to its parts, with each visited node's result kept.
+// `substitute_with` of the source, at a node: the node itself where no part has changed, else one that is rebuilt.
 mod rebuild;
-mod walk;
 
-pub use walk::substitute_in;
+pub use rebuild::rebuilt_in;

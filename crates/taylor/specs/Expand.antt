@@ -13,8 +13,8 @@ use Rattle.pool.specs.declared.node.Node.the-variants.{Empty, Variable, Lit, Ad
 use Rattle.pool.specs.Pool.{Pool, done, refused, WorkOn, limit, append, nodeAt}
 use Rattle.pool.specs.Pool as pool
 pub use Rattle.pool.specs.Work.{bind, _>>=_, yield, refuse}
-use Rattle.taylor.specs.Work.{Result, Work, node, lit}
-use Rattle.taylor.specs.Expansion.{Expansion, Constant, Polynomial, var, addTo, times, quotient, exponential, logarithm, power}
+use Rattle.taylor.specs.Work.{Result, Work, lit}
+use Rattle.taylor.specs.Expansion.{Expansion, Constant, var, addTo, times, quotient, exponential, logarithm, power}
 
 -- what is kept for a node: nothing yet, or its expansion
 pub data Kept : Type 0 where
@@ -61,7 +61,7 @@ isPoint (point z) = isLiteral z
 
 -- Some(x) => lit(x), None => var(var)
 abbrev pub pointNode : ℕ → Point → Work ℕ
-pointNode v none = node (append (Variable v))
+pointNode v none = append (Variable v)
 pointNode v (point z) = lit z
 
 abbrev pub ofVariable : Bool → ℕ → ℕ → Point → ℕ → Walk

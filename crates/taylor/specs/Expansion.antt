@@ -1,8 +1,8 @@
 -- `TaylorExpansion` of src/univariate_taylor.rs: its operations in the Rust's order of evaluation, its literals appended where the Rust appends them.
 -- Assumes nothing.
-use mathlib.Core.Bool.{Bool, true, false, cond}
-use mathlib.Core.List.{List, [], _∷_, _++_, reverse}
-use Prim.Native.Nat.{ℕ, zero, suc, _+_, _-_, _/_, _%_, _^_, min}
+use mathlib.Core.Bool.{cond}
+use mathlib.Core.List.{List, [], _∷_, reverse}
+use Prim.Native.Nat.{ℕ, zero, suc, _-_, _/_, _%_, _^_, min}
 use lib.Dec.{eqb}
 use lib.ListN.{length, replicate}
 use Rattle.refusals.specs.Refusals.{maxReached}

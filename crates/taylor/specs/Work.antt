@@ -1,12 +1,11 @@
 -- Work on the pool that gives any kind of result, and the operations on coefficients, which are constructors called from outside a constructor.
 -- Assumes nothing.
-use mathlib.Core.Bool.{Bool, true, false}
 use mathlib.Core.List.{List, [], _∷_, _++_}
 use Prim.Native.Nat.{ℕ, zero, suc}
 use lib.IntN.{ℤ, pos}
 use lib.ListN.{length, getD}
 use Rattle.literal.specs.Literal.{folded}
-use Rattle.pool.specs.Pool.{Pool, Out, Run}
+use Rattle.pool.specs.Pool.{Pool}
 use Rattle.pool.specs.Pool as pool
 pub use Rattle.pool.specs.Pool.{Work}
 pub use Rattle.pool.specs.Work.{bind, _>>=_, yield, refuse}
@@ -15,16 +14,9 @@ use Rattle.constructors.specs.Build.{calls, depth, literal}
 abbrev pub Result : Type 0 → Type 0
 Result A = pool.Result Pool A
 
--- a constructor's answer
-abbrev pub answered : Out → Result ℕ
-answered o = o
-
-abbrev pub node : Run → Work ℕ
-node run = run
-
 -- T::from(n), T::zero(), T::one(): each a new literal
 abbrev pub lit : ℤ → Work ℕ
-lit z = node (literal (folded z))
+lit z = literal (folded z)
 
 abbrev pub from : ℕ → Work ℕ
 from n = lit (pos n)
@@ -37,16 +29,16 @@ oneLit = from 1
 
 -- the operators of `SymGenFun`
 abbrev pub add : ℕ → ℕ → Work ℕ
-add a b = node (calls depth .add-at a b)
+add a b = calls depth .add-at a b
 
 abbrev pub mul : ℕ → ℕ → Work ℕ
-mul a b = node (calls depth .mul-at a b)
+mul a b = calls depth .mul-at a b
 
 abbrev pub div : ℕ → ℕ → Work ℕ
-div a b = node (calls depth .div-at a b)
+div a b = calls depth .div-at a b
 
 abbrev pub neg : ℕ → Work ℕ
-neg a = node (calls depth .neg-at a)
+neg a = calls depth .neg-at a
 
 -- self + (-rhs)
 abbrev pub sub : ℕ → ℕ → Work ℕ
@@ -55,13 +47,13 @@ sub a b = do
   add a n
 
 abbrev pub exp : ℕ → Work ℕ
-exp a = node (calls depth .exp-at a)
+exp a = calls depth .exp-at a
 
 abbrev pub log : ℕ → Work ℕ
-log a = node (calls depth .log-at a)
+log a = calls depth .log-at a
 
 abbrev pub max : ℕ → ℕ → Work ℕ
-max a b = node (calls depth .max-at a b)
+max a b = calls depth .max-at a b
 
 -- coefficient i of a list
 abbrev pub at : List ℕ → ℕ → ℕ

@@ -10,12 +10,12 @@ use native.Mathlib.Omega.{arith}
 use lib.ListN.{length, take, drop, set, replicate, length-set}
 use lib.Seq.{length-take-le, take-suc-set, drop-set-lt, drop-drop}
 use Rattle.pool.specs.Pool.{Pool, done, refused}
-use Rattle.pool.specs.Made.{poolOf}
+use Rattle.pool.specs.Made.{made, poolOf}
 use Rattle.pool.specs.declared.table.Made.{Made}
 use Rattle.pool.specs.declared.table.Made.the-variants.{Node, Refused}
 use Rattle.pool.specs.declared.table.Room.{Room}
 use Rattle.taylor.specs.Work.{Result, Work, bind, fill}
-use Rattle.taylor_base.specs.Answers.{terms, worked, Tidy, Lists, zeroes}
+use Rattle.taylor_base.specs.Answers.{terms, Tidy, Lists, zeroes}
 use Rattle.taylor_base.specs.declared.answer.Status.the-variants as status
 use Rattle.taylor_base.proofs.Steps.{onward, stopped}
 
@@ -66,7 +66,7 @@ module _ {f : List ℕ → ℕ → Work ℕ} {n : ℕ} {whole : Result (List ℕ
       ap (λ (j : ℕ). bind (f (take k cs) j P) (λ c. fill f (n - (k + 1)) (take k cs ++ (c ∷ [])))) (sym (length-take-le k cs short))
       ∙ ap (λ (j : ℕ). fill f j (take k cs) P) (sym left) ∙ g .is
 
-  module _ {k : ℕ} {cs : List ℕ} {P : Pool} (g : Filling f n whole k cs P) {r : Made} (ks ws : List ℕ) (h : k < n) (m : worked r ks ws ≡ f (take k cs) k P) where
+  module _ {k : ℕ} {cs : List ℕ} {P : Pool} (g : Filling f n whole k cs P) {r : Made} (ks ws : List ℕ) (h : k < n) (m : made r ks ws ≡ f (take k cs) k P) where
     pub fill-stopped : {number : ℕ} → r ≡ Refused number → refused number ≡ whole
     fill-stopped e = stopped ks ws (λ c. fill f (n - (k + 1)) (take k cs ++ (c ∷ []))) e m ∙ turn g h
 

@@ -7,14 +7,14 @@ use Prim.Native.Nat.{ℕ, _≤_}
 use native.Mathlib.Omega.{arith}
 use lib.ListN.{length, set, length-set}
 use lib.Seq.{length-take-le, take-set-lt, drop-set-lt}
-use Rattle.pool.specs.Made.{poolOf}
+use Rattle.pool.specs.Made.{made, poolOf}
 use Rattle.pool.specs.declared.table.Made.{Made}
 use Rattle.pool.specs.declared.table.Made.the-variants.{Node, Refused}
 use Rattle.taylor.specs.Work.{Result, Work, bind, yield, at}
 use Rattle.pool.specs.Pool.{Pool, done, refused}
 use Rattle.pool.specs.declared.table.Room.{Room}
 use Rattle.taylor.specs.Expansion.{Expansion, Constant, Polynomial, first}
-use Rattle.taylor_base.specs.Answers.{terms, worked, statusOf, expanded, listOf, Given, Tidy, Answers, Lists, zeroes, refusal, answerOf, Tidied, WithFirst, constantOf, TidyOf, expansionOf}
+use Rattle.taylor_base.specs.Answers.{terms, statusOf, expanded, listOf, Given, Tidy, Answers, Lists, zeroes, refusedExpansion, answerOf, Tidied, WithFirst, constantOf, TidyOf, expansionOf}
 use Rattle.taylor_base.specs.declared.answer.Expansion as coded
 use Rattle.taylor_base.specs.declared.answer.Status.{Status}
 use Rattle.taylor_base.specs.declared.answer.Status.the-variants as status
@@ -38,13 +38,13 @@ constant-tidied {e} {r} h d = rw d (record { same = rw h refl; tidy = constant-t
 pub list-tidied : {e r : coded.Expansion} → e .constant ≡ false → Tidied e r → TidyOf e r
 list-tidied {e} {r} h d = record { same = rw (h, d .list) (ap Polynomial (d .same)); tidy = d .tidy }
 
-refusal-tidy : (k : ℕ) → Tidy (refusal k .expansion)
+refusal-tidy : (k : ℕ) → Tidy (refusedExpansion k .expansion)
 refusal-tidy k = one-entry-tidy false 0
 
 module _ {r : Expanded} (m : Made) (ks ws : List ℕ) (e : r ≡ answerOf m) where
   -- a refusal is handed up
   module _ {k : ℕ} (no : m ≡ Refused k) where
-    is-refusal : r ≡ refusal k
+    is-refusal : r ≡ refusedExpansion k
     is-refusal = e ∙ ap answerOf no
 
     pub refusal-lists : {out : Result (List ℕ)} → refused k ≡ out → Lists r ks ws out
@@ -54,10 +54,10 @@ module _ {r : Expanded} (m : Made) (ks ws : List ℕ) (e : r ≡ answerOf m) whe
     refusal-answers h = rw is-refusal (record { is = h; tidy = refusal-tidy k })
 
   -- a node is a constant
-  pub constant-answers : {x : Result ℕ} → worked m ks ws ≡ x → Answers r ks ws (bind x (λ c. yield (Constant c)))
+  pub constant-answers : {x : Result ℕ} → made m ks ws ≡ x → Answers r ks ws (bind x (λ c. yield (Constant c)))
   constant-answers {x} h = rw e (record { is = answer-is m ∙ ap (λ (y : Result ℕ). bind y (λ c. yield (Constant c))) h; tidy = answer-tidy m })
     where
-      answer-is : (m : Made) → expanded (answerOf m) ks ws ≡ bind (worked m ks ws) (λ c. yield (Constant c))
+      answer-is : (m : Made) → expanded (answerOf m) ks ws ≡ bind (made m ks ws) (λ c. yield (Constant c))
       answer-is (Node c room) = refl
       answer-is (Refused k) = refl
 
@@ -137,5 +137,5 @@ module _ (e : coded.Expansion) (long : length (e .coeffs) ≡ terms) (most : e .
 -- another coefficient 0 of a list
 pub first-lists :
     {r : Expanded} (m : Made) (e : coded.Expansion) (f : ℕ → Work ℕ) (P : Pool) (ks ws : List ℕ)
-    → WithFirst m e r → worked m ks ws ≡ f (at (listOf e) 0) P → 1 ≤ length (listOf e) → Lists r ks ws (first f (listOf e) P)
+    → WithFirst m e r → made m ks ws ≡ f (at (listOf e) 0) P → 1 ≤ length (listOf e) → Lists r ks ws (first f (listOf e) P)
 first-lists {r} m e f P ks ws w h l = rw (first-is f (listOf e) P l, ← h) (w ks ws)

@@ -9,7 +9,7 @@ use Rattle.pool.specs.Pool.{done, refused}
 use Rattle.pool.specs.Made.{made, poolOf}
 use Rattle.pool.specs.declared.table.Made as made-node
 use Rattle.pool.specs.declared.table.Made.the-variants as made-as
-use Rattle.taylor.specs.Work.{Result, bind, yield, answered, at}
+use Rattle.taylor.specs.Work.{Result, bind, yield, at}
 use Rattle.taylor.specs.Expansion.{Expansion, Constant, Polynomial, greatestOrder}
 use Rattle.taylor_base.specs.declared.answer.Expansion as coded
 use Rattle.taylor_base.specs.declared.answer.Status.{Status}
@@ -24,13 +24,14 @@ terms = greatestOrder + 1
 abbrev pub listOf : coded.Expansion → List ℕ
 listOf e = take (e .len) (e .coeffs)
 
-abbrev pub shape : Bool → ℕ → List ℕ → Expansion
-shape true c cs = Constant c
-shape false c cs = Polynomial cs
+-- the expansion with the node c, or with the list cs
+abbrev pub constantOr : Bool → ℕ → List ℕ → Expansion
+constantOr true c cs = Constant c
+constantOr false c cs = Polynomial cs
 
 -- a constant stands in coeffs[0]
 abbrev pub expansionOf : coded.Expansion → Expansion
-expansionOf e = shape (e .constant) (at (e .coeffs) 0) (listOf e)
+expansionOf e = constantOr (e .constant) (at (e .coeffs) 0) (listOf e)
 
 -- what may be given: a constant, or a list of 1 to 25 entries
 pub record Given (e : coded.Expansion) : Type 0 where
@@ -70,16 +71,12 @@ pub record Lists (r : Expanded) (ks ws : List ℕ) (out : Result (List ℕ)) : T
   pub list : r .expansion .constant ≡ false
   pub tidy : Tidy (r .expansion)
 
--- a node that is made on the way, as work of the definitions
-abbrev pub worked : made-node.Made → List ℕ → List ℕ → Result ℕ
-worked r ks ws = answered (made r ks ws)
-
 abbrev pub zeroes : List ℕ
 zeroes = replicate terms 0
 
 -- a refusal is handed up with a list of one zero beside it
-abbrev pub refusal : ℕ → Expanded
-refusal k = record { status = Refused k; expansion = record { constant = false; len = 1; coeffs = zeroes } }
+abbrev pub refusedExpansion : ℕ → Expanded
+refusedExpansion k = record { status = Refused k; expansion = record { constant = false; len = 1; coeffs = zeroes } }
 
 -- a node as a constant
 abbrev pub constantOf : ℕ → coded.Expansion
@@ -88,7 +85,7 @@ constantOf c = record { constant = true; len = 1; coeffs = set zeroes 0 c }
 -- a node that is made becomes a constant
 abbrev pub answerOf : made-node.Made → Expanded
 answerOf (made-as.Node c room) = record { status = Done room; expansion = constantOf c }
-answerOf (made-as.Refused k) = refusal k
+answerOf (made-as.Refused k) = refusedExpansion k
 
 -- the same list, with zeros past its end
 pub record Tidied (e r : coded.Expansion) : Type 0 where
@@ -104,4 +101,4 @@ pub record TidyOf (e r : coded.Expansion) : Type 0 where
 
 -- the list e with a node that is made as coefficient 0
 abbrev pub WithFirst : made-node.Made → coded.Expansion → Expanded → Type 0
-WithFirst m e r = (ks ws : List ℕ) → Lists r ks ws (bind (worked m ks ws) (λ c. yield (set (listOf e) 0 c)))
+WithFirst m e r = (ks ws : List ℕ) → Lists r ks ws (bind (made m ks ws) (λ c. yield (set (listOf e) 0 c)))

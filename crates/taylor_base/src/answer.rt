@@ -1,9 +1,9 @@
 // Expansions and answers by value, and the literals and differences that the operations on them make.
 ghost use mathlib.Core.Path.{_≡_};
 ghost use Prim.Native.Nat.{_≤_, _<_, min};
-ghost use Rattle.pool.specs.Made.{poolOf};
+ghost use Rattle.pool.specs.Made.{made, poolOf};
 ghost use Rattle.taylor.specs.Work.{from, sub, at};
-ghost use Rattle.taylor_base.specs.Answers.{terms, listOf, worked, constantOf, answerOf, Given, Tidied, TidyOf, WithFirst};
+ghost use Rattle.taylor_base.specs.Answers.{terms, listOf, constantOf, answerOf, Given, Tidied, TidyOf, WithFirst};
 use constructors::DEPTH;
 use pool::LIMIT;
 use pool::Made;
@@ -143,7 +143,7 @@ pub fn with_first(made: Made, e: Expansion) -> Expanded
 
 // T::from(n): a new literal.
 pub fn from_in(kinds: &mut [u8; LIMIT], words: &mut [u64; LIMIT], room: Room, n: u32) -> Made
-    ensures { λ r. ⌜ worked r (now (kinds .exit)) (now (words .exit)) ≡ from n (poolOf (now (kinds .entry)) (now (words .entry)) room) ⌝ }
+    ensures { λ r. ⌜ made r (now (kinds .exit)) (now (words .exit)) ≡ from n (poolOf (now (kinds .entry)) (now (words .entry)) room) ⌝ }
 {
     adds::lit_in(kinds, words, room, literal::fold(n as i64))
 }
@@ -156,7 +156,7 @@ pub fn sub_nodes(
     lhs: u32,
     rhs: u32,
 ) -> Made
-    ensures { λ r. ⌜ worked r (now (kinds .exit)) (now (words .exit)) ≡ sub lhs rhs (poolOf (now (kinds .entry)) (now (words .entry)) room) ⌝ }
+    ensures { λ r. ⌜ made r (now (kinds .exit)) (now (words .exit)) ≡ sub lhs rhs (poolOf (now (kinds .entry)) (now (words .entry)) room) ⌝ }
 {
     let negative = muls::neg_in(kinds, words, room, DEPTH, rhs);
     let Made::Node {

@@ -1,9 +1,9 @@
 // What is done to the entries of one or two lists, entry by entry.
 ghost use mathlib.Core.Path.{_≡_};
 ghost use mathlib.Core.List.{[]};
-ghost use Rattle.pool.specs.Made.{poolOf};
+ghost use Rattle.pool.specs.Made.{made, poolOf};
 ghost use Rattle.taylor.specs.Work.{fill};
-ghost use Rattle.taylor_base.specs.Answers.{listOf, Lists, worked};
+ghost use Rattle.taylor_base.specs.Answers.{listOf, Lists};
 ghost use Rattle.taylor_base.specs.Entries.{entryWork, entryAt, Entries};
 use crate::answer::Expanded;
 use crate::answer::Expansion;
@@ -36,7 +36,7 @@ pub fn entry_in(
     u: u32,
     w: u32,
 ) -> Made
-    ensures { λ r. ⌜ worked r (now (kinds .exit)) (now (words .exit)) ≡ entryWork rule u w (poolOf (now (kinds .entry)) (now (words .entry)) room) ⌝ }
+    ensures { λ r. ⌜ made r (now (kinds .exit)) (now (words .exit)) ≡ entryWork rule u w (poolOf (now (kinds .entry)) (now (words .entry)) room) ⌝ }
 {
     match rule {
         Entry::Sum => adds::add_in(kinds, words, room, DEPTH, w, u),

@@ -1,9 +1,9 @@
 // The operations of `TaylorExpansion` that go entry by entry: `var`, `coeff`, `order`, sums, negatives, differences, and `max` of constants.
 ghost use mathlib.Core.Path.{_≡_};
 ghost use Prim.Native.Nat.{_≤_, _<_};
-ghost use Rattle.pool.specs.Made.{poolOf};
+ghost use Rattle.pool.specs.Made.{made, poolOf};
 ghost use Rattle.taylor.specs.Expansion.{var, coeff, order, addTo, negate, subFrom, maximum};
-ghost use Rattle.taylor_base.specs.Answers.{terms, listOf, expansionOf, Given, HasIndex, Answers, Lists, worked};
+ghost use Rattle.taylor_base.specs.Answers.{terms, listOf, expansionOf, Given, HasIndex, Answers, Lists};
 ghost use Rattle.taylor_base.specs.Entries.{constantLess};
 use crate::answer::Expanded;
 use crate::answer::Expansion;
@@ -85,7 +85,7 @@ pub fn coeff_in(
 ) -> Made
     requires { ⌜ Given e ⌝ }
     requires { ⌜ HasIndex e k ⌝ }
-    ensures { λ r. ⌜ worked r (now (kinds .exit)) (now (words .exit)) ≡ coeff (expansionOf e) k (poolOf (now (kinds .entry)) (now (words .entry)) room) ⌝ }
+    ensures { λ r. ⌜ made r (now (kinds .exit)) (now (words .exit)) ≡ coeff (expansionOf e) k (poolOf (now (kinds .entry)) (now (words .entry)) room) ⌝ }
 {
     if e.constant {
         if k == 0 {

@@ -28,7 +28,7 @@ use Rattle.constructors.specs.Tables.{mulLits, mulTable}
 use Rattle.constructors.specs.Build.{calls, depth, build, literal}
 use Rattle.constructor_laws.proofs.Growth.{appended, append-comes-to, appended-grown, earlier-same}
 use Rattle.constructor_laws.proofs.Coding.{Fine, fine-is-read}
-use Rattle.taylor.specs.Work.{Result, Work, bind, answered, lit, from, zeroLit, oneLit, mul, at, fold}
+use Rattle.taylor.specs.Work.{Result, Work, bind, lit, from, zeroLit, oneLit, mul, at, fold}
 use Rattle.taylor.specs.Expansion.{Constant, Polynomial, derivative}
 use Rattle.taylor_base.proofs.Steps.{bind-assoc}
 use Rattle.taylor_derivative.specs.Factorials.{itself, product, factor, derivativeOf}
@@ -101,14 +101,14 @@ module _ (z : ℤ) (P : Pool) (long : Long P) where
   unfolding folded
   lit-made = go (isLiteral z) refl
     where
-      go : (t : Bool) → isLiteral z ≡ t → After (Made-after P z) (answered (literal (cond t (as-folded.Value z) (as-folded.Refused outOfRange)) P))
-      go true e = append-comes-to (λ (o : Out). After (Made-after P z) (answered o)) (Lit z) P (λ room below. is-made e below) tt
+      go : (t : Bool) → isLiteral z ≡ t → After (Made-after P z) (literal (cond t (as-folded.Value z) (as-folded.Refused outOfRange)) P)
+      go true e = append-comes-to (λ (o : Out). After (Made-after P z) o) (Lit z) P (λ room below. is-made e below) tt
       go false e = tt
 
 -- ---- the product of two literals
-mul-runs : (l r : ℕ) (P : Pool) (t : Term) → mulTable (nodeAt P) l r ≡ t → mul l r P ≡ answered (build (calls (depth - 1)) t P)
+mul-runs : (l r : ℕ) (P : Pool) (t : Term) → mulTable (nodeAt P) l r ≡ t → mul l r P ≡ build (calls (depth - 1)) t P
 unfolding calls
-mul-runs l r P t e = ap (λ (s : Term). answered (build (calls (depth - 1)) s P)) e
+mul-runs l r P t e = ap (λ (s : Term). build (calls (depth - 1)) s P) e
 
 module _ (at : ℕ → Node) (l r : ℕ) where
   one-lits : (b : ℕ) → 1 ≤ b → at l ≡ Lit (pos 1) → at r ≡ Lit (pos b) → mulLits at l r ≡ return (# r)

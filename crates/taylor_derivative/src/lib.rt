@@ -3,10 +3,10 @@ ghost use mathlib.Core.Path.{_≡_};
 ghost use Prim.Native.Nat.{_≤_, _<_};
 ghost use lib.ListN.{length};
 ghost use Rattle.pool.specs.Pool.{limit};
-ghost use Rattle.pool.specs.Made.{poolOf};
+ghost use Rattle.pool.specs.Made.{made, poolOf};
 ghost use Rattle.taylor.specs.Work.{fold};
 ghost use Rattle.taylor.specs.Expansion.{derivative};
-ghost use Rattle.taylor_base.specs.Answers.{terms, listOf, expansionOf, Given, HasIndex, worked};
+ghost use Rattle.taylor_base.specs.Answers.{terms, listOf, expansionOf, Given, HasIndex};
 ghost use Rattle.taylor_derivative.specs.Factorials.{factor, factorialLits, derivativeOf};
 use constructors::DEPTH;
 use pool::LIMIT;
@@ -20,7 +20,7 @@ const ITSELF: u32 = 2;
 
 // The literal i, and the product of the numbers up to it.
 fn factor_in(kinds: &mut [u8; LIMIT], words: &mut [u64; LIMIT], room: Room, i: u32) -> Made
-    ensures { λ r. ⌜ worked r (now (kinds .exit)) (now (words .exit)) ≡ factor 0 i (poolOf (now (kinds .entry)) (now (words .entry)) room) ⌝ }
+    ensures { λ r. ⌜ made r (now (kinds .exit)) (now (words .exit)) ≡ factor 0 i (poolOf (now (kinds .entry)) (now (words .entry)) room) ⌝ }
 {
     let number = from_in(kinds, words, room, i);
     let Made::Node {
@@ -42,7 +42,7 @@ fn factor_in(kinds: &mut [u8; LIMIT], words: &mut [u64; LIMIT], room: Room, i: u
 // The literal k!, with those that the source's fold makes on the way.
 fn factorial_in(kinds: &mut [u8; LIMIT], words: &mut [u64; LIMIT], room: Room, k: u32) -> Made
     requires { ⌜ k < terms ⌝ }
-    ensures { λ r. ⌜ worked r (now (kinds .exit)) (now (words .exit)) ≡ factorialLits k (poolOf (now (kinds .entry)) (now (words .entry)) room) ⌝ }
+    ensures { λ r. ⌜ made r (now (kinds .exit)) (now (words .exit)) ≡ factorialLits k (poolOf (now (kinds .entry)) (now (words .entry)) room) ⌝ }
 {
     let one = from_in(kinds, words, room, 1);
     let Made::Node {
@@ -64,7 +64,7 @@ fn products_in(
     k: u32,
 ) -> Made
     requires { ⌜ k < terms ⌝ }
-    ensures { λ r. ⌜ worked r (now (kinds .exit)) (now (words .exit)) ≡ fold factor 1 k one (poolOf (now (kinds .entry)) (now (words .entry)) room) ⌝ }
+    ensures { λ r. ⌜ made r (now (kinds .exit)) (now (words .exit)) ≡ fold factor 1 k one (poolOf (now (kinds .entry)) (now (words .entry)) room) ⌝ }
 {
     let mut left = room;
     let mut product = one;
@@ -94,7 +94,7 @@ fn derivative_list(
     k: u32,
 ) -> Made
     requires { ⌜ (k < e .len) × (e .len ≤ terms) ⌝ }
-    ensures { λ r. ⌜ worked r (now (kinds .exit)) (now (words .exit)) ≡ derivativeOf (listOf e) k (poolOf (now (kinds .entry)) (now (words .entry)) room) ⌝ }
+    ensures { λ r. ⌜ made r (now (kinds .exit)) (now (words .exit)) ≡ derivativeOf (listOf e) k (poolOf (now (kinds .entry)) (now (words .entry)) room) ⌝ }
 {
     let product = factorial_in(kinds, words, room, k);
     let Made::Node {
@@ -120,7 +120,7 @@ pub fn derivative_in(
     requires { ⌜ HasIndex e k ⌝ }
     requires { ⌜ length (now kinds) ≡ limit ⌝ }
     requires { ⌜ length (now words) ≡ limit ⌝ }
-    ensures { λ r. ⌜ worked r (now (kinds .exit)) (now (words .exit)) ≡ derivative (expansionOf e) k (poolOf (now (kinds .entry)) (now (words .entry)) room) ⌝ }
+    ensures { λ r. ⌜ made r (now (kinds .exit)) (now (words .exit)) ≡ derivative (expansionOf e) k (poolOf (now (kinds .entry)) (now (words .entry)) room) ⌝ }
 {
     if e.constant {
         if k == 0 {

@@ -6,12 +6,11 @@ use Prim.Native.Nat.{ℕ, suc, _+_, _-_, _≤_, _<_}
 use native.Mathlib.Numerals.{add-one}
 use native.Mathlib.Omega.{arith}
 use Rattle.pool.specs.Pool.{Pool, done}
-use Rattle.pool.specs.Made.{poolOf}
+use Rattle.pool.specs.Made.{made, poolOf}
 use Rattle.pool.specs.declared.table.Made.{Made}
 use Rattle.pool.specs.declared.table.Made.the-variants.{Node, Refused}
 use Rattle.pool.specs.declared.table.Room.{Room}
 use Rattle.taylor.specs.Work.{Result, Work, bind, fold}
-use Rattle.taylor_base.specs.Answers.{worked}
 use Rattle.taylor_base.proofs.Steps.{onward, handed-on}
 
 -- the terms below j are summed up: the sum is acc, the pool P, and the whole is what was asked for
@@ -34,8 +33,8 @@ module _ {f : ℕ → ℕ → Work ℕ} {first end : ℕ} {whole : Result ℕ} w
         let left : end - j ≡ suc (end - (j + 1)) = omega arith in
         ap (λ (i : ℕ). bind (f acc j P) (fold f i (end - (j + 1)))) (add-one j) ∙ ap (λ (n : ℕ). fold f j n acc P) (sym left) ∙ g .is
 
-    module _ {r : Made} (ks ws : List ℕ) (m : worked r ks ws ≡ f acc j P) where
-      pub fold-stopped : {number : ℕ} (ks′ ws′ : List ℕ) → r ≡ Refused number → worked r ks′ ws′ ≡ whole
+    module _ {r : Made} (ks ws : List ℕ) (m : made r ks ws ≡ f acc j P) where
+      pub fold-stopped : {number : ℕ} (ks′ ws′ : List ℕ) → r ≡ Refused number → made r ks′ ws′ ≡ whole
       fold-stopped ks′ ws′ e = handed-on ks ws ks′ ws′ (fold f (j + 1) (end - (j + 1))) e m ∙ turn
 
       pub fold-onward : {c : ℕ} {room : Room} → r ≡ Node c room → Folding f first end whole (j + 1) c (poolOf ks ws room)

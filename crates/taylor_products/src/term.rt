@@ -1,8 +1,8 @@
 // Sums of products of entries, term by term.
 ghost use mathlib.Core.Path.{_≡_};
-ghost use Rattle.pool.specs.Made.{poolOf};
+ghost use Rattle.pool.specs.Made.{made, poolOf};
 ghost use Rattle.taylor.specs.Work.{fold};
-ghost use Rattle.taylor_base.specs.Answers.{listOf, worked};
+ghost use Rattle.taylor_base.specs.Answers.{listOf};
 ghost use Rattle.taylor_products.specs.Terms.{termWork, termAt, Terms};
 ghost use Rattle.taylor_products.specs.declared.term.Term.the-variants.{Plus, Less, Weighted};
 use constructors::DEPTH;
@@ -30,7 +30,7 @@ fn plus_in(
     y: u32,
     sum: u32,
 ) -> Made
-    ensures { λ r. ⌜ worked r (now (kinds .exit)) (now (words .exit)) ≡ termWork Plus x y 0 sum (poolOf (now (kinds .entry)) (now (words .entry)) room) ⌝ }
+    ensures { λ r. ⌜ made r (now (kinds .exit)) (now (words .exit)) ≡ termWork Plus x y 0 sum (poolOf (now (kinds .entry)) (now (words .entry)) room) ⌝ }
 {
     let product = muls::mul_in(kinds, words, room, DEPTH, x, y);
     let Made::Node {
@@ -52,7 +52,7 @@ fn less_in(
     y: u32,
     sum: u32,
 ) -> Made
-    ensures { λ r. ⌜ worked r (now (kinds .exit)) (now (words .exit)) ≡ termWork Less x y 0 sum (poolOf (now (kinds .entry)) (now (words .entry)) room) ⌝ }
+    ensures { λ r. ⌜ made r (now (kinds .exit)) (now (words .exit)) ≡ termWork Less x y 0 sum (poolOf (now (kinds .entry)) (now (words .entry)) room) ⌝ }
 {
     let product = muls::mul_in(kinds, words, room, DEPTH, x, y);
     let Made::Node {
@@ -75,7 +75,7 @@ fn weighted_in(
     j: u32,
     sum: u32,
 ) -> Made
-    ensures { λ r. ⌜ worked r (now (kinds .exit)) (now (words .exit)) ≡ termWork Weighted x y j sum (poolOf (now (kinds .entry)) (now (words .entry)) room) ⌝ }
+    ensures { λ r. ⌜ made r (now (kinds .exit)) (now (words .exit)) ≡ termWork Weighted x y j sum (poolOf (now (kinds .entry)) (now (words .entry)) room) ⌝ }
 {
     let product = muls::mul_in(kinds, words, room, DEPTH, y, x);
     let Made::Node {
@@ -106,7 +106,7 @@ fn term_in(
     j: u32,
     sum: u32,
 ) -> Made
-    ensures { λ r. ⌜ worked r (now (kinds .exit)) (now (words .exit)) ≡ termWork rule x y j sum (poolOf (now (kinds .entry)) (now (words .entry)) room) ⌝ }
+    ensures { λ r. ⌜ made r (now (kinds .exit)) (now (words .exit)) ≡ termWork rule x y j sum (poolOf (now (kinds .entry)) (now (words .entry)) room) ⌝ }
 {
     match rule {
         Term::Plus => plus_in(kinds, words, room, x, y, sum),
@@ -130,7 +130,7 @@ pub fn fold_in(
     start: u32,
 ) -> Made
     requires { ⌜ Terms xs ys k first todo ⌝ }
-    ensures { λ r. ⌜ worked r (now (kinds .exit)) (now (words .exit)) ≡ fold (termAt rule (listOf xs) (listOf ys) k) first todo start (poolOf (now (kinds .entry)) (now (words .entry)) room) ⌝ }
+    ensures { λ r. ⌜ made r (now (kinds .exit)) (now (words .exit)) ≡ fold (termAt rule (listOf xs) (listOf ys) k) first todo start (poolOf (now (kinds .entry)) (now (words .entry)) room) ⌝ }
 {
     let mut left = room;
     let mut sum = start;

@@ -1,9 +1,9 @@
 // One coefficient of a quotient, of an exponential and of a logarithm, from the coefficients before it.
 ghost use mathlib.Core.Path.{_≡_};
-ghost use Rattle.pool.specs.Made.{poolOf};
+ghost use Rattle.pool.specs.Made.{made, poolOf};
 ghost use Rattle.taylor.specs.Work.{at};
 ghost use Rattle.taylor.specs.Expansion.{quotientAt, expAt, logAt};
-ghost use Rattle.taylor_base.specs.Answers.{listOf, worked};
+ghost use Rattle.taylor_base.specs.Answers.{listOf};
 ghost use Rattle.taylor_quotients.specs.Recurrences.{overWork, dividedBy, lessWork, Next, coefficientWork};
 use constructors::DEPTH;
 use pool::LIMIT;
@@ -39,7 +39,7 @@ fn quotient_at(
     k: u32,
 ) -> Made
     requires { ⌜ Next ws res k ⌝ }
-    ensures { λ r. ⌜ worked r (now (kinds .exit)) (now (words .exit)) ≡ quotientAt (λ k. start) (listOf ws) scale (listOf res) k (poolOf (now (kinds .entry)) (now (words .entry)) room) ⌝ }
+    ensures { λ r. ⌜ made r (now (kinds .exit)) (now (words .exit)) ≡ quotientAt (λ k. start) (listOf ws) scale (listOf res) k (poolOf (now (kinds .entry)) (now (words .entry)) room) ⌝ }
 {
     let sum = fold_in(kinds, words, room, Term::Less, res, ws, k, 0, k, start);
     let Made::Node {
@@ -54,7 +54,7 @@ fn quotient_at(
 
 // x / T::from(k)
 fn over_in(kinds: &mut [u8; LIMIT], words: &mut [u64; LIMIT], room: Room, x: u32, k: u32) -> Made
-    ensures { λ r. ⌜ worked r (now (kinds .exit)) (now (words .exit)) ≡ overWork k x (poolOf (now (kinds .entry)) (now (words .entry)) room) ⌝ }
+    ensures { λ r. ⌜ made r (now (kinds .exit)) (now (words .exit)) ≡ overWork k x (poolOf (now (kinds .entry)) (now (words .entry)) room) ⌝ }
 {
     let number = from_in(kinds, words, room, k);
     let Made::Node {
@@ -78,7 +78,7 @@ fn exp_at(
     k: u32,
 ) -> Made
     requires { ⌜ Next us res k ⌝ }
-    ensures { λ r. ⌜ worked r (now (kinds .exit)) (now (words .exit)) ≡ expAt (listOf us) zero (listOf res) k (poolOf (now (kinds .entry)) (now (words .entry)) room) ⌝ }
+    ensures { λ r. ⌜ made r (now (kinds .exit)) (now (words .exit)) ≡ expAt (listOf us) zero (listOf res) k (poolOf (now (kinds .entry)) (now (words .entry)) room) ⌝ }
 {
     let sum = fold_in(kinds, words, room, Term::Weighted, us, res, k, 1, k, zero);
     let Made::Node {
@@ -100,7 +100,7 @@ fn divided_in(
     k: u32,
     d: u32,
 ) -> Made
-    ensures { λ r. ⌜ worked r (now (kinds .exit)) (now (words .exit)) ≡ dividedBy u k d (poolOf (now (kinds .entry)) (now (words .entry)) room) ⌝ }
+    ensures { λ r. ⌜ made r (now (kinds .exit)) (now (words .exit)) ≡ dividedBy u k d (poolOf (now (kinds .entry)) (now (words .entry)) room) ⌝ }
 {
     let quotient = logs::div_in(kinds, words, room, DEPTH, d, u);
     let Made::Node {
@@ -123,7 +123,7 @@ fn less_in(
     k: u32,
     s: u32,
 ) -> Made
-    ensures { λ r. ⌜ worked r (now (kinds .exit)) (now (words .exit)) ≡ lessWork x u k s (poolOf (now (kinds .entry)) (now (words .entry)) room) ⌝ }
+    ensures { λ r. ⌜ made r (now (kinds .exit)) (now (words .exit)) ≡ lessWork x u k s (poolOf (now (kinds .entry)) (now (words .entry)) room) ⌝ }
 {
     let number = from_in(kinds, words, room, k);
     let Made::Node {
@@ -163,7 +163,7 @@ fn log_at(
     k: u32,
 ) -> Made
     requires { ⌜ Next us res k ⌝ }
-    ensures { λ r. ⌜ worked r (now (kinds .exit)) (now (words .exit)) ≡ logAt (listOf us) zero (listOf res) k (poolOf (now (kinds .entry)) (now (words .entry)) room) ⌝ }
+    ensures { λ r. ⌜ made r (now (kinds .exit)) (now (words .exit)) ≡ logAt (listOf us) zero (listOf res) k (poolOf (now (kinds .entry)) (now (words .entry)) room) ⌝ }
 {
     let sum = fold_in(
         kinds,
@@ -201,7 +201,7 @@ pub fn coefficient_in(
     k: u32,
 ) -> Made
     requires { ⌜ Next us res k × Next ws res k ⌝ }
-    ensures { λ r. ⌜ worked r (now (kinds .exit)) (now (words .exit)) ≡ coefficientWork rule (listOf us) (listOf ws) (listOf res) k (poolOf (now (kinds .entry)) (now (words .entry)) room) ⌝ }
+    ensures { λ r. ⌜ made r (now (kinds .exit)) (now (words .exit)) ≡ coefficientWork rule (listOf us) (listOf ws) (listOf res) k (poolOf (now (kinds .entry)) (now (words .entry)) room) ⌝ }
 {
     match rule {
         Recurrence::OfConstant { scale, zero } => {

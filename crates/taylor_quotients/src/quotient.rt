@@ -1,9 +1,9 @@
 // The quotient of two expansions.
 ghost use mathlib.Core.Path.{_≡_};
 ghost use Prim.Native.Nat.{_≤_};
-ghost use Rattle.pool.specs.Made.{poolOf};
+ghost use Rattle.pool.specs.Made.{made, poolOf};
 ghost use Rattle.taylor.specs.Expansion.{quotient};
-ghost use Rattle.taylor_base.specs.Answers.{terms, listOf, expansionOf, Given, Answers, Lists, worked};
+ghost use Rattle.taylor_base.specs.Answers.{terms, listOf, expansionOf, Given, Answers, Lists};
 ghost use Rattle.taylor_quotients.specs.Recurrences.{scaleOf, constantOver, listOver};
 use crate::coefficient::Recurrence;
 use crate::recurrence::rest_in;
@@ -21,7 +21,7 @@ use taylor_base::from_in;
 
 // one / w
 fn scale_in(kinds: &mut [u8; LIMIT], words: &mut [u64; LIMIT], room: Room, w: u32) -> Made
-    ensures { λ r. ⌜ worked r (now (kinds .exit)) (now (words .exit)) ≡ scaleOf w (poolOf (now (kinds .entry)) (now (words .entry)) room) ⌝ }
+    ensures { λ r. ⌜ made r (now (kinds .exit)) (now (words .exit)) ≡ scaleOf w (poolOf (now (kinds .entry)) (now (words .entry)) room) ⌝ }
 {
     let one = from_in(kinds, words, room, 1);
     let Made::Node {

@@ -4,7 +4,7 @@ use Prim.Native.Nat.{ℕ}
 use mathlib.Core.Path.{ap, _∙_}
 use borrow.Author.Needs.{needs}
 use Rattle.pool.specs.Made.{poolOf}
-use Rattle.taylor.specs.Work.{answered, mul}
+use Rattle.taylor.specs.Work.{mul}
 use Rattle.taylor_base.proofs.Steps.{onward, handed-on}
 use Rattle.taylor_derivative.proofs.derivative_list.Statement.{statement}
 use Rattle.taylor_derivative.proofs.derivative_list.Tie as tie
@@ -34,7 +34,7 @@ returns-2 c =
     let at-product = c .before .before .before .before .before in
     let product = at-product .before .before .factorial-in in
     onward (product .last .0) (product .last .1 .0) _ (at-product .product .given .1) (product .ensures)
-    (ap answered (c .mul-in .ensures) ∙ ap
+    (c .mul-in .ensures ∙ ap
     (λ (x : ℕ). mul (at-product .product .given .0 .0) x (poolOf (product .last .0) (product .last .1 .0) (at-product .product .given .0 .1 .0)))
     (c .before .before .before .at .ensures))
 

@@ -5,7 +5,6 @@ use borrow.Author.Needs.{needs}
 use Rattle.literal.specs.declared.Folded.{Folded}
 use Rattle.pool.specs.Made.{poolOf}
 use Rattle.constructors.specs.Build.{literal}
-use Rattle.taylor.specs.Work.{answered}
 use Rattle.taylor_base.proofs.Steps.{onward, handed-on}
 use Rattle.taylor_derivative.proofs.Factorials.{is-itself, is-new}
 use Rattle.taylor_derivative.proofs.factor_in.Statement.{statement}
@@ -48,7 +47,7 @@ returns-3 c =
     let number = at-number .before .before .from-in in
     let rest = (poolOf (number .last .0) (number .last .1 .0) (at-number .number .given .0 .1 .0)) in
     onward (number .last .0) (number .last .1 .0) _ (at-number .number .given .1) (number .ensures)
-    (ap answered (c .lit-in .ensures) ∙ ap (λ (f : Folded). answered (literal f rest)) (c .before .factorial .ensures) ∙ is-new (start .args .i)
+    (c .lit-in .ensures ∙ ap (λ (f : Folded). literal f rest) (c .before .factorial .ensures) ∙ is-new (start .args .i)
     (at-number .number .given .0 .0) rest (at-if1 .if1 .left))
 
 pub factor-in-spec : {M : Type 1} → statement M

@@ -5,7 +5,6 @@ use mathlib.Core.Path.{ap, _∙_}
 use mir.Syntax.{w64}
 use mir.ValLaws.{toZ-ofZ}
 use Rattle.literal.specs.Literal.{folded}
-use Rattle.taylor.specs.Work.{answered}
 use Rattle.adds.proofs.Runs.{literal-made}
 use Rattle.expand.proofs.Leaves.{at-point}
 use Rattle.expand.proofs.point.point_in.Statement.{statement}
@@ -29,16 +28,15 @@ lit-in-requires c κs = search needs
 returns : tie.Need-returns
 returns c =
     let start = c .before .before .before .before .before in
-    at-point (start .args .var) _ (c .before .before .before .enum-told .given .1) (ap answered (c .append .ensures))
+    at-point (start .args .var) _ (c .before .before .before .enum-told .given .1) (c .append .ensures)
 
 returns-2 : tie.Need-returns-2
 returns-2 c =
     let at-known-told = c .before .before .before .before in
     at-point (at-known-told .before .before .before .args .var) _ (at-known-told .before .point .given .1)
-    (ap answered
     (literal-made _
     (c .before .fold .ensures ∙ ap folded
-    (toZ-ofZ w64 (at-known-told .before .point .given .0 .0) (record { sfits = at-known-told .known-told .given .0 .1 }))) (c .lit-in .ensures)))
+    (toZ-ofZ w64 (at-known-told .before .point .given .0 .0) (record { sfits = at-known-told .known-told .given .0 .1 }))) (c .lit-in .ensures))
 
 pub point-in-spec : {M : Type 1} → statement M
 point-in-spec =

@@ -6,7 +6,6 @@ use lib.IntN.{pos}
 use mir.Syntax.{w64}
 use mir.ValLaws.{toZ-ofZ}
 use Rattle.literal.specs.Literal.{folded}
-use Rattle.taylor.specs.Work.{answered}
 use Rattle.adds.proofs.Runs.{literal-made}
 use Rattle.taylor_base.proofs.answer.from_in.Statement.{statement}
 use Rattle.taylor_base.proofs.answer.from_in.Tie as tie
@@ -21,9 +20,7 @@ lit-in-requires : tie.Need-lit-in-requires
 lit-in-requires c κs = search needs
 
 returns : tie.Need-returns
-returns c =
-    ap answered
-    (literal-made _ (c .before .fold .ensures ∙ ap folded (toZ-ofZ w64 (pos (c .before .before .before .before .args .n)) (search needs))) (c .lit-in .ensures))
+returns c = literal-made _ (c .before .fold .ensures ∙ ap folded (toZ-ofZ w64 (pos (c .before .before .before .before .args .n)) (search needs))) (c .lit-in .ensures)
 
 pub from-in-spec : {M : Type 1} → statement M
 from-in-spec = tie.close (tie.spec cast-fold fold-requires lit-in-requires returns)

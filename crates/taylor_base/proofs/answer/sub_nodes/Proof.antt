@@ -1,8 +1,6 @@
 -- `taylor_base::answer::sub_nodes` meets its contract: it is the definition of `sub`, step by step.
 -- Assumes nothing.
 use borrow.Author.Needs.{needs}
-use mathlib.Core.Path.{ap}
-use Rattle.taylor.specs.Work.{answered}
 use Rattle.taylor_base.proofs.Steps.{onward, handed-on}
 use Rattle.taylor_base.proofs.answer.sub_nodes.Statement.{statement}
 use Rattle.taylor_base.proofs.answer.sub_nodes.Tie as tie
@@ -19,7 +17,7 @@ enum-told c = search needs
 returns : tie.Need-returns
 returns c =
     let negative = c .before .before .neg-in in
-    handed-on (negative .last .0) (negative .last .1 .0) _ _ _ (c .enum-told .given .1) (ap answered (negative .ensures))
+    handed-on (negative .last .0) (negative .last .1 .0) _ _ _ (c .enum-told .given .1) (negative .ensures)
 
 add-in-requires : tie.Need-add-in-requires
 add-in-requires c κs = search needs
@@ -27,7 +25,7 @@ add-in-requires c κs = search needs
 returns-2 : tie.Need-returns-2
 returns-2 c =
     let negative = c .before .before .before .before .before .before .neg-in in
-    onward (negative .last .0) (negative .last .1 .0) _ (c .before .before .before .before .negative .given .1) (ap answered (negative .ensures)) (ap answered (c .add-in .ensures))
+    onward (negative .last .0) (negative .last .1 .0) _ (c .before .before .before .before .negative .given .1) (negative .ensures) (c .add-in .ensures)
 
 pub sub-nodes-spec : {M : Type 1} → statement M
 sub-nodes-spec =

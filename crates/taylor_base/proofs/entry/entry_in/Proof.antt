@@ -1,8 +1,6 @@
 -- `taylor_base::entry::entry_in` meets its contract: each arm calls the constructor that the definition names.
 -- Assumes nothing.
 use borrow.Author.Needs.{needs}
-use mathlib.Core.Path.{ap}
-use Rattle.taylor.specs.Work.{answered}
 use Rattle.taylor_base.proofs.entry.entry_in.Statement.{statement}
 use Rattle.taylor_base.proofs.entry.entry_in.Tie as tie
 
@@ -37,19 +35,19 @@ div-in-requires : tie.Need-div-in-requires
 div-in-requires c κs = search needs
 
 returns : tie.Need-returns
-returns c = rw (c .before .before .before .enum-told .given .1) (ap answered (c .add-in .ensures))
+returns c = rw (c .before .before .before .enum-told .given .1) (c .add-in .ensures)
 
 returns-2 : tie.Need-returns-2
 returns-2 c = rw (c .before .before .before .enum-told2 .given .1) (c .sub-nodes .ensures)
 
 returns-3 : tie.Need-returns-3
-returns-3 c = rw (c .before .before .before .enum-told3 .given .1) (ap answered (c .neg-in .ensures))
+returns-3 c = rw (c .before .before .before .enum-told3 .given .1) (c .neg-in .ensures)
 
 returns-4 : tie.Need-returns-4
-returns-4 c = rw (c .before .before .before .before .rule .given .1) (ap answered (c .mul-in .ensures))
+returns-4 c = rw (c .before .before .before .before .rule .given .1) (c .mul-in .ensures)
 
 returns-5 : tie.Need-returns-5
-returns-5 c = rw (c .before .before .before .before .rule2 .given .1) (ap answered (c .div-in .ensures))
+returns-5 c = rw (c .before .before .before .before .rule2 .given .1) (c .div-in .ensures)
 
 pub entry-in-spec : {M : Type 1} → statement M
 entry-in-spec =

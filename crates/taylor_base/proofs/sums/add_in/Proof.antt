@@ -1,17 +1,13 @@
 -- `taylor_base::sums::add_in` meets its contract: two constants, a constant at coefficient 0 of a list, or two lists side by side.
 -- Assumes nothing.
 use borrow.Author.Needs.{needs}
-use mathlib.Core.Path.{refl}
+use mathlib.Core.Path.{refl, _≡_}
 use mathlib.Core.Bool.{false}
-use mathlib.Core.Path.{_≡_, refl}
 use Rattle.pool.specs.Made.{poolOf}
 use Rattle.taylor.specs.Work.{add}
 use Rattle.taylor_base.proofs.Steps.{with-those}
 use Rattle.taylor_base.proofs.Lists.{constant-answers, lists-answer, lists-same, first-lists}
-use Rattle.taylor_base.proofs.Operations.{Coded, coded-some, shorter-entries, two-made}
-use Rattle.taylor.specs.Work.{add}
-use Rattle.taylor_base.proofs.Steps.{with-those}
-use Rattle.taylor_base.proofs.Operations.{Coded, given-coded, coded-some, shorter-entries, two-made}
+use Rattle.taylor_base.proofs.Operations.{Coded, coded-some, shorter-entries, two-made, given-coded}
 use Rattle.taylor_base.proofs.sums.add_in.Statement.{statement}
 use Rattle.taylor_base.proofs.sums.add_in.Tie as tie
 

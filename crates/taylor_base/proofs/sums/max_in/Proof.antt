@@ -1,8 +1,7 @@
 -- `taylor_base::sums::max_in` meets its contract: of two constants the constructor, else the refusal.
 -- Assumes nothing.
 use borrow.Author.Needs.{needs}
-use mathlib.Core.Path.{refl, ap}
-use Rattle.taylor.specs.Work.{answered}
+use mathlib.Core.Path.{refl}
 use Rattle.taylor_base.proofs.Lists.{constant-answers, refusal-answers}
 use Rattle.taylor_base.proofs.Operations.{no-maximum}
 use Rattle.pool.specs.Made.{poolOf}
@@ -25,7 +24,7 @@ answer-of-requires c κs = search needs
 returns : tie.Need-returns
 returns c =
     let greater = c .before .max-in in
-    rw (c .before .before .before .before .before .before .before .if1 .taken, c .before .before .before .before .before .before .if2 .taken) (constant-answers (greater .result) (greater .last .0) (greater .last .1 .0) (c .answer-of .ensures) (ap answered (greater .ensures)))
+    rw (c .before .before .before .before .before .before .before .if1 .taken, c .before .before .before .before .before .before .if2 .taken) (constant-answers (greater .result) (greater .last .0) (greater .last .1 .0) (c .answer-of .ensures) (greater .ensures))
 
 answer-of-requires-2 : tie.Need-answer-of-requires-2
 answer-of-requires-2 c κs = search needs

@@ -6,9 +6,7 @@ use mathlib.Core.Path.{_≡_}
 use Rattle.pool.specs.Made.{poolOf}
 use Rattle.taylor.specs.Work.{neg}
 use Rattle.taylor_base.proofs.Lists.{constant-answers, lists-answer, lists-same}
-use Rattle.taylor_base.proofs.Operations.{Coded, all-entries, each-made}
-use Rattle.taylor.specs.Work.{neg}
-use Rattle.taylor_base.proofs.Operations.{Coded, given-coded, all-entries, each-made}
+use Rattle.taylor_base.proofs.Operations.{Coded, all-entries, each-made, given-coded}
 use Rattle.taylor_base.proofs.sums.neg_in.Statement.{statement}
 use Rattle.taylor_base.proofs.sums.neg_in.Tie as tie
 

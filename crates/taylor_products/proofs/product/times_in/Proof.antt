@@ -2,9 +2,9 @@
 -- Assumes nothing.
 use borrow.Author.Needs.{needs}
 use mathlib.Core.Bool.{false}
-use mathlib.Core.Path.{_≡_, ap}
+use mathlib.Core.Path.{_≡_}
 use Rattle.pool.specs.Made.{poolOf}
-use Rattle.taylor.specs.Work.{answered, mul, at}
+use Rattle.taylor.specs.Work.{mul, at}
 use Rattle.taylor.specs.Expansion.{times}
 use Rattle.taylor_base.proofs.Lists.{constant-answers, lists-answer, lists-same}
 use Rattle.taylor_base.proofs.Operations.{Coded, given-coded, all-entries, each-made}
@@ -33,7 +33,7 @@ returns : tie.Need-returns
 unfolding times
 returns c =
     let product = c .before .mul-in in
-    rw (c .before .before .before .before .before .before .before .if1 .taken, c .before .before .before .before .before .if2 .taken) (constant-answers (product .result) (product .last .0) (product .last .1 .0) (c .answer-of .ensures) (ap answered (product .ensures)))
+    rw (c .before .before .before .before .before .before .before .if1 .taken, c .before .before .before .before .before .if2 .taken) (constant-answers (product .result) (product .last .0) (product .last .1 .0) (c .answer-of .ensures) (product .ensures))
 
 entries-in-requires : tie.Need-entries-in-requires
 entries-in-requires c κs = all-entries (c .before .before .before .before .before .args .t5) (rhs-list (c .before .before .before .before .before) (c .before .before .if2 .left))

@@ -1,8 +1,6 @@
 -- `taylor_products::term::less_in` meets its contract: it is the definition, step by step.
 -- Assumes nothing.
 use borrow.Author.Needs.{needs}
-use mathlib.Core.Path.{ap}
-use Rattle.taylor.specs.Work.{answered}
 use Rattle.taylor_base.proofs.Steps.{onward, handed-on}
 use Rattle.taylor_products.proofs.term.less_in.Statement.{statement}
 use Rattle.taylor_products.proofs.term.less_in.Tie as tie
@@ -19,7 +17,7 @@ enum-told c = search needs
 returns : tie.Need-returns
 returns c =
     let product = c .before .before .mul-in in
-    handed-on (product .last .0) (product .last .1 .0) _ _ _ (c .enum-told .given .1) (ap answered (product .ensures))
+    handed-on (product .last .0) (product .last .1 .0) _ _ _ (c .enum-told .given .1) (product .ensures)
 
 sub-nodes-requires : tie.Need-sub-nodes-requires
 sub-nodes-requires c κs = search needs
@@ -27,7 +25,7 @@ sub-nodes-requires c κs = search needs
 returns-2 : tie.Need-returns-2
 returns-2 c =
     let product = c .before .before .before .before .before .before .mul-in in
-    onward (product .last .0) (product .last .1 .0) _ (c .before .before .before .before .product .given .1) (ap answered (product .ensures)) (c .sub-nodes .ensures)
+    onward (product .last .0) (product .last .1 .0) _ (c .before .before .before .before .product .given .1) (product .ensures) (c .sub-nodes .ensures)
 
 pub less-in-spec : {M : Type 1} → statement M
 less-in-spec =

@@ -1,8 +1,6 @@
 -- `taylor_products::term::plus_in` meets its contract: it is the definition, step by step.
 -- Assumes nothing.
 use borrow.Author.Needs.{needs}
-use mathlib.Core.Path.{ap}
-use Rattle.taylor.specs.Work.{answered}
 use Rattle.taylor_base.proofs.Steps.{onward, handed-on}
 use Rattle.taylor_products.proofs.term.plus_in.Statement.{statement}
 use Rattle.taylor_products.proofs.term.plus_in.Tie as tie
@@ -19,7 +17,7 @@ enum-told c = search needs
 returns : tie.Need-returns
 returns c =
     let product = c .before .before .mul-in in
-    handed-on (product .last .0) (product .last .1 .0) _ _ _ (c .enum-told .given .1) (ap answered (product .ensures))
+    handed-on (product .last .0) (product .last .1 .0) _ _ _ (c .enum-told .given .1) (product .ensures)
 
 add-in-requires : tie.Need-add-in-requires
 add-in-requires c κs = search needs
@@ -27,7 +25,7 @@ add-in-requires c κs = search needs
 returns-2 : tie.Need-returns-2
 returns-2 c =
     let product = c .before .before .before .before .before .before .mul-in in
-    onward (product .last .0) (product .last .1 .0) _ (c .before .before .before .before .product .given .1) (ap answered (product .ensures)) (ap answered (c .add-in .ensures))
+    onward (product .last .0) (product .last .1 .0) _ (c .before .before .before .before .product .given .1) (product .ensures) (c .add-in .ensures)
 
 pub plus-in-spec : {M : Type 1} → statement M
 plus-in-spec =

@@ -1,8 +1,6 @@
 -- `taylor_products::term::weighted_in` meets its contract: it is the definition, step by step.
 -- Assumes nothing.
 use borrow.Author.Needs.{needs}
-use mathlib.Core.Path.{ap}
-use Rattle.taylor.specs.Work.{answered}
 use Rattle.taylor_base.proofs.Steps.{onward, handed-on}
 use Rattle.taylor_products.proofs.term.weighted_in.Statement.{statement}
 use Rattle.taylor_products.proofs.term.weighted_in.Tie as tie
@@ -19,7 +17,7 @@ enum-told c = search needs
 returns : tie.Need-returns
 returns c =
     let product = c .before .before .mul-in in
-    handed-on (product .last .0) (product .last .1 .0) _ _ _ (c .enum-told .given .1) (ap answered (product .ensures))
+    handed-on (product .last .0) (product .last .1 .0) _ _ _ (c .enum-told .given .1) (product .ensures)
 
 from-in-requires : tie.Need-from-in-requires
 from-in-requires c κs = search needs
@@ -34,7 +32,7 @@ returns-2 : tie.Need-returns-2
 returns-2 c =
     let product = c .before .before .before .before .before .before .before .before .mul-in in
     let weight = c .before .before .from-in in
-    onward (product .last .0) (product .last .1 .0) _ (c .before .before .before .before .before .before .product .given .1) (ap answered (product .ensures))
+    onward (product .last .0) (product .last .1 .0) _ (c .before .before .before .before .before .before .product .given .1) (product .ensures)
     (handed-on (weight .last .0) (weight .last .1 .0) _ _ _ (c .enum-told2 .given .1) (weight .ensures))
 
 plus-in-requires : tie.Need-plus-in-requires
@@ -44,7 +42,7 @@ returns-3 : tie.Need-returns-3
 returns-3 c =
     let product = c .before .before .before .before .before .before .before .before .before .before .before .before .mul-in in
     let weight = c .before .before .before .before .before .before .from-in in
-    onward (product .last .0) (product .last .1 .0) _ (c .before .before .before .before .before .before .before .before .before .before .product .given .1) (ap answered (product .ensures))
+    onward (product .last .0) (product .last .1 .0) _ (c .before .before .before .before .before .before .before .before .before .before .product .given .1) (product .ensures)
     (onward (weight .last .0) (weight .last .1 .0) _ (c .before .before .before .before .weight .given .1) (weight .ensures) (c .plus-in .ensures))
 
 pub weighted-in-spec : {M : Type 1} → statement M

@@ -1,9 +1,7 @@
 -- `taylor_quotients::coefficient::divided_in` meets its contract: it is the definition, step by step.
 -- Assumes nothing.
-use mathlib.Core.Path.{ap}
 use borrow.Author.Needs.{needs}
 use Rattle.taylor_base.proofs.Steps.{onward, handed-on}
-use Rattle.taylor.specs.Work.{answered}
 use Rattle.taylor_quotients.proofs.coefficient.divided_in.Statement.{statement}
 use Rattle.taylor_quotients.proofs.coefficient.divided_in.Tie as tie
 
@@ -19,7 +17,7 @@ enum-told c = search needs
 returns : tie.Need-returns
 returns c =
     let quotient = c .before .before .div-in in
-    handed-on (quotient .last .0) (quotient .last .1 .0) _ _ _ (c .enum-told .given .1) (ap answered (quotient .ensures))
+    handed-on (quotient .last .0) (quotient .last .1 .0) _ _ _ (c .enum-told .given .1) (quotient .ensures)
 
 over-in-requires : tie.Need-over-in-requires
 over-in-requires c κs = search needs
@@ -27,7 +25,7 @@ over-in-requires c κs = search needs
 returns-2 : tie.Need-returns-2
 returns-2 c =
     let quotient = c .before .before .before .before .before .before .div-in in
-    onward (quotient .last .0) (quotient .last .1 .0) _ (c .before .before .before .before .quotient .given .1) (ap answered (quotient .ensures))
+    onward (quotient .last .0) (quotient .last .1 .0) _ (c .before .before .before .before .quotient .given .1) (quotient .ensures)
     (c .over-in .ensures)
 
 pub divided-in-spec : {M : Type 1} → statement M

@@ -1,9 +1,7 @@
 -- `taylor_quotients::coefficient::less_in` meets its contract: it is the definition, step by step.
 -- Assumes nothing.
-use mathlib.Core.Path.{ap}
 use borrow.Author.Needs.{needs}
 use Rattle.taylor_base.proofs.Steps.{onward, handed-on}
-use Rattle.taylor.specs.Work.{answered}
 use Rattle.taylor_quotients.proofs.coefficient.less_in.Statement.{statement}
 use Rattle.taylor_quotients.proofs.coefficient.less_in.Tie as tie
 
@@ -35,7 +33,7 @@ returns-2 c =
     let number = c .before .before .before .before .before .before .before .before .from-in in
     let product = c .before .before .mul-in in
     onward (number .last .0) (number .last .1 .0) _ (c .before .before .before .before .before .before .number .given .1) (number .ensures)
-    (handed-on (product .last .0) (product .last .1 .0) _ _ _ (c .enum-told2 .given .1) (ap answered (product .ensures)))
+    (handed-on (product .last .0) (product .last .1 .0) _ _ _ (c .enum-told2 .given .1) (product .ensures))
 
 sub-nodes-requires : tie.Need-sub-nodes-requires
 sub-nodes-requires c κs = search needs
@@ -52,7 +50,7 @@ returns-3 c =
     let product = c .before .before .before .before .before .before .before .before .mul-in in
     let difference = c .before .before .sub-nodes in
     onward (number .last .0) (number .last .1 .0) _ (c .before .before .before .before .before .before .before .before .before .before .before .before .number .given .1) (number .ensures)
-    (onward (product .last .0) (product .last .1 .0) _ (c .before .before .before .before .before .before .product .given .1) (ap answered (product .ensures))
+    (onward (product .last .0) (product .last .1 .0) _ (c .before .before .before .before .before .before .product .given .1) (product .ensures)
     (handed-on (difference .last .0) (difference .last .1 .0) _ _ _ (c .enum-told3 .given .1) (difference .ensures)))
 
 divided-in-requires : tie.Need-divided-in-requires
@@ -64,7 +62,7 @@ returns-4 c =
     let product = c .before .before .before .before .before .before .before .before .before .before .before .before .mul-in in
     let difference = c .before .before .before .before .before .before .sub-nodes in
     onward (number .last .0) (number .last .1 .0) _ (c .before .before .before .before .before .before .before .before .before .before .before .before .before .before .before .before .number .given .1) (number .ensures)
-    (onward (product .last .0) (product .last .1 .0) _ (c .before .before .before .before .before .before .before .before .before .before .product .given .1) (ap answered (product .ensures))
+    (onward (product .last .0) (product .last .1 .0) _ (c .before .before .before .before .before .before .before .before .before .before .product .given .1) (product .ensures)
     (onward (difference .last .0) (difference .last .1 .0) _ (c .before .before .before .before .difference .given .1) (difference .ensures)
     (c .divided-in .ensures)))
 

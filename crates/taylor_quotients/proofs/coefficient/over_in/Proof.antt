@@ -1,9 +1,7 @@
 -- `taylor_quotients::coefficient::over_in` meets its contract: it is the definition, step by step.
 -- Assumes nothing.
-use mathlib.Core.Path.{ap}
 use borrow.Author.Needs.{needs}
 use Rattle.taylor_base.proofs.Steps.{onward, handed-on}
-use Rattle.taylor.specs.Work.{answered}
 use Rattle.taylor_quotients.proofs.coefficient.over_in.Statement.{statement}
 use Rattle.taylor_quotients.proofs.coefficient.over_in.Tie as tie
 
@@ -28,7 +26,7 @@ returns-2 : tie.Need-returns-2
 returns-2 c =
     let number = c .before .before .before .before .before .before .from-in in
     onward (number .last .0) (number .last .1 .0) _ (c .before .before .before .before .number .given .1) (number .ensures)
-    (ap answered (c .div-in .ensures))
+    (c .div-in .ensures)
 
 pub over-in-spec : {M : Type 1} → statement M
 over-in-spec =

@@ -1,9 +1,7 @@
 -- `taylor_quotients::coefficient::quotient_at` meets its contract: the terms are taken away, then comes the scale.
 -- Assumes nothing.
-use mathlib.Core.Path.{ap}
 use borrow.Author.Needs.{needs}
 use Rattle.taylor_base.proofs.Steps.{onward, handed-on}
-use Rattle.taylor.specs.Work.{answered}
 use Rattle.taylor_quotients.proofs.coefficient.quotient_at.Statement.{statement}
 use Rattle.taylor_quotients.proofs.coefficient.quotient_at.Tie as tie
 
@@ -28,7 +26,7 @@ returns-2 : tie.Need-returns-2
 returns-2 c =
     let sum = c .before .before .before .before .before .before .fold-in in
     onward (sum .last .0) (sum .last .1 .0) _ (c .before .before .before .before .sum .given .1) (sum .ensures)
-    (ap answered (c .mul-in .ensures))
+    (c .mul-in .ensures)
 
 pub quotient-at-spec : {M : Type 1} → statement M
 quotient-at-spec =

@@ -8,7 +8,7 @@ use Rattle.pool.specs.Made.{poolOf}
 use Rattle.taylor_base.specs.Answers.{listOf}
 use Rattle.taylor_base.proofs.Steps.{onward, stopped}
 use Rattle.taylor_base.proofs.Lists.{refusal-lists, lists-same}
-use Rattle.taylor.specs.Work.{answered, fill, exp}
+use Rattle.taylor.specs.Work.{fill, exp}
 use Rattle.taylor.specs.Expansion.{expAt}
 use Rattle.taylor_base.proofs.Operations.{Coded, coded-long, all-entries}
 use Rattle.taylor_quotients.proofs.exp.exp_list.Statement.{statement}
@@ -56,7 +56,7 @@ returns-2 c =
     let made = c .before .before .before .exp-in in
     refusal-lists (made .result) (made .last .0) (made .last .1 .0) (c .answer-of2 .ensures) (c .before .enum-told2 .given .1)
     (onward (none .last .0) (none .last .1 .0) _ (c .before .before .before .before .before .before .before .before .none .given .1) (none .ensures)
-    (stopped (made .last .0) (made .last .1 .0) _ (c .before .enum-told2 .given .1) (ap answered (made .ensures) ∙ ap (λ (u : ℕ). exp u (poolOf (none .last .0) (none .last .1 .0) (c .before .before .before .before .before .before .before .before .none .given .0 .1 .0))) (c .before .before .before .before .before .before .at .ensures))))
+    (stopped (made .last .0) (made .last .1 .0) _ (c .before .enum-told2 .given .1) (made .ensures ∙ ap (λ (u : ℕ). exp u (poolOf (none .last .0) (none .last .1 .0) (c .before .before .before .before .before .before .before .before .none .given .0 .1 .0))) (c .before .before .before .before .before .before .at .ensures))))
 
 rest-in-requires : tie.Need-rest-in-requires
 rest-in-requires c κs = all-entries (c .before .before .before .before .before .before .before .before .before .before .before .before .before .before .before .args .us) (us-list (c .before .before .before .before .before .before .before .before .before .before .before .before .before .before .before))
@@ -67,7 +67,7 @@ returns-3 c =
     let made = c .before .before .before .before .before .before .exp-in in
     lists-same (c .rest-in .ensures)
     (onward (none .last .0) (none .last .1 .0) _ (c .before .before .before .before .before .before .before .before .before .before .before .none .given .1) (none .ensures)
-    (onward (made .last .0) (made .last .1 .0) _ (c .before .before .before .before .made .given .1) (ap answered (made .ensures) ∙ ap (λ (u : ℕ). exp u (poolOf (none .last .0) (none .last .1 .0) (c .before .before .before .before .before .before .before .before .before .before .before .none .given .0 .1 .0))) (c .before .before .before .before .before .before .before .before .before .at .ensures))
+    (onward (made .last .0) (made .last .1 .0) _ (c .before .before .before .before .made .given .1) (made .ensures ∙ ap (λ (u : ℕ). exp u (poolOf (none .last .0) (none .last .1 .0) (c .before .before .before .before .before .before .before .before .before .before .before .none .given .0 .1 .0))) (c .before .before .before .before .before .before .before .before .before .at .ensures))
     (ap (λ (n : ℕ). fill (expAt (listOf (c .before .before .before .before .before .before .before .before .before .before .before .before .before .before .before .before .args .us)) (c .before .before .before .before .before .before .before .before .before .before .before .none .given .0 .0)) (n - 1) ((c .before .before .before .before .made .given .0 .0) ∷ []) (poolOf (made .last .0) (made .last .1 .0) (c .before .before .before .before .made .given .0 .1 .0))) (sym (coded-long (c .before .before .before .before .before .before .before .before .before .before .before .before .before .before .before .before .args .us) (us-list (c .before .before .before .before .before .before .before .before .before .before .before .before .before .before .before .before)))))))
 
 pub exp-list-spec : {M : Type 1} → statement M

@@ -8,7 +8,7 @@ use Rattle.pool.specs.Made.{poolOf}
 use Rattle.taylor_base.specs.Answers.{listOf}
 use Rattle.taylor_base.proofs.Steps.{onward, stopped}
 use Rattle.taylor_base.proofs.Lists.{refusal-lists, lists-same}
-use Rattle.taylor.specs.Work.{answered, fill}
+use Rattle.taylor.specs.Work.{fill}
 use Rattle.taylor.specs.Expansion.{quotientAt}
 use Rattle.taylor_quotients.specs.Recurrences.{scaleOf}
 use Rattle.taylor_base.proofs.Operations.{Coded, coded-long, all-entries}
@@ -79,7 +79,7 @@ returns-3 c =
     refusal-lists (product .result) (product .last .0) (product .last .1 .0) (c .answer-of3 .ensures) (c .before .enum-told3 .given .1)
     (onward (none .last .0) (none .last .1 .0) _ (c .before .before .before .before .before .before .before .before .before .before .before .before .before .before .none .given .1) (none .ensures)
     (onward (factor .last .0) (factor .last .1 .0) _ (c .before .before .before .before .before .before .before .factor .given .1) (factor .ensures ∙ ap (λ (w : ℕ). scaleOf w (poolOf (none .last .0) (none .last .1 .0) (c .before .before .before .before .before .before .before .before .before .before .before .before .before .before .none .given .0 .1 .0))) (c .before .before .before .before .before .before .before .before .before .before .before .before .at .ensures))
-    (stopped (product .last .0) (product .last .1 .0) _ (c .before .enum-told3 .given .1) (ap answered (product .ensures)))))
+    (stopped (product .last .0) (product .last .1 .0) _ (c .before .enum-told3 .given .1) (product .ensures))))
 
 rest-in-requires : tie.Need-rest-in-requires
 rest-in-requires c κs = all-entries (c .before .before .before .before .before .before .before .before .before .before .before .before .before .before .before .before .before .before .before .before .before .args .ws) (ws-list (c .before .before .before .before .before .before .before .before .before .before .before .before .before .before .before .before .before .before .before .before .before))
@@ -92,7 +92,7 @@ returns-4 c =
     lists-same (c .rest-in .ensures)
     (onward (none .last .0) (none .last .1 .0) _ (c .before .before .before .before .before .before .before .before .before .before .before .before .before .before .before .before .before .none .given .1) (none .ensures)
     (onward (factor .last .0) (factor .last .1 .0) _ (c .before .before .before .before .before .before .before .before .before .before .factor .given .1) (factor .ensures ∙ ap (λ (w : ℕ). scaleOf w (poolOf (none .last .0) (none .last .1 .0) (c .before .before .before .before .before .before .before .before .before .before .before .before .before .before .before .before .before .none .given .0 .1 .0))) (c .before .before .before .before .before .before .before .before .before .before .before .before .before .before .before .at .ensures))
-    (onward (product .last .0) (product .last .1 .0) _ (c .before .before .before .before .product .given .1) (ap answered (product .ensures))
+    (onward (product .last .0) (product .last .1 .0) _ (c .before .before .before .before .product .given .1) (product .ensures)
     (ap (λ (n : ℕ). fill (quotientAt (λ k. (c .before .before .before .before .before .before .before .before .before .before .before .before .before .before .before .before .before .none .given .0 .0)) (listOf (c .before .before .before .before .before .before .before .before .before .before .before .before .before .before .before .before .before .before .before .before .before .before .args .ws)) (c .before .before .before .before .before .before .before .before .before .before .factor .given .0 .0)) (n - 1) ((c .before .before .before .before .product .given .0 .0) ∷ []) (poolOf (product .last .0) (product .last .1 .0) (c .before .before .before .before .product .given .0 .1 .0))) (sym (coded-long (c .before .before .before .before .before .before .before .before .before .before .before .before .before .before .before .before .before .before .before .before .before .before .args .ws) (ws-list (c .before .before .before .before .before .before .before .before .before .before .before .before .before .before .before .before .before .before .before .before .before .before))))))))
 
 pub constant-over-spec : {M : Type 1} → statement M

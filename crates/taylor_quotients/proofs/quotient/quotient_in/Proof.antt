@@ -2,9 +2,9 @@
 -- Assumes nothing.
 use borrow.Author.Needs.{needs}
 use mathlib.Core.Bool.{false}
-use mathlib.Core.Path.{_≡_, ap}
+use mathlib.Core.Path.{_≡_}
 use Rattle.pool.specs.Made.{poolOf}
-use Rattle.taylor.specs.Work.{answered, div, at}
+use Rattle.taylor.specs.Work.{div, at}
 use Rattle.taylor_base.specs.Answers.{listOf}
 use Rattle.taylor_base.proofs.Lists.{constant-answers, lists-answer, lists-same, answers-same}
 use Rattle.taylor_base.proofs.Operations.{Coded, given-coded, all-entries, each-made}
@@ -30,7 +30,7 @@ answer-of-requires c κs = search needs
 returns : tie.Need-returns
 returns c =
     let made = c .before .div-in in
-    rw (c .before .before .before .before .before .before .before .if1 .taken, c .before .before .before .before .before .if2 .taken) (constant-answers (made .result) (made .last .0) (made .last .1 .0) (c .answer-of .ensures) (ap answered (made .ensures)))
+    rw (c .before .before .before .before .before .before .before .if1 .taken, c .before .before .before .before .before .if2 .taken) (constant-answers (made .result) (made .last .0) (made .last .1 .0) (c .answer-of .ensures) (made .ensures))
 
 constant-over-requires : tie.Need-constant-over-requires
 constant-over-requires c κs = (c .before .before .before .before .before .pre .1 .least (c .before .before .if2 .left), c .before .before .before .before .before .pre .1 .most (c .before .before .if2 .left))

@@ -5,7 +5,6 @@ use mathlib.Core.Path.{refl}
 use mathlib.Core.List.{[], _∷_}
 use native.Mathlib.Omega.{arith}
 use Prim.Native.Nat.{_-_, _≤_}
-use Prim.Native.Nat.{_-_}
 use Rattle.pool.specs.Made.{poolOf}
 use Rattle.taylor.specs.Work.{fill}
 use Rattle.taylor_base.specs.Answers.{listOf}

@@ -5,8 +5,8 @@ use mathlib.Core.Path.{refl}
 use Rattle.walks.specs.Derive.{deriveAt, derive, deriveNode}
 use Rattle.walk_laws.specs.Walked.{resultsOf}
 use Rattle.walk_laws.proofs.Turns.{whole, nowhere}
-use Rattle.derive.proofs.walk.derive_in.Statement.{statement}
-use Rattle.derive.proofs.walk.derive_in.Tie as tie
+use Rattle.build_walk.proofs.walk.derive_in.Statement.{statement}
+use Rattle.build_walk.proofs.walk.derive_in.Tie as tie
 
 walk-at-requires : tie.Need-walk-at-requires
 walk-at-requires c κs = omega arith

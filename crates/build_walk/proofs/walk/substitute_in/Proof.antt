@@ -5,8 +5,8 @@ use mathlib.Core.Path.{refl}
 use Rattle.walks.specs.Substitute.{substituteAt, substituteVar, substituteNode}
 use Rattle.walk_laws.specs.Walked.{resultsOf}
 use Rattle.walk_laws.proofs.Turns.{whole, nowhere}
-use Rattle.substitute.proofs.walk.substitute_in.Statement.{statement}
-use Rattle.substitute.proofs.walk.substitute_in.Tie as tie
+use Rattle.build_walk.proofs.walk.substitute_in.Statement.{statement}
+use Rattle.build_walk.proofs.walk.substitute_in.Tie as tie
 
 walk-at-requires : tie.Need-walk-at-requires
 walk-at-requires c κs = omega arith
