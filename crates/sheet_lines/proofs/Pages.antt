@@ -14,8 +14,8 @@ use borrow.Author.Tests.{le-leb, lt-leb, leb-true}
 use Rattle.low_bytes.specs.Output.{longestText}
 use Rattle.refusals.specs.Refusals.{unknownVariable, notLiteral, wrongOrder, noRoom}
 use Rattle.pool.specs.declared.node.Node.{Node}
-use Rattle.pool.specs.Pool.{Pool, Out, done, refused, nodeIn, nodeAt}
-use Rattle.pool.specs.Made.{emptyRoom, made, poolOf}
+use Rattle.pool.specs.Pool.{Pool, pool, Out, done, refused, limit, nodeIn, nodeAt}
+use Rattle.pool.specs.Made.{made, poolOf}
 use Rattle.pool.specs.Nodes.{greatestVariable}
 use Rattle.pool.specs.declared.table.Made.{Made}
 use Rattle.pool.specs.declared.table.Made.the-variants as made-as
@@ -175,10 +175,10 @@ module _ (file : List ℕ) (v : ℕ) (x : Point) (order : ℕ) where
         found-is (readFile file empty) ∙ ap coefficientsOf (sym (a .is) ∙ e2)
 
   -- the file is read into an empty pool
-  module _ (r : Made) {ks ws : List ℕ} (k w : List ℕ) (blank : Blank ks ws) (m : made r k w ≡ readFile file (poolOf ks ws (record { word = emptyRoom }))) where
+  module _ (r : Made) {ks ws : List ℕ} (k w : List ℕ) (blank : Blank ks ws) {next end : ℕ} (whole : (next ≡ 0) × (end ≡ limit)) (m : made r k w ≡ readFile file (pool ks ws next end)) where
     from-empty : made r k w ≡ readFile file empty
     unfolding empty
-    from-empty = rw (blank .kinds-blank, blank .words-blank) at m
+    from-empty = rw (blank .kinds-blank, blank .words-blank, whole .0, whole .1) at m
 
     pub file-refused : {number : ℕ} → r ≡ made-as.Refused number → refused number ≡ expandFile file v x order
     file-refused e = ap (λ (q : Made). expandFound v x order (made q k w)) (sym e) ∙ ap (expandFound v x order) from-empty
