@@ -9,10 +9,11 @@ use lib.ListN.{length, drop}
 use Rattle.refusals.specs.Refusals.{brokenPool, unknownNode, noRoom}
 use Rattle.pool.specs.Nodes.{allBelow}
 use Rattle.shape.specs.File.{writtenFile}
+use Rattle.shape.proofs.Entries.{only}
 use Rattle.lent.specs.Lent.{TakenIn}
 use Rattle.lent.proofs.Finishing.{one-is-below}
 use Rattle.lent.proofs.Calling.{is-pool}
-use Rattle.node_write.specs.Output.{HasRoot, Wrote, wrote, puts}
+use Rattle.node_write.specs.Output.{HasRoots, FileOutput, fileOutput, fileInto}
 use Rattle.node_write.specs.declared.FileLength.{FileLength}
 use Rattle.node_write.specs.declared.FileLength.the-variants.{Bytes, NoRoom}
 use Rattle.engine_file.specs.Write.{fileOver, writeCall}
@@ -26,15 +27,15 @@ answerOf : FileLength → Written
 answerOf (Bytes m) = Length m
 answerOf NoRoom = Refused noRoom
 
-told : Wrote → Put
+told : FileOutput → Put
 told x = put (answerOf (x .answer)) (x .out)
 
-told-is : (old file : List ℕ) → told (puts file old) ≡ fileOver old file
-unfolding puts told answerOf
+told-is : (old file : List ℕ) → told (fileInto old file) ≡ fileOver old file
+unfolding fileInto told answerOf
 told-is old file = go (leb (length file) (length old))
   where
     go : (t : Bool)
-        → told (cond t (wrote (Bytes (length file)) (file ++ drop (length file) old)) (wrote NoRoom old)) ≡ demand (unwritten old) t noRoom (writes file old)
+        → told (cond t (fileOutput (Bytes (length file)) (file ++ drop (length file) old)) (fileOutput NoRoom old)) ≡ demand (unwritten old) t noRoom (writes file old)
     go true = refl
     go false = refl
 
@@ -49,10 +50,10 @@ module _ {r : Bool} {ks ws : List ℕ} {n : ℕ} {k w : List ℕ} (t : TakenIn r
     root-refused f = rw (is-pool t e, f)
 
     module _ (given : allBelow n (root ∷ []) ≡ true) where
-      pub has-root : HasRoot k w root
-      has-root = rw (t .kinds-copied e, t .words-copied e) (record { count = n; rules = is-pool t e; given = one-is-below n root given })
+      pub has-root : HasRoots k w (root ∷ [])
+      has-root = rw (t .kinds-copied e, t .words-copied e) (record { count = n; rules = is-pool t e; given = only root (one-is-below n root given) })
 
-      written-over : (f : FileLength) (out : List ℕ) → wrote f out ≡ puts (writtenFile k w root) old → {a : Written} → a ≡ answerOf f → put a out ≡ writeCall ks ws n root old
+      written-over : (f : FileLength) (out : List ℕ) → fileOutput f out ≡ fileInto old (writtenFile k w root) → {a : Written} → a ≡ answerOf f → put a out ≡ writeCall ks ws n root old
       unfolding writeCall told
       written-over f out h g =
           ap (λ x. put x out) g
@@ -60,10 +61,10 @@ module _ {r : Bool} {ks ws : List ℕ} {n : ℕ} {k w : List ℕ} (t : TakenIn r
           ∙ told-is old (writtenFile k w root)
           ∙ rw (is-pool t e, given) (ap₂ (λ a b. fileOver old (writtenFile a b root)) (t .kinds-copied e) (t .words-copied e))
 
-      pub file-there : {f : FileLength} {m : ℕ} (out : List ℕ) → f ≡ Bytes m → wrote f out ≡ puts (writtenFile k w root) old → put (Length m) out ≡ writeCall ks ws n root old
+      pub file-there : {f : FileLength} {m : ℕ} (out : List ℕ) → f ≡ Bytes m → fileOutput f out ≡ fileInto old (writtenFile k w root) → put (Length m) out ≡ writeCall ks ws n root old
       unfolding answerOf
       file-there {f} out g h = written-over f out h (sym (ap answerOf g))
 
-      pub no-room-there : {f : FileLength} (out : List ℕ) → f ≡ NoRoom → wrote f out ≡ puts (writtenFile k w root) old → put (Refused noRoom) out ≡ writeCall ks ws n root old
+      pub no-room-there : {f : FileLength} (out : List ℕ) → f ≡ NoRoom → fileOutput f out ≡ fileInto old (writtenFile k w root) → put (Refused noRoom) out ≡ writeCall ks ws n root old
       unfolding answerOf
       no-room-there {f} out g h = written-over f out h (sym (ap answerOf g))

@@ -11,7 +11,17 @@ use Rattle.pool.specs.Pool.{limit}
 use Rattle.shape.specs.File.{sizeOf, isSized}
 use Rattle.shape.proofs.Lists.{not-true-false, true-or-false, below-or-not}
 use Rattle.shape.proofs.Reading.{Sized, sized-facts, facts-sized}
-use Rattle.node_read.specs.Reads.{sizeIf, acceptedSize, SizeIs}
+use Rattle.node_read.specs.Reads.{sizeIf, acceptedSize, HasEntries}
+
+-- n is the size of a file that has the length for it
+pub record SizeIs (bs : List ℕ) (n : ℕ) : Type 0 where
+  pub is : n ≡ sizeOf bs
+  pub some : 0 < n
+  pub few : n ≤ limit
+  pub long : length bs ≡ 4 + 9 * n
+
+pub has-entries : {bs : List ℕ} {n : ℕ} → SizeIs bs n → HasEntries 4 n bs
+has-entries s = record { few = s .few; long = omega (arith, s .long) }
 
 -- no file of no entries is sized
 none : (t : Bool) (n : ℕ) → n < 1 → n ≡ sizeIf t n

@@ -1,21 +1,26 @@
 // nodes.bin read into a pool: its length, its entries and their order are looked at, and then the nodes are appended.
 ghost use mathlib.Core.Path.{_≡_};
-ghost use mathlib.Core.List.{[], _∷_};
-ghost use Prim.Native.Nat.{_+_, _-_, _<_, _≤_};
+ghost use Prim.Native.Nat.{_+_, _≤_};
 ghost use lib.Dec.{eqb};
-ghost use lib.ListN.{length, getD};
-ghost use Rattle.low_bytes.specs.LowBytes.{numberAt};
+ghost use lib.ListN.{getD};
 ghost use Rattle.pool.specs.Pool.{limit, nodeIn, each};
 ghost use Rattle.pool.specs.Made.{nextOf, made, poolOf};
 ghost use Rattle.shape.specs.Shape.{rename};
 ghost use Rattle.shape.specs.File.{areInOrder, appendShifted, readFile};
+ghost use Rattle.shape.specs.Demand.{Below};
 ghost use Rattle.shape.specs.Walked.{Falls};
-ghost use Rattle.node_read.specs.Reads.{acceptedSize, SizeIs, Zeros, Entered, PartsBelow};
+ghost use Rattle.node_read.specs.Reads.{acceptedSize, HasEntries, Zeros, Entered, FileTested, PartsBelow};
 use pool::LIMIT;
 use pool::Made;
 use pool::Node;
 use pool::Parts;
 use pool::Room;
+
+// What the test of a node file gives: how many entries it has, or the refusal number.
+pub enum Tested {
+    Entries(usize),
+    Refused(u32),
+}
 
 // A file's n, or 0 where its length is wrong.
 fn size_of(bytes: &[u8]) -> usize
@@ -36,16 +41,23 @@ fn size_of(bytes: &[u8]) -> usize
     size
 }
 
-// Whether each entry is a node that may stand at its place. Where they are, they are copied, in the one pass that looks at them.
-fn entries_in(bytes: &[u8], n: usize, k: &mut [u8; LIMIT], w: &mut [u64; LIMIT]) -> bool
-    requires { ⌜ SizeIs (now bytes) n ⌝ }
+// Whether each of n entries, their kinds from the place `first` on, is a node that may stand at its place. Where they are, they are copied, in the one pass
+// that looks at them.
+fn entries_in(
+    bytes: &[u8],
+    first: usize,
+    n: usize,
+    k: &mut [u8; LIMIT],
+    w: &mut [u64; LIMIT],
+) -> bool
+    requires { ⌜ HasEntries first n (now bytes) ⌝ }
     requires { ⌜ Zeros (now k) × Zeros (now w) ⌝ }
-    ensures { λ r. ⌜ Entered r (now (bytes .entry)) (now (k .exit)) (now (w .exit)) ⌝ }
+    ensures { λ r. ⌜ Entered r first n (now (bytes .entry)) (now (k .exit)) (now (w .exit)) ⌝ }
 {
     let mut i = 0;
     while i < n {
-        let kind = bytes[4 + i];
-        let word = low_bytes::number_at(bytes, 4 + n + 8 * i, 8);
+        let kind = bytes[first + i];
+        let word = low_bytes::number_at(bytes, first + n + 8 * i, 8);
         if !pool::may_stand_at(i as u32, pool::decode(kind, word)) {
             return false;
         }
@@ -72,17 +84,36 @@ fn in_place(number: &[u32; LIMIT], n: usize) -> bool
     true
 }
 
-// Whether the walk from entry n - 1 numbers each entry by its place.
-fn in_order(k: &[u8; LIMIT], w: &[u64; LIMIT], n: usize) -> bool
-    requires { ⌜ (0 < n) × (n ≤ limit) ⌝ }
+// Whether the walk over the roots numbers each of the n entries by its place.
+fn in_order(k: &[u8; LIMIT], w: &[u64; LIMIT], roots: &[u64], n: usize) -> bool
+    requires { ⌜ (n ≤ limit) × Below limit (now roots) ⌝ }
     requires { ⌜ Falls (nodeIn (now k) (now w)) ⌝ }
-    ensures { λ r. ⌜ r ≡ areInOrder (nodeIn (now (k .entry)) (now (w .entry))) ((n - 1) ∷ []) n ⌝ }
+    ensures { λ r. ⌜ r ≡ areInOrder (nodeIn (now (k .entry)) (now (w .entry))) (now (roots .entry)) n ⌝ }
 {
     let mut number = [0u32; LIMIT];
     let mut order = [0u32; LIMIT];
-    let root = (n - 1) as u32;
-    node_walk::number_from(k, w, root, &mut number, &mut order);
+    node_walk::number_all(k, w, roots, &mut number, &mut order);
     in_place(&number, n)
+}
+
+// The test of a node file, 7, 8 and 9: where it passes, the two tables have its entries.
+pub fn test_file(bytes: &[u8], k: &mut [u8; LIMIT], w: &mut [u64; LIMIT]) -> Tested
+    requires { ⌜ Zeros (now k) × Zeros (now w) ⌝ }
+    ensures { λ r. ⌜ FileTested r (now (bytes .entry)) (now (k .exit)) (now (w .exit)) ⌝ }
+{
+    let n = size_of(bytes);
+    if n == 0 {
+        return Tested::Refused(refusals::WRONG_LENGTH);
+    }
+    if !entries_in(bytes, 4, n, k, w) {
+        return Tested::Refused(refusals::WRONG_ENTRY);
+    }
+    let last = (n - 1) as u64;
+    let roots = [last];
+    if !in_order(k, w, &roots, n) {
+        return Tested::Refused(refusals::WRONG_SEQUENCE);
+    }
+    Tested::Entries(n)
 }
 
 // The node with its parts shifted.
@@ -134,7 +165,7 @@ fn append_entries(
     }
 }
 
-// A node file read into the pool: 7, 8 and 9 first, then the nodes.
+// A node file read into the pool: its test, then its nodes appended.
 pub fn read_file(
     bytes: &[u8],
     kinds: &mut [u8; LIMIT],
@@ -144,17 +175,10 @@ pub fn read_file(
     requires { ⌜ nextOf room ≤ limit ⌝ }
     ensures { λ r. ⌜ made r (now (kinds .exit)) (now (words .exit)) ≡ readFile (now (bytes .entry)) (poolOf (now (kinds .entry)) (now (words .entry)) room) ⌝ }
 {
-    let n = size_of(bytes);
-    if n == 0 {
-        return Made::Refused(refusals::WRONG_LENGTH);
-    }
     let mut k = [0u8; LIMIT];
     let mut w = [0u64; LIMIT];
-    if !entries_in(bytes, n, &mut k, &mut w) {
-        return Made::Refused(refusals::WRONG_ENTRY);
+    match test_file(bytes, &mut k, &mut w) {
+        Tested::Entries(n) => append_entries(&k, &w, n, kinds, words, room),
+        Tested::Refused(number) => Made::Refused(number),
     }
-    if !in_order(&k, &w, n) {
-        return Made::Refused(refusals::WRONG_SEQUENCE);
-    }
-    append_entries(&k, &w, n, kinds, words, room)
 }

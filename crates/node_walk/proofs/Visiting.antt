@@ -1,17 +1,22 @@
 -- A visit of the code, step by step: its parts in turn, then the node's own number.
 -- Assumes nothing.
-use mathlib.Core.Path.{_≡_, _∙_, subst⁻¹}
+use mathlib.Core.Path.{_≡_, refl, ap, _∙_, subst, subst⁻¹}
 use mathlib.Core.Logic.{⊎-elim}
-use mathlib.Core.List.{List, [], _∷_}
-use Prim.Native.Nat.{ℕ, _<_, _≤_}
-use lib.ListN.{getD, replicate, length-replicate, getD-replicate, List·getD-eq-default}
+use mathlib.Core.List.{List, [], _∷_, _++_}
+use Prim.Native.Nat.{ℕ, zero, suc, _+_, _<_, _≤_}
+use native.Mathlib.Nat.{not-suc-le-zero}
+use native.Mathlib.Numerals.{add-one}
+use native.Mathlib.Omega.{arith}
+use lib.ListN.{length, getD, take, replicate, length-replicate, getD-replicate, List·getD-eq-default}
+use lib.Seq.{take-suc, take-all}
 use Rattle.pool.specs.Nodes.{parts}
 use Rattle.pool.specs.Pool.{limit}
 use Rattle.pool.specs.declared.node.Node.{Node}
 use Rattle.shape.specs.Order.{inTurn, walk, numbered}
 use Rattle.shape.specs.Walked.{Falls, Walked}
-use Rattle.shape.proofs.Lists.{below-or-not}
-use Rattle.shape.proofs.Walked.{walk-done, numbered-from-one, walked-none, walked-done, walked-not-done, visit-room, visit-stored}
+use Rattle.shape.specs.Demand.{Below}
+use Rattle.shape.proofs.Lists.{all-first, all-rest, below-or-not}
+use Rattle.shape.proofs.Walked.{walk-done, walked-none, walked-done, walked-not-done, visit-room, visit-stored}
 use Rattle.node_walk.specs.Visits.{Stands, Visits, Fresh, Stored}
 use Rattle.node_walk.proofs.EachPart.{of-left, of-right}
 
@@ -50,13 +55,45 @@ module _ (p : ℕ → Node) (falls : Falls p) (i : ℕ) (l : i < limit) {is numb
       rw (s .numbers, s .orders, s .counts)
       (visit-stored p falls o i l (walked-not-done p o number order done w i none) number₁ order₁ done₁ (parts-visited o w))
 
--- the walk from a root
-module _ (p : ℕ → Node) {number order : List ℕ} (f : Fresh number order) where
-  pub none-done : Walked p [] number order 0
-  none-done = walked-none p number order (f .number-long) (f .order-long) (f .none)
+-- the walk over roots in turn: the first i of them are visited
+pub record RootsVisited (p : ℕ → Node) (roots : List ℕ) (i : ℕ) (number order : List ℕ) (done : ℕ) : Type 0 where
+  pub few : i ≤ length roots
+  pub walked : Walked p (inTurn (walk p limit) [] (take i roots)) number order done
 
-  pub walked-from : (root : ℕ) {number′ order′ : List ℕ} {n : ℕ} → Visits p root number order 0 number′ order′ n → Walked p (numbered p (root ∷ [])) number′ order′ n
-  walked-from root {number′} {order′} {n} v = subst⁻¹ (λ o. Walked p o number′ order′ n) (numbered-from-one p root) (v [] none-done)
+pub none-visited : (p : ℕ → Node) (roots : List ℕ) {number order : List ℕ} → Fresh number order → RootsVisited p roots 0 number order 0
+none-visited p roots {number} {order} f = record { few = omega arith; walked = walked-none p number order (f .number-long) (f .order-long) (f .none) }
+
+turn-then : (visit : List ℕ → ℕ → List ℕ) (o is : List ℕ) (i : ℕ) → inTurn visit o (is ++ (i ∷ [])) ≡ visit (inTurn visit o is) i
+turn-then visit o [] i = refl
+turn-then visit o (j ∷ is) i = turn-then visit (visit o j) is i
+
+-- each of the roots is below the bound
+pub root-below : (m : ℕ) (roots : List ℕ) → Below m roots → (i : ℕ) → i < length roots → getD roots i 0 < m
+root-below m [] b i l = absurd (not-suc-le-zero l)
+root-below m (r ∷ roots) b zero l = all-first (λ j. j < m) r roots b
+root-below m (r ∷ roots) b (suc i) l = root-below m roots (all-rest (λ j. j < m) r roots b) i (omega arith)
+
+module _ {p : ℕ → Node} {roots : List ℕ} {i : ℕ} {number order : List ℕ} {done : ℕ} (h : RootsVisited p roots i number order done) where
+  pub roots-stand : Stands p number order done
+  roots-stand = (inTurn (walk p limit) [] (take i roots), h .walked)
+
+  pub root-visited : i < length roots → {number′ order′ : List ℕ} {done′ : ℕ} → Visits p (getD roots i 0) number order done number′ order′ done′
+      → RootsVisited p roots (i + 1) number′ order′ done′
+  root-visited l {number′} {order′} {done′} v =
+      record {
+        few = omega arith;
+        walked = subst⁻¹ (λ o. Walked p o number′ order′ done′) one-more (v (inTurn (walk p limit) [] (take i roots)) (h .walked));
+      }
+    where
+      one-more : inTurn (walk p limit) [] (take (i + 1) roots) ≡ walk p limit (inTurn (walk p limit) [] (take i roots)) (getD roots i 0)
+      one-more =
+          ap (λ k. inTurn (walk p limit) [] (take k roots)) (add-one i)
+          ∙ ap (inTurn (walk p limit) []) (take-suc roots i 0 l)
+          ∙ turn-then (walk p limit) [] (take i roots) (getD roots i 0)
+
+  pub all-visited : length roots ≤ i → Walked p (numbered p roots) number order done
+  unfolding numbered
+  all-visited l = subst (λ is. Walked p (inTurn (walk p limit) [] is) number order done) (take-all i roots l) (h .walked)
 
 -- tables of zeros stand for no node done
 pub zeros-are-fresh : (m : ℕ) → m ≡ limit → Fresh (replicate m 0) (replicate m 0)

@@ -1,9 +1,8 @@
-// The writing order of nodes.bin: the walk that numbers the nodes reachable from a root.
-ghost use mathlib.Core.Path.{_≡_};
-ghost use mathlib.Core.List.{[], _∷_};
-ghost use Prim.Native.Nat.{_+_, _<_};
+// The writing order of nodes.bin: the walk that numbers the nodes reachable from the roots.
+ghost use Prim.Native.Nat.{_<_};
 ghost use Rattle.pool.specs.Pool.{limit, nodeIn};
 ghost use Rattle.shape.specs.Order.{numbered};
+ghost use Rattle.shape.specs.Demand.{Below};
 ghost use Rattle.shape.specs.Walked.{Falls, Walked};
 ghost use Rattle.node_walk.specs.Visits.{Stands, Visits, Fresh, Stored};
 use pool::LIMIT;
@@ -51,18 +50,25 @@ pub fn visit(
     }
 }
 
-// The walk from a root, no node having a number yet: how many nodes it numbers.
-pub fn number_from(
+// The walk over the roots in turn, no node having a number yet: how many nodes it numbers.
+pub fn number_all(
     kinds: &[u8; LIMIT],
     words: &[u64; LIMIT],
-    root: u32,
+    roots: &[u64],
     number: &mut [u32; LIMIT],
     order: &mut [u32; LIMIT],
 ) -> u32
-    requires { ⌜ root < limit ⌝ }
+    requires { ⌜ Below limit (now roots) ⌝ }
     requires { ⌜ Falls (nodeIn (now kinds) (now words)) ⌝ }
     requires { ⌜ Fresh (now number) (now order) ⌝ }
-    ensures { λ r. ⌜ Walked (nodeIn (now (kinds .entry)) (now (words .entry))) (numbered (nodeIn (now (kinds .entry)) (now (words .entry))) (root ∷ [])) (now (number .exit)) (now (order .exit)) r ⌝ }
+    ensures { λ r. ⌜ Walked (nodeIn (now (kinds .entry)) (now (words .entry))) (numbered (nodeIn (now (kinds .entry)) (now (words .entry))) (now (roots .entry))) (now (number .exit)) (now (order .exit)) r ⌝ }
 {
-    visit(kinds, words, root, number, order, 0)
+    let mut done = 0;
+    let mut i = 0;
+    while i < roots.len() {
+        let root = roots[i];
+        done = visit(kinds, words, root as u32, number, order, done);
+        i += 1;
+    }
+    done
 }

@@ -2,8 +2,8 @@
 -- Assumes nothing.
 use mathlib.Core.Bool.{true}
 use mathlib.Core.Path.{_≡_}
-use mathlib.Core.List.{List, [], _∷_, _++_}
-use Prim.Native.Nat.{ℕ, zero, suc, _-_, _<_, _≤_}
+use mathlib.Core.List.{List}
+use Prim.Native.Nat.{ℕ, _-_, _<_, _≤_}
 use lib.ListN.{getD}
 use Rattle.pool.specs.Nodes.{parts}
 use Rattle.pool.specs.Pool.{limit}
@@ -30,8 +30,3 @@ entryBy p number order m = rename (numberIn number) (p (getD order m 0))
 pub record Listed (p : ℕ → Node) (number order : List ℕ) (n : ℕ) : Type 0 where
   pub few : n ≤ limit
   pub parts-marked : (m : ℕ) → m < n → AllMarked number (parts (p (getD order m 0)))
-
--- the first n nodes of a table
-unfoldable pub firstOf : ℕ → (ℕ → Node) → List Node
-firstOf zero q = []
-firstOf (suc n) q = firstOf n q ++ (q n ∷ [])

@@ -1,16 +1,16 @@
 // nodes.bin written from one root into a lent output.
 ghost use mathlib.Core.Path.{_≡_};
-ghost use mathlib.Core.List.{map};
+ghost use mathlib.Core.List.{[], _∷_, map};
 ghost use Prim.Native.Nat.{_+_, _*_, _<_, _≤_};
 ghost use lib.ListN.{length, getD};
 ghost use lib.Seq.{sets};
-ghost use Rattle.low_bytes.specs.LowBytes.{lowBytes};
 ghost use Rattle.pool.specs.Nodes.{kindOf, parts};
 ghost use Rattle.pool.specs.Pool.{limit, nodeIn};
 ghost use Rattle.shape.specs.Shape.{rename};
+ghost use Rattle.shape.specs.Table.{upTo};
 ghost use Rattle.shape.specs.File.{wordBytes, writtenFile};
-ghost use Rattle.node_write.specs.Entries.{numberIn, Marked, AllMarked, entryBy, Listed, firstOf};
-ghost use Rattle.node_write.specs.Output.{HasRoot, wrote, puts};
+ghost use Rattle.node_write.specs.Entries.{numberIn, Marked, AllMarked, entryBy, Listed};
+ghost use Rattle.node_write.specs.Output.{HasRoots, fileOutput, fileInto};
 use pool::LIMIT;
 use pool::Node;
 use pool::Parts;
@@ -65,43 +65,45 @@ fn entry(
     renumbered(number, node)
 }
 
-// The kinds of the first n entries, from place 4 on.
+// The kinds of the first n entries, from the place `first` on.
 fn put_kinds(
     kinds: &[u8; LIMIT],
     words: &[u64; LIMIT],
     number: &[u32; LIMIT],
     order: &[u32; LIMIT],
     n: usize,
+    first: usize,
     out: &mut [u8],
 )
     requires { ⌜ Listed (nodeIn (now kinds) (now words)) (now number) (now order) n ⌝ }
-    requires { ⌜ 4 + n ≤ length (now out) ⌝ }
-    ensures { λ _. ⌜ now (out .exit) ≡ sets (now (out .entry)) 4 (map kindOf (firstOf n (entryBy (nodeIn (now (kinds .entry)) (now (words .entry))) (now (number .entry)) (now (order .entry))))) ⌝ }
+    requires { ⌜ first + n ≤ length (now out) ⌝ }
+    ensures { λ _. ⌜ now (out .exit) ≡ sets (now (out .entry)) first (map kindOf (upTo n (entryBy (nodeIn (now (kinds .entry)) (now (words .entry))) (now (number .entry)) (now (order .entry))))) ⌝ }
 {
     let mut m = 0;
     while m < n {
-        out[4 + m] = pool::kind_of(entry(kinds, words, number, order, m));
+        out[first + m] = pool::kind_of(entry(kinds, words, number, order, m));
         m += 1;
     }
 }
 
-// The words of the first n entries, after their kinds.
+// The words of the first n entries, from the place `first` on.
 fn put_words(
     kinds: &[u8; LIMIT],
     words: &[u64; LIMIT],
     number: &[u32; LIMIT],
     order: &[u32; LIMIT],
     n: usize,
+    first: usize,
     out: &mut [u8],
 )
     requires { ⌜ Listed (nodeIn (now kinds) (now words)) (now number) (now order) n ⌝ }
-    requires { ⌜ 4 + 9 * n ≤ length (now out) ⌝ }
-    ensures { λ _. ⌜ now (out .exit) ≡ sets (now (out .entry)) (4 + n) (wordBytes (firstOf n (entryBy (nodeIn (now (kinds .entry)) (now (words .entry))) (now (number .entry)) (now (order .entry))))) ⌝ }
+    requires { ⌜ first + 8 * n ≤ length (now out) ⌝ }
+    ensures { λ _. ⌜ now (out .exit) ≡ sets (now (out .entry)) first (wordBytes (upTo n (entryBy (nodeIn (now (kinds .entry)) (now (words .entry))) (now (number .entry)) (now (order .entry))))) ⌝ }
 {
     let mut m = 0;
     while m < n {
         let word = pool::word_of(entry(kinds, words, number, order, m));
-        low_bytes::put_bytes(out, 4 + n + 8 * m, 8, word);
+        low_bytes::put_bytes(out, first + 8 * m, 8, word);
         m += 1;
     }
 }
@@ -113,18 +115,19 @@ pub fn write_file(
     root: u32,
     out: &mut [u8],
 ) -> FileLength
-    requires { ⌜ HasRoot (now kinds) (now words) root ⌝ }
-    ensures { λ r. ⌜ wrote r (now (out .exit)) ≡ puts (writtenFile (now (kinds .entry)) (now (words .entry)) root) (now (out .entry)) ⌝ }
+    requires { ⌜ HasRoots (now kinds) (now words) (root ∷ []) ⌝ }
+    ensures { λ r. ⌜ fileOutput r (now (out .exit)) ≡ fileInto (now (out .entry)) (writtenFile (now (kinds .entry)) (now (words .entry)) root) ⌝ }
 {
     let mut number = [0u32; LIMIT];
     let mut order = [0u32; LIMIT];
-    let n = node_walk::number_from(kinds, words, root, &mut number, &mut order) as usize;
+    let roots = [root as u64];
+    let n = node_walk::number_all(kinds, words, &roots, &mut number, &mut order) as usize;
     let length = 4 + 9 * n;
     if out.len() < length {
         return FileLength::NoRoom;
     }
     low_bytes::put_bytes(out, 0, 4, n as u64);
-    put_kinds(kinds, words, &number, &order, n, out);
-    put_words(kinds, words, &number, &order, n, out);
+    put_kinds(kinds, words, &number, &order, n, 4, out);
+    put_words(kinds, words, &number, &order, n, 4 + n, out);
     FileLength::Bytes(length as u64)
 }

@@ -3,27 +3,28 @@
 use mathlib.Core.Path.{_≡_, refl, sym, ap, ap₂, _∙_, subst, subst⁻¹, fun-ext}
 use mathlib.Core.Logic.{⊎-elim}
 use mathlib.Core.Bool.{true, cond}
-use mathlib.Core.List.{List, [], _∷_, _++_, map, append-assoc, append-nil, reverse-cons}
+use mathlib.Core.List.{List, [], _∷_, _++_, map, append-assoc, append-nil}
 use Prim.Native.Nat.{ℕ, zero, suc, _+_, _*_, _^_, _<_, _≤_}
 use native.Mathlib.Nat.{not-suc-le-zero}
 use native.Mathlib.Omega.{arith}
 use lib.Dec.{ltb}
-use lib.ListN.{length, getD, take, drop, length-append, length-map, List·getD-append, List·getD-map, List·getD-eq-default, take-append-drop, length-reverse, length-drop}
+use lib.ListN.{length, getD, take, drop, length-append, length-map, List·getD-append, List·getD-map, List·getD-eq-default, take-append-drop, length-drop}
 use lib.Seq.{getD-append-add, ext-getD, take-suc, take-add, drop-drop, getD-drop, take-all}
 use borrow.Author.Tests.{lt-ltb, le-ltb}
 use Rattle.low_bytes.specs.LowBytes.{lowBytes, numberAt, AreBytes}
 use Rattle.pool.specs.Nodes.{decode, kindOf, wordOf, isNode}
 use Rattle.pool.specs.declared.node.Node.{Node}
 use Rattle.pool.specs.declared.node.Node.the-variants.{Empty}
+use Rattle.shape.specs.Table.{upTo}
 use Rattle.shape.specs.File.{wordBytes, fileOf, sizeOf, entryIn, entryOf}
 use Rattle.shape.proofs.Lists.{map-append, below-or-not}
-use Rattle.shape.proofs.Numbers.{firsts, down, length-down}
+use Rattle.shape.proofs.Tables.{length-up-to}
 use Rattle.shape.proofs.Entries.{tableOf}
 use Rattle.shape.proofs.TableOfKinds.{Valid, decoded, decode-own, word-fits, kind-fits}
 use Rattle.low_bytes.proofs.Bytes.{number-after, number-of-bytes, number-fits, bytes-of-number, bytes-append, bytes-are-bytes}
 
 -- "its length is .. 4 + 9 × n"
-length-words : (es : List Node) → length (wordBytes es) ≡ 8 * length es
+pub length-words : (es : List Node) → length (wordBytes es) ≡ 8 * length es
 length-words [] = refl
 length-words (e ∷ es) = let rest : length (wordBytes es) ≡ 8 * length es = length-words es in omega arith
 
@@ -110,14 +111,8 @@ same-file-same-entries es fs ok too e =
     (sym (size-of-file es (ok .few)) ∙ ap sizeOf e ∙ size-of-file fs (too .few))
     (λ i l. sym (entry-of-file es ok i) ∙ ap (λ bs. entryOf bs i) e ∙ entry-of-file fs too i)
 
--- the first entries of a table, one more
-pub one-more : (q : ℕ → Node) (m : ℕ) → map q (firsts (suc m)) ≡ map q (firsts m) ++ (q m ∷ [])
-one-more q m = ap (map q) (reverse-cons m (down m)) ∙ map-append q (firsts m) (m ∷ [])
-
-pub length-firsts : (q : ℕ → Node) (m : ℕ) → length (map q (firsts m)) ≡ m
-length-firsts q m = length-map (firsts m) q ∙ length-reverse (down m) ∙ length-down m
-
-words-append : (es : List Node) (e : Node) → wordBytes (es ++ (e ∷ [])) ≡ wordBytes es ++ lowBytes 8 (wordOf e)
+-- the words of one entry more
+pub words-append : (es : List Node) (e : Node) → wordBytes (es ++ (e ∷ [])) ≡ wordBytes es ++ lowBytes 8 (wordOf e)
 words-append [] e = append-nil (lowBytes 8 (wordOf e))
 words-append (x ∷ es) e = ap (λ r. lowBytes 8 (wordOf x) ++ r) (words-append es e) ∙ sym (append-assoc (lowBytes 8 (wordOf x)) (wordBytes es) (lowBytes 8 (wordOf e)))
 
@@ -139,21 +134,19 @@ module _ (bs : List ℕ) (are : AreBytes bs) (long : length bs ≡ 4 + 9 * sizeO
   unfolding Read
   entry-valid i l = read i l .0
 
-  kinds-read : (m : ℕ) → m ≤ sizeOf bs → map kindOf (map (entryOf bs) (firsts m)) ≡ take m (drop 4 bs)
-  unfolding Read
+  kinds-read : (m : ℕ) → m ≤ sizeOf bs → map kindOf (upTo m (entryOf bs)) ≡ take m (drop 4 bs)
+  unfolding Read upTo
   kinds-read zero l = refl
   kinds-read (suc m) l =
-      ap (map kindOf) (one-more (entryOf bs) m)
-      ∙ map-append kindOf (map (entryOf bs) (firsts m)) (entryOf bs m ∷ [])
+      map-append kindOf (upTo m (entryOf bs)) (entryOf bs m ∷ [])
       ∙ ap₂ (λ ks k. ks ++ (k ∷ [])) (kinds-read m (omega arith)) (read m l .1 ∙ sym (getD-drop 4 bs m 0))
       ∙ sym (take-suc (drop 4 bs) m 0 (rw (length-drop 4 bs) (omega arith)))
 
-  words-read : (m : ℕ) → m ≤ sizeOf bs → wordBytes (map (entryOf bs) (firsts m)) ≡ take (8 * m) (drop (4 + sizeOf bs) bs)
-  unfolding Read
+  words-read : (m : ℕ) → m ≤ sizeOf bs → wordBytes (upTo m (entryOf bs)) ≡ take (8 * m) (drop (4 + sizeOf bs) bs)
+  unfolding Read upTo
   words-read zero l = refl
   words-read (suc m) l =
-      ap wordBytes (one-more (entryOf bs) m)
-      ∙ words-append (map (entryOf bs) (firsts m)) (entryOf bs m)
+      words-append (upTo m (entryOf bs)) (entryOf bs m)
       ∙ ap₂ (λ xs ys. xs ++ ys) (words-read m (omega arith))
       (ap (lowBytes 8) (read m l .2) ∙ bytes-of-number 8 bs are (4 + sizeOf bs + 8 * m) (omega arith) ∙ ap (take 8) (sym (drop-drop (8 * m) (4 + sizeOf bs) bs)))
       ∙ sym (take-add (8 * m) 8 (drop (4 + sizeOf bs) bs))
@@ -162,11 +155,11 @@ module _ (bs : List ℕ) (are : AreBytes bs) (long : length bs ≡ 4 + 9 * sizeO
       next : (m : ℕ) → 8 * m + 8 ≡ 8 * suc m
       next m = omega arith
 
-  pub file-of-read : fileOf (map (entryOf bs) (firsts (sizeOf bs))) ≡ bs
+  pub file-of-read : fileOf (upTo (sizeOf bs) (entryOf bs)) ≡ bs
   unfolding fileOf
   file-of-read =
       ap₂ (λ xs ys. xs ++ ys)
-      (ap (lowBytes 4) (length-firsts (entryOf bs) (sizeOf bs)) ∙ bytes-of-number 4 bs are 0 (omega arith))
+      (ap (lowBytes 4) (length-up-to (sizeOf bs) (entryOf bs)) ∙ bytes-of-number 4 bs are 0 (omega arith))
       (ap₂ (λ xs ys. xs ++ ys)
       (kinds-read (sizeOf bs) (omega arith))
       (words-read (sizeOf bs) (omega arith) ∙ take-all (8 * sizeOf bs) (drop (4 + sizeOf bs) bs) (rw (length-drop (4 + sizeOf bs) bs) (omega arith)) ∙ sym (drop-drop (sizeOf bs) 4 bs))

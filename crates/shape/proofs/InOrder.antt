@@ -10,13 +10,15 @@ use borrow.Author.Tests.{eq-eqb, eqb-true}
 use Rattle.pool.specs.Pool.{limit}
 use Rattle.pool.specs.declared.node.Node.{Node}
 use Rattle.shape.specs.Shape.{has, rename}
+use Rattle.shape.specs.Table.{upTo}
 use Rattle.shape.specs.Order.{num, entries, numbered, written, writtenRoots}
 use Rattle.shape.specs.File.{areInOrder}
 use Rattle.shape.specs.Walked.{Falls}
 use Rattle.shape.specs.Demand.{Below}
-use Rattle.shape.proofs.Lists.{of-reverse, map-alike, map-same}
+use Rattle.shape.proofs.Lists.{map-same}
 use Rattle.shape.proofs.Renaming.{rename-same}
-use Rattle.shape.proofs.Numbers.{down, firsts, has-down, of-down, num-down, in-place}
+use Rattle.shape.proofs.Numbers.{down, has-down, num-down, in-place}
+use Rattle.shape.proofs.Tables.{map-up}
 use Rattle.shape.proofs.Entries.{numbered-distinct, numbered-below}
 use Rattle.shape.proofs.Tests.{and-left, and-right, and-both, each-holds, each-of}
 
@@ -42,12 +44,11 @@ module _ (q : ℕ → Node) (roots : List ℕ) (n : ℕ) where
         (λ i l. and-left (has (numbered q roots) i) (eqb (num (numbered q roots) i) i) (holds i l))
         (λ i l. eqb-true (num (numbered q roots) i) i (and-right (has (numbered q roots) i) (eqb (num (numbered q roots) i) i) (holds i l)))
 
-    pub in-order-written : written q roots ≡ map q (firsts n)
+    pub in-order-written : written q roots ≡ upTo n q
     unfolding written
     in-order-written =
         ap (entries q) in-order-numbered
-        ∙ map-alike (λ i. rename (num (down n)) (q i)) q (firsts n)
-        (λ i h. rename-same (num (down n)) (q i) (λ j m. num-down n j (let a : i < n = of-down n i (of-reverse (down n) i h) in let b : j < i = falls i j m in omega arith)))
+        ∙ map-up (λ i. rename (num (down n)) (q i)) q n (λ i l. rename-same (num (down n)) (q i) (λ j m. num-down n j (let b : j < i = falls i j m in omega arith)))
 
     pub in-order-roots : writtenRoots q roots ≡ roots
     unfolding writtenRoots

@@ -3,6 +3,7 @@ pub mod Renaming
 pub mod Walks
 pub mod Along
 pub mod Numbers
+pub mod Tables
 pub mod Pigeonhole
 pub mod Shapes
 pub mod Entries

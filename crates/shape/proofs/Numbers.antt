@@ -95,13 +95,10 @@ entry-numbered p o m l = getD-map-in (λ i. rename (num o) (p i)) (reverse o) m 
 pub entry-of : (p : ℕ → Node) (o : List ℕ) → Distinct o → All (λ i. getD (entries p o) (num o i) Empty ≡ rename (num o) (p i)) o
 entry-of p o d i h = entry-numbered p o (num o i) (num-below o d i h) ∙ ap (λ j. rename (num o) (p j)) (node-of-num o d i h)
 
--- the numbers n - 1, .., 0, and 0, .., n - 1
+-- the numbers n - 1, .., 0
 abbrev pub down : ℕ → List ℕ
 down zero = []
 down (suc n) = n ∷ down n
-
-abbrev pub firsts : ℕ → List ℕ
-firsts n = reverse (down n)
 
 pub length-down : (n : ℕ) → length (down n) ≡ n
 length-down zero = refl

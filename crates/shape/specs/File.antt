@@ -34,12 +34,13 @@ fileFrom P root = writtenFile (P .kinds) (P .words) root
 abbrev pub sizeOf : List ℕ → ℕ
 sizeOf bs = numberAt 4 bs 0
 
--- entry i of a file of n: its kind byte and its word by the table of kinds
-unfoldable pub entryIn : ℕ → List ℕ → ℕ → Node
-entryIn n bs i = cond (ltb i n) (decode (getD bs (4 + i) 0) (numberAt 8 bs (4 + n + 8 * i))) Empty
+-- entry i of n whose kind bytes stand from place `first` on, and whose words stand behind them: its kind byte and its word by the table of kinds
+unfoldable pub entryIn : ℕ → ℕ → List ℕ → ℕ → Node
+entryIn first n bs i = cond (ltb i n) (decode (getD bs (first + i) 0) (numberAt 8 bs (first + n + 8 * i))) Empty
 
+-- the entries of a node file
 abbrev pub entryOf : List ℕ → ℕ → Node
-entryOf bs = entryIn (sizeOf bs) bs
+entryOf bs = entryIn 4 (sizeOf bs) bs
 
 -- not 7. "A node file is shorter than 4 bytes, its n is 0 or above 4,096, or its length is not 4 + 9 × n."
 unfoldable pub isSized : List ℕ → Bool

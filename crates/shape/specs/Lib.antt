@@ -1,4 +1,5 @@
 pub mod Shape
+pub mod Table
 pub mod Order
 pub mod File
 pub mod Demand

@@ -4,8 +4,10 @@ use borrow.Author.Needs.{needs}
 use native.Mathlib.Omega.{arith}
 use denote.Ref.{now}
 use borrow.Author.Tests.{not-true, not-false}
+use Rattle.pool.specs.Pool.{limit}
 use Rattle.shape.specs.File.{readFile}
-use Rattle.lent.proofs.Calling.{broken, is-pool, sizes, on-lent, worked, appends}
+use Rattle.lent.specs.declared.Answer.the-variants.{Node, Refused}
+use Rattle.lent.proofs.Calling.{broken, sizes, on-lent, may-finish, worked}
 use Rattle.engine_file.proofs.Growing.{reading-grows}
 use Rattle.engine_file.proofs.read.Statement.{statement}
 use Rattle.engine_file.proofs.read.Tie as tie
@@ -20,18 +22,35 @@ same-length-2 : tie.Need-same-length-2
 same-length-2 c = search needs
 
 returns : tie.Need-returns
-returns c = broken (c .before .take-in .ensures) (readFile (now (c .before .before .before .before .before .before .before .before .before .before .args .file))) (not-true _ (c .if1 .taken))
+returns c =
+    let start = c .before .before .before .before .before .before .before .before .before .before in
+    broken (c .before .take-in .ensures) Node Refused limit (readFile (now (start .args .file))) (not-true _ (c .if1 .taken))
 
-add-t18 : tie.Need-add-t18
-add-t18 c = omega (arith, sizes (c .before .take-in .ensures) (not-false _ (c .if1 .left)) .small)
+cast-room-between : tie.Need-cast-room-between
+cast-room-between c = record { fits = omega (arith, sizes (c .before .take-in .ensures) (not-false _ (c .if1 .left)) .small) }
+
+cast-room-between-2 : tie.Need-cast-room-between-2
+cast-room-between-2 c = search needs
+
+room-between-requires : tie.Need-room-between-requires
+room-between-requires c κs = search needs
 
 read-file-requires : tie.Need-read-file-requires
-read-file-requires c κs = omega (arith, sizes (c .before .before .before .take-in .ensures) (not-false _ (c .before .before .if1 .left)) .small)
+read-file-requires c κs =
+    let room = c .before .before in
+    let in-pool = room .before in
+    omega (arith, room .room-between .ensures .0, sizes (in-pool .before .take-in .ensures) (not-false _ (in-pool .if1 .left)) .small)
 
 finish-requires : tie.Need-finish-requires
 finish-requires c κs =
-    let start = c .before .before .before .before .before .before .before .before .before .before .before .before .before .before .before .before .before .before in
-    let taken = c .before .before .before .before .before .before .before .before .before .take-in .ensures in let pool-taken = not-false _ (c .before .before .before .before .before .before .before .before .if1 .left) in (is-pool taken pool-taken, appends (reading-grows (now (start .args .file))) (on-lent taken (readFile (now (start .args .file))) pool-taken (c .before .before .before .before .before .read-file .ensures)))
+    let work = c .before .before .before .before .before in
+    let room = work .before .before .before in
+    let in-pool = room .before in
+    let start = in-pool .before .before .before .before .before .before .before .before .before .before in
+    let taken = in-pool .before .take-in .ensures in
+    let pool-taken = not-false _ (in-pool .if1 .left) in
+    let file = now (start .args .file) in
+    may-finish taken pool-taken limit (reading-grows file) (on-lent taken pool-taken (readFile file) (room .room-between .ensures) (work .read-file .ensures))
 
 same-length-3 : tie.Need-same-length-3
 same-length-3 c = search needs
@@ -41,8 +60,16 @@ same-length-4 c = search needs
 
 returns-2 : tie.Need-returns-2
 returns-2 c =
-    let start = c .before .before .before .before .before .before .before .before .before .before .before .before .before .before .before .before .before .before .before .before .before .before .before in
-    let taken = c .before .before .before .before .before .before .before .before .before .before .before .before .before .before .take-in .ensures in let pool-taken = not-false _ (c .before .before .before .before .before .before .before .before .before .before .before .before .before .if1 .left) in worked taken (readFile (now (start .args .file))) pool-taken (c .before .before .before .before .finish .ensures) (on-lent taken (readFile (now (start .args .file))) pool-taken (c .before .before .before .before .before .before .before .before .before .before .read-file .ensures))
+    let done = c .before .before .before .before in
+    let work = done .before .before .before .before .before .before in
+    let room = work .before .before .before in
+    let in-pool = room .before in
+    let start = in-pool .before .before .before .before .before .before .before .before .before .before in
+    let taken = in-pool .before .take-in .ensures in
+    let pool-taken = not-false _ (in-pool .if1 .left) in
+    let file = now (start .args .file) in
+    worked taken pool-taken Node Refused limit (readFile file) (done .finish .ensures)
+    (on-lent taken pool-taken (readFile file) (room .room-between .ensures) (work .read-file .ensures))
 
 pub read-spec : {M : Type 1} → statement M
 read-spec =
@@ -52,7 +79,9 @@ read-spec =
     same-length
     same-length-2
     returns
-    add-t18
+    cast-room-between
+    cast-room-between-2
+    room-between-requires
     read-file-requires
     finish-requires
     same-length-3

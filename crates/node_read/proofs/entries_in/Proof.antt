@@ -10,16 +10,16 @@ use Rattle.node_read.proofs.entries_in.Statement.{statement}
 use Rattle.node_read.proofs.entries_in.Tie as tie
 
 abbrev Inv-loop : tie.InvT-loop
-Inv-loop bytes n k₀ w₀ i₀ k w i = Entering bytes n i k w
+Inv-loop bytes first n k₀ w₀ i₀ k w i = Entering first n bytes i k w
 
 abbrev μ-loop : tie.MeasureT-loop
-μ-loop bytes n k₀ w₀ i₀ k w i = n - i
+μ-loop bytes first n k₀ w₀ i₀ k w i = n - i
 
 loop-holds : tie.Need-loop-holds Inv-loop μ-loop
-loop-holds c = none-entered _ _ (c .before .pre .1)
+loop-holds c = none-entered _ _ _ (c .before .pre .1)
 
 add-kind : tie.Need-add-kind Inv-loop μ-loop
-add-kind c = omega (arith, c .before .before .before .pre .0 .few, c .before .before .before .pre .0 .long, c .loop-test .taken)
+add-kind c = let start = c .before .before .before in record { fits = omega (arith, start .pre .0 .long, start .good, c .loop-test .taken) }
 
 shared-slice-read-kind : tie.Need-shared-slice-read-kind Inv-loop μ-loop
 shared-slice-read-kind c =
@@ -29,7 +29,7 @@ shared-slice-read-kind c =
 add-number-at : tie.Need-add-number-at Inv-loop μ-loop
 add-number-at c =
     let start = c .before .before .before .before in
-    record { fits = omega (arith, start .pre .0 .few, start .pre .0 .long, c .before .loop-test .taken) }
+    record { fits = omega (arith, start .pre .0 .long, start .good, c .before .loop-test .taken) }
 
 mul-number-at : tie.Need-mul-number-at Inv-loop μ-loop
 mul-number-at c =
@@ -39,7 +39,7 @@ mul-number-at c =
 add-number-at-2 : tie.Need-add-number-at-2 Inv-loop μ-loop
 add-number-at-2 c =
     let start = c .before .before .before .before in
-    record { fits = omega (arith, start .pre .0 .few, start .pre .0 .long, c .before .loop-test .taken) }
+    record { fits = omega (arith, start .pre .0 .long, start .good, c .before .loop-test .taken) }
 
 number-at-requires : tie.Need-number-at-requires Inv-loop μ-loop
 number-at-requires c κs =
@@ -60,7 +60,7 @@ may-stand-at-requires c κs = tt
 returns : tie.Need-returns Inv-loop μ-loop
 returns c =
     let start = c .before .before .before .before .before .before .before .before in
-    not-entered (now (start .args .bytes)) (start .pre .0) (c .before .before .before .before .before .before .loop .inv) (c .before .before .before .before .before .loop-test .taken) (c .before .before .before .number-at .ensures) (c .before .before .decode .ensures) (sym (c .before .may-stand-at .ensures) ∙ not-true _ (c .if1 .taken))
+    not-entered (start .args .first) (start .args .n) (now (start .args .bytes)) (start .pre .0 .few) (c .before .before .before .before .before .before .loop .inv) (c .before .before .before .before .before .loop-test .taken) (c .before .before .before .number-at .ensures) (c .before .before .decode .ensures) (sym (c .before .may-stand-at .ensures) ∙ not-true _ (c .if1 .taken))
 
 element-write-k : tie.Need-element-write-k Inv-loop μ-loop
 element-write-k c =
@@ -88,10 +88,10 @@ loop-less c = omega (arith, c .before .before .before .before .before .loop-test
 loop-again : tie.Need-loop-again Inv-loop μ-loop
 loop-again c =
     let start = c .before .before .before .before .before .before .before .before in
-    one-entered (now (start .args .bytes)) (start .pre .0) (c .before .before .before .before .before .before .loop .inv) (c .before .before .before .before .before .loop-test .taken) (c .before .before .before .number-at .ensures) (c .before .before .decode .ensures) (sym (c .before .may-stand-at .ensures) ∙ not-false _ (c .if1 .left))
+    one-entered (start .args .first) (start .args .n) (now (start .args .bytes)) (start .pre .0 .few) (c .before .before .before .before .before .before .loop .inv) (c .before .before .before .before .before .loop-test .taken) (c .before .before .before .number-at .ensures) (c .before .before .decode .ensures) (sym (c .before .may-stand-at .ensures) ∙ not-false _ (c .if1 .left))
 
 returns-2 : tie.Need-returns-2 Inv-loop μ-loop
-returns-2 c = all-entered (now (c .before .before .before .args .bytes)) (c .before .before .before .pre .0) (c .before .loop .inv) (c .loop-test .left)
+returns-2 c = let start = c .before .before .before in all-entered (start .args .first) (start .args .n) (now (start .args .bytes)) (start .pre .0 .few) (c .before .loop .inv) (c .loop-test .left)
 
 pub entries-in-spec : {M : Type 1} → statement M
 entries-in-spec =

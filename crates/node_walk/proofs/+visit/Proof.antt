@@ -12,7 +12,7 @@ use Rattle.node_walk.proofs.visit.Reads as visit
 use Rattle.node_walk.proofs.visit.Kinds as visit-kinds
 use Rattle.node_walk.proofs.+visit.Lts-visit as visit-lts
 use Rattle.node_walk.proofs.number_next.Reads as number-next-reads
-use Rattle.node_walk.proofs.parts_of.Reads as parts-of-reads
+use Rattle.pool.proofs.parts_of.Reads as parts-of-reads
 use Rattle.pool.proofs.node_at.Reads as node-at-reads
 use Rattle.node_walk.proofs.+visit.{statement}
 use Rattle.node_walk.proofs.+visit.Tie.{close}

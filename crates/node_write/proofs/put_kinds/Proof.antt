@@ -12,13 +12,15 @@ use Rattle.node_write.proofs.put_kinds.Statement.{statement}
 use Rattle.node_write.proofs.put_kinds.Tie as tie
 
 abbrev Inv-loop : tie.InvT-loop
-Inv-loop kinds words number order n out₀ m₀ out m = EntriesPut (map kindOf) (entryBy (nodeIn kinds words) number order) n 4 out₀ m out
+Inv-loop kinds words number order n first out₀ m₀ out m = EntriesPut (map kindOf) (entryBy (nodeIn kinds words) number order) n first out₀ m out
 
 abbrev μ-loop : tie.MeasureT-loop
-μ-loop kinds words number order n out₀ m₀ out m = n - m
+μ-loop kinds words number order n first out₀ m₀ out m = n - m
 
 loop-holds : tie.Need-loop-holds Inv-loop μ-loop
-loop-holds c = no-entries-put kinds-put (entryBy (nodeIn (now (c .before .args .kinds)) (now (c .before .args .words))) (now (c .before .args .number)) (now (c .before .args .order))) (c .before .args .n) 4 _
+loop-holds c =
+    let start = c .before in
+    no-entries-put kinds-put (entryBy (nodeIn (now (start .args .kinds)) (now (start .args .words))) (now (start .args .number)) (now (start .args .order))) (start .args .n) (start .args .first) _
 
 entry-requires : tie.Need-entry-requires Inv-loop μ-loop
 entry-requires c κs = let listed = c .before .before .before .pre .0 in (omega (arith, listed .few, c .loop-test .taken), listed .parts-marked (c .before .loop .m) (c .loop-test .taken))
@@ -27,7 +29,7 @@ kind-of-requires : tie.Need-kind-of-requires Inv-loop μ-loop
 kind-of-requires c κs = tt
 
 add-out : tie.Need-add-out Inv-loop μ-loop
-add-out c = omega (arith, c .before .before .before .before .before .pre .0 .few, c .before .before .loop-test .taken)
+add-out c = let turn = c .before .before in let start = turn .before .before .before in record { fits = omega (arith, start .pre .1, start .good, turn .loop-test .taken) }
 
 slice-write-out : tie.Need-slice-write-out Inv-loop μ-loop
 slice-write-out c = omega (arith, c .before .before .before .loop .inv .long, c .before .before .before .before .before .pre .1, c .before .before .loop-test .taken)

@@ -1,6 +1,6 @@
 -- `node_write::put_words` meets its contract: after m turns the words of the first m entries are put.
 -- Assumes nothing.
-use Prim.Native.Nat.{_-_, _+_}
+use Prim.Native.Nat.{_-_}
 use native.Mathlib.Omega.{arith}
 use denote.Ref.{now}
 use Rattle.pool.specs.Pool.{nodeIn}
@@ -11,13 +11,15 @@ use Rattle.node_write.proofs.put_words.Statement.{statement}
 use Rattle.node_write.proofs.put_words.Tie as tie
 
 abbrev Inv-loop : tie.InvT-loop
-Inv-loop kinds words number order n out₀ m₀ out m = EntriesPut wordBytes (entryBy (nodeIn kinds words) number order) n (4 + n) out₀ m out
+Inv-loop kinds words number order n first out₀ m₀ out m = EntriesPut wordBytes (entryBy (nodeIn kinds words) number order) n first out₀ m out
 
 abbrev μ-loop : tie.MeasureT-loop
-μ-loop kinds words number order n out₀ m₀ out m = n - m
+μ-loop kinds words number order n first out₀ m₀ out m = n - m
 
 loop-holds : tie.Need-loop-holds Inv-loop μ-loop
-loop-holds c = no-entries-put words-put (entryBy (nodeIn (now (c .before .args .kinds)) (now (c .before .args .words))) (now (c .before .args .number)) (now (c .before .args .order))) (c .before .args .n) (4 + c .before .args .n) _
+loop-holds c =
+    let start = c .before in
+    no-entries-put words-put (entryBy (nodeIn (now (start .args .kinds)) (now (start .args .words))) (now (start .args .number)) (now (start .args .order))) (start .args .n) (start .args .first) _
 
 entry-requires : tie.Need-entry-requires Inv-loop μ-loop
 entry-requires c κs = let listed = c .before .before .before .pre .0 in (omega (arith, listed .few, c .loop-test .taken), listed .parts-marked (c .before .loop .m) (c .loop-test .taken))
@@ -25,14 +27,11 @@ entry-requires c κs = let listed = c .before .before .before .pre .0 in (omega 
 word-of-requires : tie.Need-word-of-requires Inv-loop μ-loop
 word-of-requires c κs = tt
 
-add-put-bytes : tie.Need-add-put-bytes Inv-loop μ-loop
-add-put-bytes c = record { fits = omega (arith, c .before .before .before .before .before .before .pre .0 .few) }
-
 mul-put-bytes : tie.Need-mul-put-bytes Inv-loop μ-loop
 mul-put-bytes c = record { fits = omega (arith, c .before .before .before .before .before .before .pre .0 .few, c .before .before .before .loop-test .taken) }
 
-add-put-bytes-2 : tie.Need-add-put-bytes-2 Inv-loop μ-loop
-add-put-bytes-2 c = record { fits = omega (arith, c .before .before .before .before .before .before .pre .0 .few, c .before .before .before .loop-test .taken) }
+add-put-bytes : tie.Need-add-put-bytes Inv-loop μ-loop
+add-put-bytes c = record { fits = omega (arith, c .before .before .before .before .before .before .pre .0 .few, c .before .before .before .loop-test .taken) }
 
 put-bytes-requires : tie.Need-put-bytes-requires Inv-loop μ-loop
 put-bytes-requires c κs = omega (arith, c .before .before .before .before .loop .inv .long, c .before .before .before .before .before .before .pre .1, c .before .before .before .loop-test .taken)
@@ -61,9 +60,8 @@ put-words-spec =
     loop-holds
     entry-requires
     word-of-requires
-    add-put-bytes
     mul-put-bytes
-    add-put-bytes-2
+    add-put-bytes
     put-bytes-requires
     add-m
     loop-less

@@ -8,12 +8,15 @@ use denote.Ref.{now}
 use Rattle.pool.specs.Pool.{limit, nodeIn}
 use Rattle.shape.specs.Order.{numbered}
 use Rattle.node_walk.proofs.Visiting.{zeros-are-fresh}
-use Rattle.node_write.proofs.Written.{root-fits, pool-falls, all-listed, has-no-room, is-written}
+use Rattle.node_write.proofs.Written.{roots-fit, pool-falls, all-listed, has-no-room, is-written}
 use Rattle.node_write.proofs.write_file.Statement.{statement}
 use Rattle.node_write.proofs.write_file.Tie as tie
 
-number-from-requires : tie.Need-number-from-requires
-number-from-requires c κs = let has-root = c .before .before .before .pre in (root-fits has-root, (pool-falls has-root, zeros-are-fresh limit refl))
+slice-aggregate-number-all : tie.Need-slice-aggregate-number-all
+slice-aggregate-number-all c = search needs
+
+number-all-requires : tie.Need-number-all-requires
+number-all-requires c κs = let has-roots = c .before .before .before .before .pre in (roots-fit has-roots, (pool-falls has-roots, zeros-are-fresh limit refl))
 
 cast-n : tie.Need-cast-n
 cast-n c = search needs
@@ -26,41 +29,61 @@ add-length c = search needs
 
 returns : tie.Need-returns
 returns c =
-    let start = c .before .before .before .before .before in
-    has-no-room (now (start .args .kinds)) (now (start .args .words)) (start .args .root) (c .before .number-from .ensures) (now (start .args .out)) (c .if1 .taken)
+    let walked = c .before in
+    let start = walked .before .before .before .before .before in
+    has-no-room (now (start .args .kinds)) (now (start .args .words)) (start .args .root) (walked .number-all .ensures) (now (start .args .out)) (c .if1 .taken)
 
 put-bytes-requires : tie.Need-put-bytes-requires
 put-bytes-requires c κs = search needs
 
 put-kinds-requires : tie.Need-put-kinds-requires
 put-kinds-requires c κs =
-    let start = c .before .before .before .before .before .before .before .before .before .before .before .before in
-    (all-listed (nodeIn (now (start .args .kinds)) (now (start .args .words))) (numbered (nodeIn (now (start .args .kinds)) (now (start .args .words))) (start .args .root ∷ [])) _ _ _ (c .before .before .before .before .before .before .before .before .number-from .ensures), omega (arith, c .before .before .before .before .before .put-bytes .kept .0, c .before .before .before .before .before .before .before .if1 .left))
+    let size-put = c .before .before .before .before .before in
+    let fits = size-put .before .before in
+    let walked = fits .before in
+    let start = walked .before .before .before .before .before in
+    let p = nodeIn (now (start .args .kinds)) (now (start .args .words)) in
+    (all-listed p (numbered p (start .args .root ∷ [])) _ _ _ (walked .number-all .ensures), omega (arith, size-put .put-bytes .kept .0, fits .if1 .left))
+
+add-put-words : tie.Need-add-put-words
+add-put-words c = search needs
 
 put-words-requires : tie.Need-put-words-requires
 put-words-requires c κs =
-    let start = c .before .before .before .before .before .before .before .before .before .before .before .before .before .before .before .before .before .before in
-    (all-listed (nodeIn (now (start .args .kinds)) (now (start .args .words))) (numbered (nodeIn (now (start .args .kinds)) (now (start .args .words))) (start .args .root ∷ [])) _ _ _ (c .before .before .before .before .before .before .before .before .before .before .before .before .before .before .number-from .ensures), omega (arith, c .before .before .before .before .before .put-kinds .kept .1 .1 .1 .1 .1 .0, c .before .before .before .before .before .before .before .before .before .before .before .put-bytes .kept .0, c .before .before .before .before .before .before .before .before .before .before .before .before .before .if1 .left))
+    let kinds-put = c .before .before .before .before .before in
+    let size-put = kinds-put .before .before .before .before .before .before in
+    let fits = size-put .before .before in
+    let walked = fits .before in
+    let start = walked .before .before .before .before .before in
+    let p = nodeIn (now (start .args .kinds)) (now (start .args .words)) in
+    (all-listed p (numbered p (start .args .root ∷ [])) _ _ _ (walked .number-all .ensures), omega (arith, kinds-put .put-kinds .kept .1 .1 .1 .1 .1 .1 .0, size-put .put-bytes .kept .0, fits .if1 .left))
 
 same-length : tie.Need-same-length
 same-length c = search needs
 
 returns-2 : tie.Need-returns-2
 returns-2 c =
-    let start = c .before .before .before .before .before .before .before .before .before .before .before .before .before .before .before .before .before .before .before .before .before in
-    is-written (now (start .args .kinds)) (now (start .args .words)) (start .args .root) (c .before .before .before .before .before .before .before .before .before .before .before .before .before .before .before .before .before .number-from .ensures) (now (start .args .out)) (c .before .before .before .before .before .before .before .before .before .before .before .before .before .before .before .before .if1 .left) (c .before .before .before .before .before .before .before .before .before .before .before .before .before .before .put-bytes .ensures) (c .before .before .before .before .before .before .before .before .put-kinds .ensures) (c .before .before .put-words .ensures)
+    let words-put = c .before .before in
+    let kinds-put = words-put .before .before .before .before .before .before in
+    let size-put = kinds-put .before .before .before .before .before .before in
+    let fits = size-put .before .before in
+    let walked = fits .before in
+    let start = walked .before .before .before .before .before in
+    is-written (now (start .args .kinds)) (now (start .args .words)) (start .args .root) (walked .number-all .ensures) (now (start .args .out)) (fits .if1 .left) (size-put .put-bytes .ensures) (kinds-put .put-kinds .ensures) (words-put .put-words .ensures)
 
 pub write-file-spec : {M : Type 1} → statement M
 write-file-spec =
     tie.close
     (tie.spec
-    number-from-requires
+    slice-aggregate-number-all
+    number-all-requires
     cast-n
     mul-length
     add-length
     returns
     put-bytes-requires
     put-kinds-requires
+    add-put-words
     put-words-requires
     same-length
     returns-2)
