@@ -68,7 +68,7 @@ done-by {work} {ks} {ws} {n} {r} {ks′} {ws′} {n′} h = go (demand refused (
         never : r .series .order ≡ 0 → 1 ≤ r .series .order → ⊥
         never e l = omega arith
 
--- ---- what is left
+-- ---- what is returned
 
 -- the expansion that is read off an answer
 answer-is : {n : ℕ} (e : Expansion) → Fits n e → given (seriesOf e) ≡ e
@@ -78,7 +78,7 @@ answer-is (Polynomial cs) h =
     let list : isConstant (seriesOf (Polynomial cs)) ≡ false = ne-eqb (length cs) endless (λ e. omega arith) in
     rw list (ap Polynomial (take-at cs (replicate (terms - length cs) 0) (length cs) refl))
 
--- what holds of the work's expansion and pool holds of the answer and of the pool that is left
+-- what holds of the work's expansion and pool holds of the answer and of the pool that is returned
 pub holds-of-the-answer :
     {work : Work Expansion} {ks ws : List ℕ} {n : ℕ} {r : Outcome} {ks′ ws′ : List ℕ} {n′ : ℕ} (H : Pool → Expansion → Type 0)
     → (d : Done work ks ws n r ks′ ws′ n′) → Grown (lentPool ks ws n) (d .finish) → Fits (d .finish .count) (d .expansion) → H (d .finish) (d .expansion)

@@ -16,7 +16,7 @@ use Rattle.lent_series.specs.Call.{seriesOnPool}
 abbrev pub Array : Series → Type 0
 Array s = length (s .coeffs) ≡ terms
 
--- the call of this work on the lent tables ks, ws and count n left the outcome r, the tables ks′, ws′ and the count n′
+-- the call of this work on the lent tables ks, ws and count n returned the outcome r, the tables ks′, ws′ and the count n′
 pub record Answered (work : Work Expansion) (ks ws : List ℕ) (n : ℕ) (r : Outcome) (ks′ ws′ : List ℕ) (n′ : ℕ) : Type 0 where
   -- the contract of the call
   pub contract : returned r ks′ ws′ n′ ≡ seriesOnPool work ks ws n

@@ -1,4 +1,4 @@
--- Writing a node file as a call from outside: what is checked, and what is left in the lent output.
+-- Writing a node file as a call from outside: what is checked, and what the lent output then holds.
 -- Assumes nothing.
 use mathlib.Core.List.{List, [], _∷_}
 use Prim.Native.Nat.{ℕ}
