@@ -1,7 +1,6 @@
 -- The operations on expansions only append, as constructors and literals do; and so does the expansion of an expression.
 -- Assumes nothing.
 use mathlib.Core.Bool.{Bool, true, false, cond}
-use mathlib.Core.List.{List}
 use Prim.Native.Nat.{ℕ, zero, suc}
 use lib.Dec.{eqb}
 use lib.IntN.{pos}
@@ -12,7 +11,9 @@ use Rattle.pool.specs.Pool.{Pool, done, refused, nodeAt, limit}
 use Rattle.pool.specs.declared.node.Node.{Node}
 use Rattle.pool.specs.declared.node.Node.the-variants.{Empty, Variable, Lit, Add, Mul, Div, Exp, Log, Pow, Max}
 use Rattle.constructors.specs.Build.{depth}
+use Rattle.constructor_laws.specs.Grown as steps
 use Rattle.constructor_laws.specs.Grown.{Grown}
+use Rattle.constructor_laws.proofs.Going.{Going, Ways, then-goes, yield-goes, refuse-goes}
 pub use Rattle.constructor_laws.proofs.Growth.{Growing}
 use Rattle.constructor_laws.proofs.Growth.{_>>=_, grown-by-nothing, grown-by-both, literal-grows, append-grows, calls-grow}
 use Rattle.taylor.specs.Work.{Result, Work}
@@ -103,44 +104,40 @@ pub subst-grows : (outer inner : Expansion) → Growing (subst outer inner)
 subst-grows outer inner = growing (subst-holds every outer inner)
 
 -- ---- the expansion of an expression
-abbrev GrowsWalk : Pool → Went → Type 0
-GrowsWalk P (done e S) = Grown P (S .pool)
-GrowsWalk P (refused k) = Unit {0}
 
-record GrowingWalk (w : Walk) : Type 0 where
-  grows : (S : State) → GrowsWalk (S .pool) (w S)
+-- the pool of the one state has grown into that of the other
+abbrev GrownPool : State → State → Type 0
+GrownPool S T = Grown (S .pool) (T .pool)
 
-walk-from : {P Q : Pool} → Grown P Q → (w : Went) → GrowsWalk Q w → GrowsWalk P w
-walk-from g (done e S) h = grown-by-both g h
-walk-from g (refused k) h = tt
+pool-ways : Ways GrownPool
+pool-ways = record { by-nothing = λ S. grown-by-nothing (S .pool); by-both = λ g h. grown-by-both g h }
 
-then-grows : (P : Pool) (w : Went) {next : Expansion → Walk} → GrowsWalk P w → ((e : Expansion) → GrowingWalk (next e)) → GrowsWalk P (walk.bind w next)
-then-grows P (done e S) {next} g h = walk-from g (next e S) (h e .grows S)
-then-grows P (refused k) g h = tt
+abbrev GrowingWalk : Walk → Type 0
+GrowingWalk walk = Going GrownPool walk
 
 infixl 1 _>>_
 _>>_ : {w : Walk} {next : Expansion → Walk} → GrowingWalk w → ((e : Expansion) → GrowingWalk (next e)) → GrowingWalk (λ S. walk.bind (w S) next)
-_>>_ {w} g h = record { grows = λ S. then-grows (S .pool) (w S) (g .grows S) h }
+g >> h = then-goes pool-ways g h
 
 stays : (e : Expansion) → GrowingWalk (walk.yield e)
-stays e = record { grows = λ S. grown-by-nothing (S .pool) }
+stays e = yield-goes pool-ways e
 
 ends : (k : ℕ) → GrowingWalk (walk.refuse k)
-ends k = record { grows = λ S. tt }
+ends k = refuse-goes k
 
 lift-grows : {work : Work Expansion} → Growing work → GrowingWalk (lift work)
-lift-grows {work} g = record { grows = λ S. go (S .pool) (S .results) (work (S .pool)) (g .grows (S .pool)) }
+lift-grows {work} g = record { grows = λ S. go S (work (S .pool)) (g .grows (S .pool)) }
   where
-    go : (P : Pool) (results : List Kept) (x : Result Expansion) → Grows P x → GrowsWalk P (lifted results x)
-    go P results (done e Q) h = h
-    go P results (refused k) h = tt
+    go : (S : State) (x : Result Expansion) → Grows (S .pool) x → steps.Goes GrownPool S (lifted (S .results) x)
+    go S (done e Q) h = h
+    go S (refused k) h = tt
 
 keep-grows : (i : ℕ) (e : Expansion) → GrowingWalk (keep i e)
 keep-grows i e = record { grows = λ S. grown-by-nothing (S .pool) }
 
 module _ (v : ℕ) (x : Point) (order : ℕ) where
   point-grows : (x : Point) → Growing (pointNode v x)
-  point-grows none = (append-grows (Variable v))
+  point-grows none = append-grows (Variable v)
   point-grows (point z) = literal-grows (folded z)
 
   variable-grows : (t : Bool) (term : ℕ) → GrowingWalk (ofVariable t term v x order)
@@ -173,17 +170,19 @@ module _ (v : ℕ) (x : Point) (order : ℕ) where
       visits : Walk
       visits S = once (expandAt v x order (expandBelow v x order k)) k (getD (S .results) k walk.nothing) S
 
-      here : ((i : ℕ) → GrowingWalk (expandBelow v x order k i)) → (S : State) → GrowsWalk (S .pool) (visits S)
+      here : ((i : ℕ) → GrowingWalk (expandBelow v x order k i)) → (S : State) → steps.Goes GrownPool S (visits S)
       here g S = once-grows (expandAt v x order (expandBelow v x order k)) k (record { grows = λ T. node-walk-grows g k (nodeAt (T .pool) k) .grows T }) (getD (S .results) k walk.nothing) .grows S
 
-      go : (S : State) (t : Bool) (a b : Went) → GrowsWalk (S .pool) a → GrowsWalk (S .pool) b → GrowsWalk (S .pool) (cond t a b)
+      go : (S : State) (t : Bool) (a b : Went) → steps.Goes GrownPool S a → steps.Goes GrownPool S b → steps.Goes GrownPool S (cond t a b)
       go S true a b g h = g
       go S false a b g h = h
 
 pub expand-grows : (root v : ℕ) (x : Point) (order : ℕ) → Growing (expand root v x order)
-expand-grows root v x order =
-    record { grows = λ P. go P (expandBelow v x order (suc root) root (state P (replicate limit walk.nothing))) (below-grows v x order (suc root) root .grows (state P (replicate limit walk.nothing))) }
+expand-grows root v x order = record { grows = λ P. from (state P (replicate limit walk.nothing)) }
   where
-    go : (P : Pool) (w : Went) → GrowsWalk P w → Grows P (expanded w)
-    go P (done e S) h = h
-    go P (refused k) h = tt
+    go : (S : State) (w : Went) → steps.Goes GrownPool S w → Grows (S .pool) (expanded w)
+    go S (done e T) h = h
+    go S (refused k) h = tt
+
+    from : (S : State) → Grows (S .pool) (expanded (expandBelow v x order (suc root) root S))
+    from S = go S (expandBelow v x order (suc root) root S) (below-grows v x order (suc root) root .grows S)

@@ -3,7 +3,6 @@
 use mathlib.Core.Path.{_≡_, refl, sym, ap, _∙_, subst}
 use mathlib.Core.Bool.{Bool, true, false, cond}
 use Prim.Native.Nat.{ℕ, suc, _^_, _≤_, _<_}
-use native.Mathlib.Omega.{arith}
 use lib.Dec.{eqb}
 use Rattle.pool.specs.declared.node.Node.{Node}
 use Rattle.pool.specs.declared.node.Node.the-variants.{Empty, Variable, Lit, Add, Mul, Div, Exp, Log, Pow, Max}
@@ -12,7 +11,7 @@ use Rattle.pool.specs.Pool.{Pool, nodeAt}
 use Rattle.constructor_laws.specs.Keeps.{Keeps}
 use Rattle.constructor_laws.proofs.Growth.{earlier-same}
 use Rattle.taylor.specs.Work.{bind}
-use Rattle.taylor.specs.Expansion.{Expansion, var, addTo, times, quotient, exponential, logarithm, power}
+use Rattle.taylor.specs.Expansion.{var, addTo, times, quotient, exponential, logarithm, power}
 use Rattle.taylor.specs.Expand.{State, Went, Walk, Point, none, point, pointNode, ofVariable, expandNode, expandAt, expand}
 use Rattle.taylor.specs.Expand as walk
 use Rattle.constructor_laws.proofs.Giving.{Gives, gives-next}

@@ -1,7 +1,7 @@
 -- Sums, differences and products of expansions have the coefficients that the book's recurrences give, of constants and of lists.
 -- Assumes nothing.
 use mathlib.Core.Path.{_≡_, refl, sym, ap, _∙_}
-use mathlib.Core.List.{List, [], _∷_}
+use mathlib.Core.List.{List, []}
 use Prim.Native.Nat.{ℕ, zero, suc, _+_, _-_, _≤_, _<_, min}
 use native.Mathlib.Omega.{arith}
 use lib.IntN.{pos, negsuc}
@@ -9,7 +9,7 @@ use lib.ListN.{length, length-replicate}
 use Rattle.pool.specs.Pool.{Pool}
 use Rattle.constructor_laws.specs.Grown.{Grown}
 use Rattle.constructor_laws.specs.Keeps.{Keeps}
-use Rattle.taylor.specs.Work.{Result, Work, bind, yield, add, sub}
+use Rattle.taylor.specs.Work.{Result, bind, yield, add, sub}
 use Rattle.taylor.specs.Expansion.{Expansion, Constant, Polynomial, var, addTo, negate, subFrom, productAt, times}
 use Rattle.constructor_laws.proofs.Giving.{Aims, Gives, gives-weaker, gives-here, gives-next}
 use Rattle.taylor_laws.proofs.Lists.{Shows, shows-later, shows-none, shows-cons, shows-repeated, ShowsLong, each-gives, each-two-gives, first-gives, fold-gives, fill-gives}

@@ -4,7 +4,7 @@ use mathlib.Core.Path.{_≡_}
 use Prim.Native.Nat.{ℕ, suc, _^_, min, _≤_, _<_}
 use native.Mathlib.Nat.{le-refl}
 use Rattle.pool.specs.Nodes.{greatestVariable}
-use Rattle.pool.specs.Pool.{Pool, done, refused}
+use Rattle.pool.specs.Pool.{Pool}
 use Rattle.constructor_laws.specs.Keeps.{Keeps}
 use Rattle.constructor_laws.proofs.Rules.{all-below, below-all}
 use Rattle.constructor_laws.proofs.Giving.{gave, ended, gives-kept}

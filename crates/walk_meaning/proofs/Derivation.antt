@@ -9,12 +9,12 @@ use Rattle.literal.specs.Literal.{folded}
 use Rattle.pool.specs.declared.node.Node.{Node}
 use Rattle.pool.specs.declared.node.Node.the-variants.{Empty, Variable, Lit, Add, Mul, Div, Exp, Log, Pow, Max}
 use Rattle.pool.specs.Nodes.{parts}
-use Rattle.pool.specs.Pool.{Pool, done, Run, nodeAt}
+use Rattle.pool.specs.Pool.{Pool, done, nodeAt}
 use Rattle.constructors.specs.Build.{calls, depth, literal}
 use Rattle.constructor_laws.specs.Keeps.{Keeps}
 use Rattle.constructor_laws.proofs.Growth.{earlier-same}
 use Rattle.constructor_laws.proofs.Rules.{AllBelow, parts-below}
-use Rattle.walks.specs.Walk.{State, Went, Walk, bind, lift}
+use Rattle.walks.specs.Walk.{State, Went, Walk, bind}
 use Rattle.walks.specs.Derive.{lit, add, mul, div, neg, pow, quotientRule, deriveNode, deriveAt, derive}
 use Rattle.walk_laws.proofs.Walking.{Good, Walked, ended-walk, Walks, walked-next, both-walked, lift-walked, walk-gives}
 use Rattle.meaning.specs.Model.{Algebra, Model, power}
