@@ -70,7 +70,7 @@ module _ {A : Algebra} (M : Model A) (env : Values A) where
 
   -- one formula that was worked, its nodes having the values that they have in the end
   pub worked-has-its-value : (f : Formula) (P : Pool) {c : ℕ} {Q : Pool} → Keeps P → Stands P f → work f P ≡ done c Q → val Q c ≡ formulaValue A (val Q) f
-  worked-has-its-value f P k h e = let g = accepted (work-has-its-value M env f P k h) e in g .is .is ∙ sym (formula-kept M env k (g .grown) f h)
+  worked-has-its-value f P k h e = let g = accepted (work-has-its-value M env f P k h) e in g .is .is ∙ sym (formula-kept A env k (g .grown) f h)
 
   -- one formula more, worked first
   module _
@@ -106,7 +106,7 @@ module _ {A : Algebra} (M : Model A) (env : Values A) where
       where
         each : (i : ℕ) → i < length (f ∷ fs) → Has A env Q (at (c ∷ cs) i) (formulaValue A (val Q) (getD (f ∷ fs) i (whole 0)))
         each zero l =
-            has-same (sym (formula-kept M env k (grown-by-both (first-gave .grown) (tail .grown)) f first-stands)) (has-later (first-gave .keeps) (tail .grown) (first-gave .is))
+            has-same (sym (formula-kept A env k (grown-by-both (first-gave .grown) (tail .grown)) f first-stands)) (has-later (first-gave .keeps) (tail .grown) (first-gave .is))
         each (suc i) l = tail .each i (omega arith)
 
   -- formulas that have their values, whenever they are worked in turn

@@ -58,15 +58,16 @@ formula-same A p q (f ⊟ g) h = same-op (minus A) (formula-same A p q f (h .0))
 formula-same A p q (Exp f) h = ap (A .exp) (formula-same A p q f h)
 formula-same A p q (Log f) h = ap (A .log) (formula-same A p q f h)
 
+stands-later : {P Q : Pool} → Grown P Q → (f : Formula) → Stands P f → Stands Q f
+stands-later g f h = names-more (λ i l. omega (arith, g .no-fewer)) f h
+
+-- it keeps its value as the pool grows
+pub formula-kept : (A : Algebra) (env : Values A) {P Q : Pool} → Keeps P → Grown P Q → (f : Formula) → Stands P f → formulaValue A (value A env (nodeAt Q)) f ≡ formulaValue A (value A env (nodeAt P)) f
+formula-kept A env {P} {Q} k g f h = formula-same A (value A env (nodeAt Q)) (value A env (nodeAt P)) f (names-more (value-kept A env k g) f h)
+
 module _ {A : Algebra} (M : Model A) (env : Values A) where
   abbrev val : Pool → ℕ → A .carrier
   val P i = value A env (nodeAt P) i
-
-  stands-later : {P Q : Pool} → Grown P Q → (f : Formula) → Stands P f → Stands Q f
-  stands-later g f h = names-more (λ i l. omega (arith, g .no-fewer)) f h
-
-  pub formula-kept : {P Q : Pool} → Keeps P → Grown P Q → (f : Formula) → Stands P f → formulaValue A (val Q) f ≡ formulaValue A (val P) f
-  formula-kept {P} {Q} k g f h = formula-same A (val Q) (val P) f (names-more (value-kept A env k g) f h)
 
   -- a formula that is worked has its value
   abbrev Worked : Formula → Type 0
@@ -80,7 +81,7 @@ module _ {A : Algebra} (M : Model A) (env : Values A) where
   two-worked of f g last first second P k hf hg =
       gives-next (first P k hf) (λ a Q kQ gQ ha.
       gives-next (second Q kQ (stands-later gQ g hg)) (λ b R kR gR hb.
-      last R a b _ _ kR (has-later kQ gR ha) (has-same (formula-kept k gQ g hg) hb)))
+      last R a b _ _ kR (has-later kQ gR ha) (has-same (formula-kept A env k gQ g hg) hb)))
 
   pub work-has-its-value : (f : Formula) → Worked f
   unfolding work formulaValue

@@ -27,25 +27,25 @@ use Rattle.taylor_meaning.proofs.Elementary.{exponential-gives, logarit
 use Rattle.taylor_meaning.proofs.Quotients.{quotient-gives}
 use Rattle.taylor_meaning.proofs.Powers.{power-gives}
 
+-- what a node asks of the algebra: a quotient that it has fractions, a power that its exponent has 32 bits
+abbrev pub Allowed : Algebra → Node → Type 0
+Allowed A Empty = Unit {0}
+Allowed A (Variable u) = Unit {0}
+Allowed A (Lit z) = Unit {0}
+Allowed A (Add a b) = Unit {0}
+Allowed A (Mul a b) = Unit {0}
+Allowed A (Div a b) = Fractions A
+Allowed A (Exp a) = Unit {0}
+Allowed A (Log a) = Unit {0}
+Allowed A (Pow a e) = e < 2 ^ 32
+Allowed A (Max a b) = Unit {0}
+
 module _ {A : Algebra} (M : Model A) (D : Distributive A) (env : Values A) {P₀ : Pool} (keeps : Keeps P₀) (v : ℕ) (known : v ≤ greatestVariable) (x : Point) (order : ℕ) where
   abbrev goal : ℕ → Series A
   goal i = value (series A) (asSeries A env v x) (nodeAt P₀) i
 
   abbrev n : ℕ
   n = suc order
-
-  -- what a node asks of the algebra: a quotient that it has fractions, a power that its exponent has 32 bits
-  abbrev pub Allowed : Node → Type 0
-  Allowed Empty = Unit {0}
-  Allowed (Variable u) = Unit {0}
-  Allowed (Lit z) = Unit {0}
-  Allowed (Add a b) = Unit {0}
-  Allowed (Mul a b) = Unit {0}
-  Allowed (Div a b) = Fractions A
-  Allowed (Exp a) = Unit {0}
-  Allowed (Log a) = Unit {0}
-  Allowed (Pow a e) = e < 2 ^ 32
-  Allowed (Max a b) = Unit {0}
 
   abbrev Fit : State → Type 0
   Fit = Good (expanding A env n) P₀ goal
@@ -66,7 +66,7 @@ module _ {A : Algebra} (M : Model A) (D : Distributive A) (env : Values A) {P₀
   from-parts : (i : ℕ) {y : Node} → nodeAt P₀ i ≡ y → value A env (nodeAt P₀) i ≡ valueNode A env (value A env (nodeAt P₀)) y
   from-parts i e = value-law A env (nodeAt P₀) (falling keeps) i ∙ ap (valueNode A env (value A env (nodeAt P₀))) e
 
-  module _ (C : ℕ → Type 0) (inside : (i : ℕ) → C i → i < P₀ .count) (closed : (i : ℕ) → C i → Each C (parts (nodeAt P₀ i))) (allowed : (i : ℕ) → C i → Allowed (nodeAt P₀ i)) where
+  module _ (C : ℕ → Type 0) (inside : (i : ℕ) → C i → i < P₀ .count) (closed : (i : ℕ) → C i → Each C (parts (nodeAt P₀ i))) (allowed : (i : ℕ) → C i → Allowed A (nodeAt P₀ i)) where
     module _ {down : ℕ → Walk} (walks : Walks (expanding A env n) P₀ goal C down) (term : ℕ) (c : C term) where
       variable-walked : (u : ℕ) → nodeAt P₀ term ≡ Variable u → (S : State) → Fit S → (t : Bool) → Comes S (cond t (shifted A (base A env v x)) (constantSeries A (env u))) (ofVariable t term v x order S)
       unfolding valueNode
@@ -74,7 +74,7 @@ module _ {A : Algebra} (M : Model A) (D : Distributive A) (env : Values A) {P₀
           lift-walked (λ P. bind (pointNode v x P) (λ p. var p order)) good (gives-next (point-gives (good .keeps) x) (λ p Q kQ gQ hp. var-gives M env p order kQ hp))
       variable-walked u e S good false = walked-here good (constant (stands good term (inside term c) (from-parts term e)) (λ k. refl))
 
-      node-walked : (y : Node) → nodeAt P₀ term ≡ y → Each C (parts y) → Allowed y → (S : State) → Fit S → Comes S (valueNode (series A) (asSeries A env v x) goal y) (expandNode v x order down term y S)
+      node-walked : (y : Node) → nodeAt P₀ term ≡ y → Each C (parts y) → Allowed A y → (S : State) → Fit S → Comes S (valueNode (series A) (asSeries A env v x) goal y) (expandNode v x order down term y S)
       unfolding valueNode
       node-walked Empty e l ok S good = ended-walk
       node-walked (Variable u) e l ok S good = variable-walked u e S good (eqb u v)
@@ -93,7 +93,7 @@ module _ {A : Algebra} (M : Model A) (D : Distributive A) (env : Values A) {P₀
           walked-next (walks a ca S good) (λ s T good-T gT hs. lift-walked (power s m) good-T (power-gives M D env m ok (good-T .keeps) hs))
       node-walked (Max a b) e l ok S good = ended-walk
 
-      here-walked : (y : Node) → nodeAt P₀ term ≡ y → Each C (parts y) → Allowed y → (S : State) → Fit S → Comes S (goal term) (expandNode v x order down term y S)
+      here-walked : (y : Node) → nodeAt P₀ term ≡ y → Each C (parts y) → Allowed A y → (S : State) → Fit S → Comes S (goal term) (expandNode v x order down term y S)
       here-walked y e l ok S good =
           subst (λ f. Comes S f (expandNode v x order down term y S))
           (sym (value-law (series A) (asSeries A env v x) (nodeAt P₀) (falling keeps) term ∙ ap (valueNode (series A) (asSeries A env v x) goal) e))

@@ -70,7 +70,7 @@ module _ {A : Algebra} (M : Model A) (D : Distributive A) where
       (λ f g i c same. node-in-ring env f (g tt) (at i) (p i c) (each-had (parts (at i)) (λ a m. same a (part c m)))) r (root (here r []))
 
   module _ (env : Values A) {P : Pool} (keeps : Keeps P) (v : ℕ) (known : v ≤ greatestVariable) (x : Point) (order : ℕ) where
-    plain-allowed : (y : Node) → Short y → PlainNode y → Allowed M D env keeps v known x order y
+    plain-allowed : (y : Node) → Short y → PlainNode y → Allowed A y
     plain-allowed Empty h p = absurd p
     plain-allowed (Variable u) h p = tt
     plain-allowed (Lit z) h p = tt

@@ -152,7 +152,7 @@ module _ {A : Algebra} (M : Model A) (env : Values A) where
     -- ---- expressions
 
     module _ (D : Distributive A) (v : ℕ) (known : v ≤ greatestVariable) (x : Point) (order : ℕ) where
-      short-allowed : Fractions A → (y : Node) → Short y → Allowed M D env keeps v known x order y
+      short-allowed : Fractions A → (y : Node) → Short y → Allowed A y
       short-allowed fractions Empty h = tt
       short-allowed fractions (Variable u) h = tt
       short-allowed fractions (Lit z) h = tt
