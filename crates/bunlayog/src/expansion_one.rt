@@ -2,7 +2,7 @@
 ghost use mathlib.Core.Path.{_≡_};
 ghost use Rattle.lent_series.specs.Call.{seriesOnPool};
 ghost use Rattle.engine_series.specs.Operations.{negCall, expCall, logCall, powCall};
-ghost use Rattle.engine_given.specs.Variable.{variableWork};
+ghost use Rattle.engine_given.specs.Variable.{varCall};
 ghost use Rattle.c_answers.specs.Expansions.{series, seriesReturnedInC, seriesInC};
 use c_answers::outcome_answered;
 use lent_series::Series;
@@ -120,7 +120,7 @@ pub extern "C" fn bunlayog_taylor_var(
     order_out: &mut u64,
     coeffs_out: &mut [u64; TERMS],
 ) -> u32
-    ensures { λ r. ⌜ seriesReturnedInC r (now (kinds .exit)) (now (words .exit)) (now (count .exit)) (now («order_out» .exit)) (now («coeffs_out» .exit)) ≡ seriesInC (now («order_out» .entry)) (now («coeffs_out» .entry)) (seriesOnPool (variableWork x order) (now (kinds .entry)) (now (words .entry)) (now (count .entry))) ⌝ }
+    ensures { λ r. ⌜ seriesReturnedInC r (now (kinds .exit)) (now (words .exit)) (now (count .exit)) (now («order_out» .exit)) (now («coeffs_out» .exit)) ≡ seriesInC (now («order_out» .entry)) (now («coeffs_out» .entry)) (seriesOnPool (varCall x order) (now (kinds .entry)) (now (words .entry)) (now (count .entry))) ⌝ }
 {
     outcome_answered(
         engine_given::var(kinds, words, count, x, order),

@@ -3,14 +3,12 @@
 use mathlib.Core.List.{[], _∷_}
 use Prim.Native.Nat.{ℕ}
 use lib.Dec.{ltb}
-use Rattle.refusals.specs.Refusals.{unknownNode, wrongOrder}
-use Rattle.pool.specs.Nodes.{allBelow}
-use Rattle.pool.specs.Pool.{refused}
 use Rattle.taylor.specs.Work.{Work}
 use Rattle.taylor.specs.Expansion.{Expansion, var}
 use Rattle.taylor_base.specs.Answers.{terms}
-use Rattle.lent.specs.Call.{demand}
+use Rattle.lent.specs.Call.{givenNodes}
+use Rattle.lent_series.specs.Call.{givenOrder}
 
 -- 5. "An order is above 24"
-abbrev pub variableWork : ℕ → ℕ → Work Expansion
-variableWork x n P = demand refused (allBelow (P .count) (x ∷ [])) unknownNode (demand refused (ltb n terms) wrongOrder (var x n P))
+abbrev pub varCall : ℕ → ℕ → Work Expansion
+varCall x n = givenNodes (x ∷ []) (givenOrder (ltb n terms) (var x n))

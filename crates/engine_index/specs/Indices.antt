@@ -3,13 +3,12 @@
 use mathlib.Core.Bool.{Bool, _&&_, _||_}
 use Prim.Native.Nat.{ℕ}
 use lib.Dec.{ltb}
-use Rattle.refusals.specs.Refusals.{unknownNode, wrongOrder}
-use Rattle.pool.specs.Nodes.{allBelow}
-use Rattle.pool.specs.Pool.{Run, refused}
+use Rattle.pool.specs.Pool.{Run}
 use Rattle.taylor.specs.Expansion.{Expansion, coeff, derivative}
-use Rattle.lent.specs.Call.{demand}
+use Rattle.lent.specs.Call.{givenNodes}
 use Rattle.lent_series.specs.declared.series.Series.{Series}
 use Rattle.lent_series.specs.Series.{isConstant, nodesOf, lengthOk, given}
+use Rattle.lent_series.specs.Call.{givenOrder}
 use Rattle.engine_index.specs.declared.Indexed.{Indexed}
 use Rattle.engine_index.specs.declared.Indexed.the-variants as indexed
 
@@ -22,7 +21,7 @@ abbrev pub hasIndex : Series → ℕ → Bool
 hasIndex s k = lengthOk s && (isConstant s || ltb k (s .order))
 
 abbrev pub givenIndex : Series → ℕ → Run → Run
-givenIndex s k work P = demand refused (allBelow (P .count) (nodesOf s)) unknownNode (demand refused (hasIndex s k) wrongOrder (work P))
+givenIndex s k work = givenNodes (nodesOf s) (givenOrder (hasIndex s k) work)
 
 abbrev pub onIndex : Indexed → Series → ℕ → Run
 onIndex op s k = givenIndex s k (indexedWork op (given s) k)

@@ -16,7 +16,7 @@ use Rattle.engine_series.specs.Operations.{onExpansion}
 use Rattle.engine_series.specs.declared.Unary.the-variants as unary
 use Rattle.engine_index.specs.Indices.{onIndex}
 use Rattle.engine_index.specs.declared.Indexed.the-variants as indexed
-use Rattle.engine_given.specs.Variable.{variableWork}
+use Rattle.engine_given.specs.Variable.{varCall}
 use Rattle.engine_pairs.specs.Pairs.{onExpansions}
 use Rattle.engine_pairs.specs.declared.binary.Binary.the-variants as binary
 use Rattle.engine_expand.specs.Expressions.{expandWork}
@@ -96,8 +96,8 @@ pub record Arguments : Type 0 where
   -- 5. "An order is above 24"
   pub order-24 : expanded (expandWork 0 0 none 24) x0 ≡ gives 25
   pub order-25 : expanded (expandWork 0 0 none 25) x0 ≡ refuses 5
-  pub var-of-order-24 : expanded (variableWork 0 24) x0 ≡ gives 25
-  pub var-of-order-25 : expanded (variableWork 0 25) x0 ≡ refuses 5
+  pub var-of-order-24 : expanded (varCall 0 24) x0 ≡ gives 25
+  pub var-of-order-25 : expanded (varCall 0 25) x0 ≡ refuses 5
   -- "an expansion's list has 0 or more than 25 entries"
   pub entries-0 : listed (listOf 0) x0 ≡ refuses 5
   pub entries-1 : listed (listOf 1) x0 ≡ gives 1

@@ -22,7 +22,7 @@ use Rattle.lent_series.specs.declared.series.Series.{Series}
 use Rattle.lent_series.specs.Series.{nodesOf, lengthOk, given}
 use Rattle.lent_series.specs.Call.{accepted, refusedOutcome, seriesOnPool, givenSeries, givenTwo}
 use Rattle.engine_index.specs.Indices.{hasIndex, givenIndex}
-use Rattle.engine_given.specs.Variable.{variableWork}
+use Rattle.engine_given.specs.Variable.{varCall}
 use Rattle.engine_given.specs.Read.{counted, countOf, expansionOr, coefficientsOf}
 use Rattle.engine_pairs.specs.Pairs.{agree}
 use Rattle.engine_expand.specs.Expressions.{expandWork}
@@ -120,7 +120,7 @@ module _ (ks ws : List ℕ) (n : ℕ) (fit : (i : ℕ) → getD ws i 0 < 2 ^ 64)
   of-series =
       let E : KeepsRules P → OfExpansions P = of-expansions P in
       record {
-        var-call = λ x order. series-call table.of-var (variableWork x order) (three-checks (allBelow n (x ∷ [])) (ltb order terms) (var x order) (λ r. E r .var-meets x order));
+        var-call = λ x order. series-call table.of-var (varCall x order) (three-checks (allBelow n (x ∷ [])) (ltb order terms) (var x order) (λ r. E r .var-meets x order));
         coeff-call = λ s k. index-call s k (coeff (given s) k) (λ r. E r .coeff-meets (given s) k);
         derivative-call = λ s k. index-call s k (derivative (given s) k) (λ r. E r .derivative-meets (given s) k);
         order-call = order-answers;

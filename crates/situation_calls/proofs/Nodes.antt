@@ -29,9 +29,8 @@ use Rattle.walks.specs.Print.{textOf, hasMax}
 use Rattle.shape.specs.Demand.{KeepsRules}
 use Rattle.shape.specs.Shape.{rename}
 use Rattle.shape.specs.File.{sizeOf, entryOf, isSized, areNodes, isInOrder, passes, appendFirst, appendShifted, writtenFile, readFile}
-use Rattle.lent.specs.Call.{demand, leaves, lentPool, onPool, givenNodes}
+use Rattle.lent.specs.Call.{demand, leaves, lentPool, onPool, givenNodes, givenVariable}
 use Rattle.lent.specs.declared.Answer.the-variants as answer
-use Rattle.engine_walk.specs.Walks.{givenVariable}
 use Rattle.engine_values.specs.Values.{mostValues, areResidues, evaluateCall, evaluateResidueCall}
 use Rattle.lent.specs.Writing.{Put, unwritten, writes}
 use Rattle.engine_print.specs.Printing.{textFits, printCall}

@@ -33,7 +33,7 @@ use Rattle.lent_series.specs.Call.{accepted, seriesOnPool, givenSeries, givenTw
 use Rattle.engine_index.specs.Indices.{hasIndex, givenIndex}
 use Rattle.engine_given.specs.declared.read.Counted.{Counted}
 use Rattle.engine_given.specs.declared.read.Counted.the-variants as counted
-use Rattle.engine_given.specs.Variable.{variableWork}
+use Rattle.engine_given.specs.Variable.{varCall}
 use Rattle.engine_given.specs.Read.{countOf, coefficientsOf}
 use Rattle.engine_pairs.specs.Pairs.{agree}
 use Rattle.engine_expand.specs.Expressions.{expandWork}
@@ -120,7 +120,7 @@ twoTested ks ws n s t fits = isPool ks ws n ∷ (allBelow n (nodesOf s) && allBe
 
 -- ---- every call on expansions
 pub record OfSeries (ks ws : List ℕ) (n : ℕ) : Type 0 where
-  pub var-call : (x order : ℕ) → ExpansionByTable table.of-var (isPool ks ws n ∷ allBelow n (x ∷ []) ∷ ltb order terms ∷ []) (seriesOnPool (variableWork x order) ks ws n .answer)
+  pub var-call : (x order : ℕ) → ExpansionByTable table.of-var (isPool ks ws n ∷ allBelow n (x ∷ []) ∷ ltb order terms ∷ []) (seriesOnPool (varCall x order) ks ws n .answer)
   pub coeff-call : (s : Series) (k : ℕ) → ByTable table.of-coeff (oneTested ks ws n s (hasIndex s k)) (refusalOf (givenIndex s k (coeff (given s) k)) ks ws n)
   pub derivative-call : (s : Series) (k : ℕ) → ByTable table.of-derivative (oneTested ks ws n s (hasIndex s k)) (refusalOf (givenIndex s k (derivative (given s) k)) ks ws n)
   pub order-call : (s : Series) → ByTable table.of-order (oneTested ks ws n s (lengthOk s)) (ofCounted (countOf ks ws n s))

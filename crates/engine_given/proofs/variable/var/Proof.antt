@@ -11,7 +11,7 @@ use Rattle.taylor_base.specs.Answers.{terms}
 use Rattle.taylor_laws.proofs.Growing.{var-grows}
 use Rattle.lent.proofs.Calling.{test-fails, test-holds, met, broken, demanded, sizes, one-fits, on-lent, may-finish, worked}
 use Rattle.lent_series.specs.Call.{accepted, refusedOutcome}
-use Rattle.engine_given.specs.Variable.{variableWork}
+use Rattle.engine_given.specs.Variable.{varCall}
 use Rattle.engine_given.proofs.variable.var.Statement.{statement}
 use Rattle.engine_given.proofs.variable.var.Tie as tie
 
@@ -31,7 +31,7 @@ returns : tie.Need-returns
 returns c =
     let start = c .before .before .before .before .before .before .before .before .before .before in
     let a = start .args in
-    rw (c .refused .ensures) (broken (c .before .before .take-in .ensures) accepted refusedOutcome limit (variableWork (a .x) (a .order)) (not-true _ (c .before .if1 .taken)))
+    rw (c .refused .ensures) (broken (c .before .before .take-in .ensures) accepted refusedOutcome limit (varCall (a .x) (a .order)) (not-true _ (c .before .if1 .taken)))
 
 one-given-requires : tie.Need-one-given-requires
 one-given-requires c κs = search needs
@@ -51,7 +51,7 @@ returns-2 c =
     let start = in-pool .before .before .before .before .before .before .before .before .before in
     let a = start .args in
     rw (c .refused2 .ensures)
-    (demanded (in-pool .before .take-in .ensures) (not-false _ (in-pool .if1 .left)) accepted refusedOutcome limit (variableWork (a .x) (a .order)) (rw (test-fails (c .before .before .one-given .ensures) (c .before .if2 .taken))))
+    (demanded (in-pool .before .take-in .ensures) (not-false _ (in-pool .if1 .left)) accepted refusedOutcome limit (varCall (a .x) (a .order)) (rw (test-fails (c .before .before .one-given .ensures) (c .before .if2 .taken))))
 
 refused-requires-3 : tie.Need-refused-requires-3
 refused-requires-3 c κs = search needs
@@ -70,7 +70,7 @@ returns-3 c =
     let a = start .args in
     let below = test-holds (given .before .one-given .ensures) (given .if2 .left) in
     rw (c .refused3 .ensures)
-    (demanded (in-pool .before .take-in .ensures) (not-false _ (in-pool .if1 .left)) accepted refusedOutcome limit (variableWork (a .x) (a .order)) (rw (below, le-ltb (a .order) terms (c .before .if3 .taken))))
+    (demanded (in-pool .before .take-in .ensures) (not-false _ (in-pool .if1 .left)) accepted refusedOutcome limit (varCall (a .x) (a .order)) (rw (below, le-ltb (a .order) terms (c .before .if3 .taken))))
 
 cast-room-between : tie.Need-cast-room-between
 cast-room-between c =
@@ -129,7 +129,7 @@ returns-4 c =
     let a = start .args in
     let below = test-holds (given .before .one-given .ensures) (given .if2 .left) in
     let is = on-lent taken pool-taken (var (a .x) (a .order)) (room .room-between .ensures) (work .var-in .ensures .is) in
-    worked taken pool-taken accepted refusedOutcome limit (variableWork (a .x) (a .order)) (done .finish .ensures) (is ∙ met wrongOrder (lt-ltb (a .order) terms (ordered .if3 .left)) ∙ met unknownNode below)
+    worked taken pool-taken accepted refusedOutcome limit (varCall (a .x) (a .order)) (done .finish .ensures) (is ∙ met wrongOrder (lt-ltb (a .order) terms (ordered .if3 .left)) ∙ met unknownNode below)
 
 pub var-spec : {M : Type 1} → statement M
 var-spec =
