@@ -2,8 +2,9 @@
 -- Assumes nothing.
 use Prim.Native.Nat.{ℕ, _+_, _*_, _<_}
 use mathlib.Core.Path.{refl, _∙_}
+use mathlib.Core.List.{List}
 use native.Mathlib.Omega.{arith}
-use borrow.Fn.Kinds.{In}
+use borrow.Fn.Kinds.{PK, In}
 use borrow.Fn.PlainCycle.{Measures, is, falls, and}
 use Rattle.walks.specs.Substitute.{substituteNode, substituteAt}
 use Rattle.walk_laws.specs.Walked.{resultsOf}
@@ -48,682 +49,14 @@ abbrev μ-walk-part : Measures 3 walk-part-kinds.ps ℕ
 abbrev μ-walk-two : Measures 3 walk-two-kinds.ps ℕ
 μ-walk-two κs a = 4 * (a .1 .1 .1 .1 .0) + 1
 
-abbrev walk-at-at : ℕ → In 3 walk-at-kinds.ps
-walk-at-at t =
-    and 3 walk-at-kinds.ps (is 3 walk-at-kinds.ps μ-walk-at t) walk-at.Pre
+-- a function of the walk is shown at the measure t, from those that it calls below it
+abbrev here : (ps : List (PK 3)) → Measures 3 ps ℕ → In 3 ps → ℕ → In 3 ps
+here ps μ pre t = and 3 ps (is 3 ps μ t) pre
 
-abbrev walk-at-below : ℕ → In 3 walk-at-kinds.ps
-walk-at-below t =
-    and
-    3
-    walk-at-kinds.ps
-    (falls 3 walk-at-kinds.ps _<_ μ-walk-at t)
-    walk-at.Pre
+abbrev lower : (ps : List (PK 3)) → Measures 3 ps ℕ → In 3 ps → ℕ → In 3 ps
+lower ps μ pre t = and 3 ps (falls 3 ps _<_ μ t) pre
 
-abbrev walk-node-at : ℕ → In 3 walk-node-kinds.ps
-walk-node-at t =
-    and
-    3
-    walk-node-kinds.ps
-    (is 3 walk-node-kinds.ps μ-walk-node t)
-    walk-node.Pre
-
-abbrev walk-node-below : ℕ → In 3 walk-node-kinds.ps
-walk-node-below t =
-    and
-    3
-    walk-node-kinds.ps
-    (falls 3 walk-node-kinds.ps _<_ μ-walk-node t)
-    walk-node.Pre
-
-abbrev walk-one-at : ℕ → In 3 walk-one-kinds.ps
-walk-one-at t =
-    and
-    3
-    walk-one-kinds.ps
-    (is 3 walk-one-kinds.ps μ-walk-one t)
-    walk-one.Pre
-
-abbrev walk-one-below : ℕ → In 3 walk-one-kinds.ps
-walk-one-below t =
-    and
-    3
-    walk-one-kinds.ps
-    (falls 3 walk-one-kinds.ps _<_ μ-walk-one t)
-    walk-one.Pre
-
-abbrev walk-part-at : ℕ → In 3 walk-part-kinds.ps
-walk-part-at t =
-    and
-    3
-    walk-part-kinds.ps
-    (is 3 walk-part-kinds.ps μ-walk-part t)
-    walk-part.Pre
-
-abbrev walk-part-below : ℕ → In 3 walk-part-kinds.ps
-walk-part-below t =
-    and
-    3
-    walk-part-kinds.ps
-    (falls 3 walk-part-kinds.ps _<_ μ-walk-part t)
-    walk-part.Pre
-
-abbrev walk-two-at : ℕ → In 3 walk-two-kinds.ps
-walk-two-at t =
-    and
-    3
-    walk-two-kinds.ps
-    (is 3 walk-two-kinds.ps μ-walk-two t)
-    walk-two.Pre
-
-abbrev walk-two-below : ℕ → In 3 walk-two-kinds.ps
-walk-two-below t =
-    and
-    3
-    walk-two-kinds.ps
-    (falls 3 walk-two-kinds.ps _<_ μ-walk-two t)
-    walk-two.Pre
-
-walk-at-mul-word : (t : ℕ) → walk-at-lts.Need-mul-word (
-  walk-node-below t,
-  walk-node.Post,
-) (walk-at-at t) walk-at.Post
-walk-at-mul-word t c = omega arith
-
-walk-at-element-copy-out-word : (t : ℕ) → walk-at-lts.Need-element-copy-out-word (
-  walk-node-below t,
-  walk-node.Post,
-) (walk-at-at t) walk-at.Post
-walk-at-element-copy-out-word t c = omega arith
-
-walk-at-sub-t18 : (t : ℕ) → walk-at-lts.Need-sub-t18 (
-  walk-node-below t,
-  walk-node.Post,
-) (walk-at-at t) walk-at.Post
-walk-at-sub-t18 t c = omega arith
-
-walk-at-cast-t20 : (t : ℕ) → walk-at-lts.Need-cast-t20 (
-  walk-node-below t,
-  walk-node.Post,
-) (walk-at-at t) walk-at.Post
-walk-at-cast-t20 t c = omega arith
-
-walk-at-returns : (t : ℕ) → walk-at-lts.Need-returns (
-  walk-node-below t,
-  walk-node.Post,
-) (walk-at-at t) walk-at.Post
-walk-at-returns t c = given-again (substituteAt (c .before .before .args .var) (c .before .before .args .value)) _ _ (c .before .before .args .term) (c .if1 .taken)
-
-walk-at-walk-node-requires : (t : ℕ) → walk-at-lts.Need-walk-node-requires (
-  walk-node-below t,
-  walk-node.Post,
-) (walk-at-at t) walk-at.Post
-walk-at-walk-node-requires t c κs = (omega (arith, c .before .before .before .before .before .pre .0), c .before .before .before .before .before .pre .1)
-
-walk-at-enum-known-visited : (t : ℕ) → walk-at-lts.Need-enum-known-visited (
-  walk-node-below t,
-  walk-node.Post,
-) (walk-at-at t) walk-at.Post
-walk-at-enum-known-visited t c = c .match .keys1
-
-walk-at-enum-told : (t : ℕ) → walk-at-lts.Need-enum-told (
-  walk-node-below t,
-  walk-node.Post,
-) (walk-at-at t) walk-at.Post
-walk-at-enum-told t c = c .match .keys2
-
-walk-at-returns-2 : (t : ℕ) → walk-at-lts.Need-returns-2 (
-  walk-node-below t,
-  walk-node.Post,
-) (walk-at-at t) walk-at.Post
-walk-at-returns-2 t c =
-    visited (substituteAt (c .before .before .before .before .before .before .before .before .args .var) (c .before .before .before .before .before .before .before .before .args .value)) _ _ (c .before .before .before .before .before .before .before .before .args .term) (c .before .before .before .before .before .before .if1 .left)
-    (stopped (c .before .before .walk-node .last .0) (c .before .before .walk-node .last .1 .0) (resultsOf (c .before .before .walk-node .last .1 .1 .0)) _ _ _ _ (c .enum-told .given .1) (c .before .before .walk-node .ensures))
-
-walk-at-cast-kept : (t : ℕ) → walk-at-lts.Need-cast-kept (
-  walk-node-below t,
-  walk-node.Post,
-) (walk-at-at t) walk-at.Post
-walk-at-cast-kept t c = omega arith
-
-walk-at-add-kept : (t : ℕ) → walk-at-lts.Need-add-kept (
-  walk-node-below t,
-  walk-node.Post,
-) (walk-at-at t) walk-at.Post
-walk-at-add-kept t c = omega arith
-
-walk-at-mul-kept : (t : ℕ) → walk-at-lts.Need-mul-kept (
-  walk-node-below t,
-  walk-node.Post,
-) (walk-at-at t) walk-at.Post
-walk-at-mul-kept t c = omega arith
-
-walk-at-element-write-kept : (t : ℕ) → walk-at-lts.Need-element-write-kept (
-  walk-node-below t,
-  walk-node.Post,
-) (walk-at-at t) walk-at.Post
-walk-at-element-write-kept t c = omega arith
-
-walk-at-returns-3 : (t : ℕ) → walk-at-lts.Need-returns-3 (
-  walk-node-below t,
-  walk-node.Post,
-) (walk-at-at t) walk-at.Post
-walk-at-returns-3 t c =
-    visited (substituteAt (c .before .before .before .before .before .before .before .before .before .args .var) (c .before .before .before .before .before .before .before .before .before .args .value)) _ _ (c .before .before .before .before .before .before .before .before .before .args .term) (c .before .before .before .before .before .before .before .if1 .left)
-    (onward (c .before .before .before .walk-node .last .0) (c .before .before .before .walk-node .last .1 .0) (resultsOf (c .before .before .before .walk-node .last .1 .1 .0)) _ (c .before .visited .given .1) (c .before .before .before .walk-node .ensures)
-    (kept-now _ _ _ (omega arith)))
-
-walk-node-node-at-requires : (t : ℕ) → walk-node-lts.Need-node-at-requires (
-  node-at-reads.Asked,
-  node-at-reads.Learnt,
-  put-for-reads.Asked,
-  put-for-reads.Learnt,
-  walk-two-below t,
-  walk-two.Post,
-  walk-one-below t,
-  walk-one.Post,
-) (walk-node-at t) walk-node.Post
-walk-node-node-at-requires t c κs = tt
-
-walk-node-enum-told : (t : ℕ) → walk-node-lts.Need-enum-told (
-  node-at-reads.Asked,
-  node-at-reads.Learnt,
-  put-for-reads.Asked,
-  put-for-reads.Learnt,
-  walk-two-below t,
-  walk-two.Post,
-  walk-one-below t,
-  walk-one.Post,
-) (walk-node-at t) walk-node.Post
-walk-node-enum-told t c = c .match .keys1
-
-walk-node-enum-known-node : (t : ℕ) → walk-node-lts.Need-enum-known-node (
-  node-at-reads.Asked,
-  node-at-reads.Learnt,
-  put-for-reads.Asked,
-  put-for-reads.Learnt,
-  walk-two-below t,
-  walk-two.Post,
-  walk-one-below t,
-  walk-one.Post,
-) (walk-node-at t) walk-node.Post
-walk-node-enum-known-node t c = c .match .keys2
-
-walk-node-put-for-requires : (t : ℕ) → walk-node-lts.Need-put-for-requires (
-  node-at-reads.Asked,
-  node-at-reads.Learnt,
-  put-for-reads.Asked,
-  put-for-reads.Learnt,
-  walk-two-below t,
-  walk-two.Post,
-  walk-one-below t,
-  walk-one.Post,
-) (walk-node-at t) walk-node.Post
-walk-node-put-for-requires t c κs = tt
-
-walk-node-enum-told-2 : (t : ℕ) → walk-node-lts.Need-enum-told-2 (
-  node-at-reads.Asked,
-  node-at-reads.Learnt,
-  put-for-reads.Asked,
-  put-for-reads.Learnt,
-  walk-two-below t,
-  walk-two.Post,
-  walk-one-below t,
-  walk-one.Post,
-) (walk-node-at t) walk-node.Post
-walk-node-enum-told-2 t c = c .match .keys3
-
-walk-node-enum-known-node-2 : (t : ℕ) → walk-node-lts.Need-enum-known-node-2 (
-  node-at-reads.Asked,
-  node-at-reads.Learnt,
-  put-for-reads.Asked,
-  put-for-reads.Learnt,
-  walk-two-below t,
-  walk-two.Post,
-  walk-one-below t,
-  walk-one.Post,
-) (walk-node-at t) walk-node.Post
-walk-node-enum-known-node-2 t c = c .match .keys4
-
-walk-node-walk-two-requires :
-    (t : ℕ) → walk-node-lts.Need-walk-two-requires (
-      node-at-reads.Asked,
-      node-at-reads.Learnt,
-      put-for-reads.Asked,
-      put-for-reads.Learnt,
-      walk-two-below t,
-      walk-two.Post,
-      walk-one-below t,
-      walk-one.Post,
-    ) (walk-node-at t) walk-node.Post
-walk-node-walk-two-requires t c κs = (omega (arith, c .before .before .before .before .before .before .before .before .before .pre .0), c .before .before .before .before .before .before .before .before .before .pre .1)
-
-walk-node-enum-known-node-3 : (t : ℕ) → walk-node-lts.Need-enum-known-node-3 (
-  node-at-reads.Asked,
-  node-at-reads.Learnt,
-  put-for-reads.Asked,
-  put-for-reads.Learnt,
-  walk-two-below t,
-  walk-two.Post,
-  walk-one-below t,
-  walk-one.Post,
-) (walk-node-at t) walk-node.Post
-walk-node-enum-known-node-3 t c = c .match .keys5
-
-walk-node-walk-two-requires-2 :
-    (t : ℕ) → walk-node-lts.Need-walk-two-requires-2 (
-      node-at-reads.Asked,
-      node-at-reads.Learnt,
-      put-for-reads.Asked,
-      put-for-reads.Learnt,
-      walk-two-below t,
-      walk-two.Post,
-      walk-one-below t,
-      walk-one.Post,
-    ) (walk-node-at t) walk-node.Post
-walk-node-walk-two-requires-2 t c κs = (omega (arith, c .before .before .before .before .before .before .before .before .before .pre .0), c .before .before .before .before .before .before .before .before .before .pre .1)
-
-walk-node-enum-known-node-4 : (t : ℕ) → walk-node-lts.Need-enum-known-node-4 (
-  node-at-reads.Asked,
-  node-at-reads.Learnt,
-  put-for-reads.Asked,
-  put-for-reads.Learnt,
-  walk-two-below t,
-  walk-two.Post,
-  walk-one-below t,
-  walk-one.Post,
-) (walk-node-at t) walk-node.Post
-walk-node-enum-known-node-4 t c = c .match .keys6
-
-walk-node-walk-two-requires-3 :
-    (t : ℕ) → walk-node-lts.Need-walk-two-requires-3 (
-      node-at-reads.Asked,
-      node-at-reads.Learnt,
-      put-for-reads.Asked,
-      put-for-reads.Learnt,
-      walk-two-below t,
-      walk-two.Post,
-      walk-one-below t,
-      walk-one.Post,
-    ) (walk-node-at t) walk-node.Post
-walk-node-walk-two-requires-3 t c κs = (omega (arith, c .before .before .before .before .before .before .before .before .before .pre .0), c .before .before .before .before .before .before .before .before .before .pre .1)
-
-walk-node-enum-known-node-5 : (t : ℕ) → walk-node-lts.Need-enum-known-node-5 (
-  node-at-reads.Asked,
-  node-at-reads.Learnt,
-  put-for-reads.Asked,
-  put-for-reads.Learnt,
-  walk-two-below t,
-  walk-two.Post,
-  walk-one-below t,
-  walk-one.Post,
-) (walk-node-at t) walk-node.Post
-walk-node-enum-known-node-5 t c = c .match .keys7
-
-walk-node-walk-one-requires :
-    (t : ℕ) → walk-node-lts.Need-walk-one-requires (
-      node-at-reads.Asked,
-      node-at-reads.Learnt,
-      put-for-reads.Asked,
-      put-for-reads.Learnt,
-      walk-two-below t,
-      walk-two.Post,
-      walk-one-below t,
-      walk-one.Post,
-    ) (walk-node-at t) walk-node.Post
-walk-node-walk-one-requires t c κs = (omega (arith, c .before .before .before .before .before .before .before .before .before .pre .0), c .before .before .before .before .before .before .before .before .before .pre .1)
-
-walk-node-enum-known-node-6 : (t : ℕ) → walk-node-lts.Need-enum-known-node-6 (
-  node-at-reads.Asked,
-  node-at-reads.Learnt,
-  put-for-reads.Asked,
-  put-for-reads.Learnt,
-  walk-two-below t,
-  walk-two.Post,
-  walk-one-below t,
-  walk-one.Post,
-) (walk-node-at t) walk-node.Post
-walk-node-enum-known-node-6 t c = c .match .keys8
-
-walk-node-walk-one-requires-2 :
-    (t : ℕ) → walk-node-lts.Need-walk-one-requires-2 (
-      node-at-reads.Asked,
-      node-at-reads.Learnt,
-      put-for-reads.Asked,
-      put-for-reads.Learnt,
-      walk-two-below t,
-      walk-two.Post,
-      walk-one-below t,
-      walk-one.Post,
-    ) (walk-node-at t) walk-node.Post
-walk-node-walk-one-requires-2 t c κs = (omega (arith, c .before .before .before .before .before .before .before .before .before .pre .0), c .before .before .before .before .before .before .before .before .before .pre .1)
-
-walk-node-enum-known-node-7 : (t : ℕ) → walk-node-lts.Need-enum-known-node-7 (
-  node-at-reads.Asked,
-  node-at-reads.Learnt,
-  put-for-reads.Asked,
-  put-for-reads.Learnt,
-  walk-two-below t,
-  walk-two.Post,
-  walk-one-below t,
-  walk-one.Post,
-) (walk-node-at t) walk-node.Post
-walk-node-enum-known-node-7 t c = c .match .keys9
-
-walk-node-walk-one-requires-3 :
-    (t : ℕ) → walk-node-lts.Need-walk-one-requires-3 (
-      node-at-reads.Asked,
-      node-at-reads.Learnt,
-      put-for-reads.Asked,
-      put-for-reads.Learnt,
-      walk-two-below t,
-      walk-two.Post,
-      walk-one-below t,
-      walk-one.Post,
-    ) (walk-node-at t) walk-node.Post
-walk-node-walk-one-requires-3 t c κs = (omega (arith, c .before .before .before .before .before .before .before .before .before .pre .0), c .before .before .before .before .before .before .before .before .before .pre .1)
-
-walk-node-enum-known-node-8 : (t : ℕ) → walk-node-lts.Need-enum-known-node-8 (
-  node-at-reads.Asked,
-  node-at-reads.Learnt,
-  put-for-reads.Asked,
-  put-for-reads.Learnt,
-  walk-two-below t,
-  walk-two.Post,
-  walk-one-below t,
-  walk-one.Post,
-) (walk-node-at t) walk-node.Post
-walk-node-enum-known-node-8 t c = c .match .keys10
-
-walk-node-walk-two-requires-4 :
-    (t : ℕ) → walk-node-lts.Need-walk-two-requires-4 (
-      node-at-reads.Asked,
-      node-at-reads.Learnt,
-      put-for-reads.Asked,
-      put-for-reads.Learnt,
-      walk-two-below t,
-      walk-two.Post,
-      walk-one-below t,
-      walk-one.Post,
-    ) (walk-node-at t) walk-node.Post
-walk-node-walk-two-requires-4 t c κs = (omega (arith, c .before .before .before .before .before .before .before .before .before .pre .0), c .before .before .before .before .before .before .before .before .before .pre .1)
-
-walk-node-returns : (t : ℕ) → walk-node-lts.Need-returns (
-  node-at-reads.Asked,
-  node-at-reads.Learnt,
-  put-for-reads.Asked,
-  put-for-reads.Learnt,
-  walk-two-below t,
-  walk-two.Post,
-  walk-one-below t,
-  walk-one.Post,
-) (walk-node-at t) walk-node.Post
-walk-node-returns t c = by-kind (substituteNode (c .before .before .before .before .before .args .var) (c .before .before .before .before .before .args .value)) _ _ _ (c .before .before .node-at .ensures) (c .enum-told .given .1) refl
-
-walk-node-returns-2 : (t : ℕ) → walk-node-lts.Need-returns-2 (
-  node-at-reads.Asked,
-  node-at-reads.Learnt,
-  put-for-reads.Asked,
-  put-for-reads.Learnt,
-  walk-two-below t,
-  walk-two.Post,
-  walk-one-below t,
-  walk-one.Post,
-) (walk-node-at t) walk-node.Post
-walk-node-returns-2 t c = by-kind (substituteNode (c .before .before .before .before .before .before .before .args .var) (c .before .before .before .before .before .before .before .args .value)) _ _ _ (c .before .before .before .before .node-at .ensures) (c .before .before .node .given .1) (given _ (c .put-for .ensures))
-
-walk-node-returns-3 : (t : ℕ) → walk-node-lts.Need-returns-3 (
-  node-at-reads.Asked,
-  node-at-reads.Learnt,
-  put-for-reads.Asked,
-  put-for-reads.Learnt,
-  walk-two-below t,
-  walk-two.Post,
-  walk-one-below t,
-  walk-one.Post,
-) (walk-node-at t) walk-node.Post
-walk-node-returns-3 t c = by-kind (substituteNode (c .before .before .before .before .before .args .var) (c .before .before .before .before .before .args .value)) _ _ _ (c .before .before .node-at .ensures) (c .enum-told2 .given .1) refl
-
-walk-node-returns-4 : (t : ℕ) → walk-node-lts.Need-returns-4 (
-  node-at-reads.Asked,
-  node-at-reads.Learnt,
-  put-for-reads.Asked,
-  put-for-reads.Learnt,
-  walk-two-below t,
-  walk-two.Post,
-  walk-one-below t,
-  walk-one.Post,
-) (walk-node-at t) walk-node.Post
-walk-node-returns-4 t c = by-kind (substituteNode (c .before .before .before .before .before .before .before .before .before .before .args .var) (c .before .before .before .before .before .before .before .before .before .before .args .value)) _ _ _ (c .before .before .before .before .before .before .before .node-at .ensures) (c .before .before .before .before .before .node2 .given .1) (c .walk-two .ensures)
-
-walk-node-returns-5 : (t : ℕ) → walk-node-lts.Need-returns-5 (
-  node-at-reads.Asked,
-  node-at-reads.Learnt,
-  put-for-reads.Asked,
-  put-for-reads.Learnt,
-  walk-two-below t,
-  walk-two.Post,
-  walk-one-below t,
-  walk-one.Post,
-) (walk-node-at t) walk-node.Post
-walk-node-returns-5 t c = by-kind (substituteNode (c .before .before .before .before .before .before .before .before .before .before .args .var) (c .before .before .before .before .before .before .before .before .before .before .args .value)) _ _ _ (c .before .before .before .before .before .before .before .node-at .ensures) (c .before .before .before .before .before .node3 .given .1) (c .walk-two2 .ensures)
-
-walk-node-returns-6 : (t : ℕ) → walk-node-lts.Need-returns-6 (
-  node-at-reads.Asked,
-  node-at-reads.Learnt,
-  put-for-reads.Asked,
-  put-for-reads.Learnt,
-  walk-two-below t,
-  walk-two.Post,
-  walk-one-below t,
-  walk-one.Post,
-) (walk-node-at t) walk-node.Post
-walk-node-returns-6 t c = by-kind (substituteNode (c .before .before .before .before .before .before .before .before .before .before .args .var) (c .before .before .before .before .before .before .before .before .before .before .args .value)) _ _ _ (c .before .before .before .before .before .before .before .node-at .ensures) (c .before .before .before .before .before .node4 .given .1) (c .walk-two3 .ensures)
-
-walk-node-returns-7 : (t : ℕ) → walk-node-lts.Need-returns-7 (
-  node-at-reads.Asked,
-  node-at-reads.Learnt,
-  put-for-reads.Asked,
-  put-for-reads.Learnt,
-  walk-two-below t,
-  walk-two.Post,
-  walk-one-below t,
-  walk-one.Post,
-) (walk-node-at t) walk-node.Post
-walk-node-returns-7 t c = by-kind (substituteNode (c .before .before .before .before .before .before .before .before .before .before .args .var) (c .before .before .before .before .before .before .before .before .before .before .args .value)) _ _ _ (c .before .before .before .before .before .before .before .node-at .ensures) (c .before .before .before .before .before .node5 .given .1) (c .walk-one .ensures)
-
-walk-node-returns-8 : (t : ℕ) → walk-node-lts.Need-returns-8 (
-  node-at-reads.Asked,
-  node-at-reads.Learnt,
-  put-for-reads.Asked,
-  put-for-reads.Learnt,
-  walk-two-below t,
-  walk-two.Post,
-  walk-one-below t,
-  walk-one.Post,
-) (walk-node-at t) walk-node.Post
-walk-node-returns-8 t c = by-kind (substituteNode (c .before .before .before .before .before .before .before .before .before .before .args .var) (c .before .before .before .before .before .before .before .before .before .before .args .value)) _ _ _ (c .before .before .before .before .before .before .before .node-at .ensures) (c .before .before .before .before .before .node6 .given .1) (c .walk-one2 .ensures)
-
-walk-node-returns-9 : (t : ℕ) → walk-node-lts.Need-returns-9 (
-  node-at-reads.Asked,
-  node-at-reads.Learnt,
-  put-for-reads.Asked,
-  put-for-reads.Learnt,
-  walk-two-below t,
-  walk-two.Post,
-  walk-one-below t,
-  walk-one.Post,
-) (walk-node-at t) walk-node.Post
-walk-node-returns-9 t c = by-kind (substituteNode (c .before .before .before .before .before .before .before .before .before .before .args .var) (c .before .before .before .before .before .before .before .before .before .before .args .value)) _ _ _ (c .before .before .before .before .before .before .before .node-at .ensures) (c .before .before .before .before .before .node7 .given .1) (c .walk-one3 .ensures)
-
-walk-node-returns-10 : (t : ℕ) → walk-node-lts.Need-returns-10 (
-  node-at-reads.Asked,
-  node-at-reads.Learnt,
-  put-for-reads.Asked,
-  put-for-reads.Learnt,
-  walk-two-below t,
-  walk-two.Post,
-  walk-one-below t,
-  walk-one.Post,
-) (walk-node-at t) walk-node.Post
-walk-node-returns-10 t c = by-kind (substituteNode (c .before .before .before .before .before .before .before .before .before .before .args .var) (c .before .before .before .before .before .before .before .before .before .before .args .value)) _ _ _ (c .before .before .before .before .before .before .before .node-at .ensures) (c .before .before .before .before .before .node8 .given .1) (c .walk-two4 .ensures)
-
-walk-one-walk-part-requires :
-    (t : ℕ) → walk-one-lts.Need-walk-part-requires (
-      walk-part-below t,
-      walk-part.Post,
-      rebuild-one-reads.Asked,
-      rebuild-one-reads.Learnt,
-    ) (walk-one-at t) walk-one.Post
-walk-one-walk-part-requires t c κs = (omega (arith, c .before .before .before .pre .0), c .before .before .before .pre .1)
-
-walk-one-enum-known-part : (t : ℕ) → walk-one-lts.Need-enum-known-part (
-  walk-part-below t,
-  walk-part.Post,
-  rebuild-one-reads.Asked,
-  rebuild-one-reads.Learnt,
-) (walk-one-at t) walk-one.Post
-walk-one-enum-known-part t c = c .match .keys1
-
-walk-one-enum-told : (t : ℕ) → walk-one-lts.Need-enum-told (
-  walk-part-below t,
-  walk-part.Post,
-  rebuild-one-reads.Asked,
-  rebuild-one-reads.Learnt,
-) (walk-one-at t) walk-one.Post
-walk-one-enum-told t c = c .match .keys2
-
-walk-one-returns : (t : ℕ) → walk-one-lts.Need-returns (
-  walk-part-below t,
-  walk-part.Post,
-  rebuild-one-reads.Asked,
-  rebuild-one-reads.Learnt,
-) (walk-one-at t) walk-one.Post
-walk-one-returns t c = stopped (c .before .before .walk-part .last .0) (c .before .before .walk-part .last .1 .0) (resultsOf (c .before .before .walk-part .last .1 .1 .0)) _ _ _ _ (c .enum-told .given .1) (c .before .before .walk-part .ensures)
-
-walk-one-rebuild-one-requires : (t : ℕ) → walk-one-lts.Need-rebuild-one-requires (
-  walk-part-below t,
-  walk-part.Post,
-  rebuild-one-reads.Asked,
-  rebuild-one-reads.Learnt,
-) (walk-one-at t) walk-one.Post
-walk-one-rebuild-one-requires t c κs = tt
-
-walk-one-returns-2 : (t : ℕ) → walk-one-lts.Need-returns-2 (
-  walk-part-below t,
-  walk-part.Post,
-  rebuild-one-reads.Asked,
-  rebuild-one-reads.Learnt,
-) (walk-one-at t) walk-one.Post
-walk-one-returns-2 t c =
-    onward (c .before .before .before .before .before .before .walk-part .last .0) (c .before .before .before .before .before .before .walk-part .last .1 .0) (resultsOf (c .before .before .before .before .before .before .walk-part .last .1 .1 .0)) _ (c .before .before .before .before .part .given .1) (c .before .before .before .before .before .before .walk-part .ensures)
-    (c .rebuild-one .ensures _)
-
-walk-part-walk-at-requires : (t : ℕ) → walk-part-lts.Need-walk-at-requires (
-  walk-at-below t,
-  walk-at.Post,
-) (walk-part-at t) walk-part.Post
-walk-part-walk-at-requires t c κs = (omega (arith, c .before .before .before .before .pre .0, c .before .before .before .if1 .taken), omega (arith, c .before .before .before .before .pre .1, c .before .before .before .if1 .taken))
-
-walk-part-returns : (t : ℕ) → walk-part-lts.Need-returns (
-  walk-at-below t,
-  walk-at.Post,
-) (walk-part-at t) walk-part.Post
-walk-part-returns t c = (c .walk-at .ensures) ∙ below (substituteAt (c .before .before .before .before .before .args .var) (c .before .before .before .before .before .args .value)) _ (c .before .before .before .before .before .args .term) (c .before .before .before .before .before .args .a) (c .before .before .before .before .if1 .taken)
-
-walk-part-returns-2 : (t : ℕ) → walk-part-lts.Need-returns-2 (
-  walk-at-below t,
-  walk-at.Post,
-) (walk-part-at t) walk-part.Post
-walk-part-returns-2 t c = above (substituteAt (c .before .args .var) (c .before .args .value)) _ (c .before .args .term) (c .before .args .a) (c .if1 .left)
-
-walk-two-walk-part-requires :
-    (t : ℕ) → walk-two-lts.Need-walk-part-requires (
-      walk-part-below t,
-      walk-part.Post,
-      rebuild-two-reads.Asked,
-      rebuild-two-reads.Learnt,
-    ) (walk-two-at t) walk-two.Post
-walk-two-walk-part-requires t c κs = (omega (arith, c .before .before .before .pre .0), c .before .before .before .pre .1)
-
-walk-two-enum-known-left : (t : ℕ) → walk-two-lts.Need-enum-known-left (
-  walk-part-below t,
-  walk-part.Post,
-  rebuild-two-reads.Asked,
-  rebuild-two-reads.Learnt,
-) (walk-two-at t) walk-two.Post
-walk-two-enum-known-left t c = c .match .keys1
-
-walk-two-enum-told : (t : ℕ) → walk-two-lts.Need-enum-told (
-  walk-part-below t,
-  walk-part.Post,
-  rebuild-two-reads.Asked,
-  rebuild-two-reads.Learnt,
-) (walk-two-at t) walk-two.Post
-walk-two-enum-told t c = c .match .keys2
-
-walk-two-returns : (t : ℕ) → walk-two-lts.Need-returns (
-  walk-part-below t,
-  walk-part.Post,
-  rebuild-two-reads.Asked,
-  rebuild-two-reads.Learnt,
-) (walk-two-at t) walk-two.Post
-walk-two-returns t c = stopped (c .before .before .walk-part .last .0) (c .before .before .walk-part .last .1 .0) (resultsOf (c .before .before .walk-part .last .1 .1 .0)) _ _ _ _ (c .enum-told .given .1) (c .before .before .walk-part .ensures)
-
-walk-two-walk-part-requires-2 :
-    (t : ℕ) → walk-two-lts.Need-walk-part-requires-2 (
-      walk-part-below t,
-      walk-part.Post,
-      rebuild-two-reads.Asked,
-      rebuild-two-reads.Learnt,
-    ) (walk-two-at t) walk-two.Post
-walk-two-walk-part-requires-2 t c κs = (omega (arith, c .before .before .before .before .before .before .before .before .before .before .pre .0), c .before .before .before .before .before .before .before .before .before .before .pre .1)
-
-walk-two-enum-known-right : (t : ℕ) → walk-two-lts.Need-enum-known-right (
-  walk-part-below t,
-  walk-part.Post,
-  rebuild-two-reads.Asked,
-  rebuild-two-reads.Learnt,
-) (walk-two-at t) walk-two.Post
-walk-two-enum-known-right t c = c .match2 .keys1
-
-walk-two-enum-told-2 : (t : ℕ) → walk-two-lts.Need-enum-told-2 (
-  walk-part-below t,
-  walk-part.Post,
-  rebuild-two-reads.Asked,
-  rebuild-two-reads.Learnt,
-) (walk-two-at t) walk-two.Post
-walk-two-enum-told-2 t c = c .match2 .keys2
-
-walk-two-returns-2 : (t : ℕ) → walk-two-lts.Need-returns-2 (
-  walk-part-below t,
-  walk-part.Post,
-  rebuild-two-reads.Asked,
-  rebuild-two-reads.Learnt,
-) (walk-two-at t) walk-two.Post
-walk-two-returns-2 t c =
-    onward (c .before .before .before .before .before .before .before .before .before .walk-part .last .0) (c .before .before .before .before .before .before .before .before .before .walk-part .last .1 .0) (resultsOf (c .before .before .before .before .before .before .before .before .before .walk-part .last .1 .1 .0)) _ (c .before .before .before .before .before .before .before .left .given .1) (c .before .before .before .before .before .before .before .before .before .walk-part .ensures)
-    (stopped (c .before .before .walk-part2 .last .0) (c .before .before .walk-part2 .last .1 .0) (resultsOf (c .before .before .walk-part2 .last .1 .1 .0)) _ _ _ _ (c .enum-told2 .given .1) (c .before .before .walk-part2 .ensures))
-
-walk-two-rebuild-two-requires : (t : ℕ) → walk-two-lts.Need-rebuild-two-requires (
-  walk-part-below t,
-  walk-part.Post,
-  rebuild-two-reads.Asked,
-  rebuild-two-reads.Learnt,
-) (walk-two-at t) walk-two.Post
-walk-two-rebuild-two-requires t c κs = tt
-
-walk-two-returns-3 : (t : ℕ) → walk-two-lts.Need-returns-3 (
-  walk-part-below t,
-  walk-part.Post,
-  rebuild-two-reads.Asked,
-  rebuild-two-reads.Learnt,
-) (walk-two-at t) walk-two.Post
-walk-two-returns-3 t c =
-    onward (c .before .before .before .before .before .before .before .before .before .before .before .before .before .walk-part .last .0) (c .before .before .before .before .before .before .before .before .before .before .before .before .before .walk-part .last .1 .0) (resultsOf (c .before .before .before .before .before .before .before .before .before .before .before .before .before .walk-part .last .1 .1 .0)) _ (c .before .before .before .before .before .before .before .before .before .before .before .left .given .1) (c .before .before .before .before .before .before .before .before .before .before .before .before .before .walk-part .ensures)
-    (onward (c .before .before .before .before .before .before .walk-part2 .last .0) (c .before .before .before .before .before .before .walk-part2 .last .1 .0) (resultsOf (c .before .before .before .before .before .before .walk-part2 .last .1 .1 .0)) _ (c .before .before .before .before .right .given .1) (c .before .before .before .before .before .before .walk-part2 .ensures)
-    (c .rebuild-two .ensures _))
-
+-- the answers stand in the order of each function's text
 pub +walk-at+walk-node+walk-one+walk-part+walk-two-spec :
     {M : Type 1} → statement M
 +walk-at+walk-node+walk-one+walk-part+walk-two-spec =
@@ -734,100 +67,196 @@ pub +walk-at+walk-node+walk-one+walk-part+walk-two-spec :
     μ-walk-part
     μ-walk-two
     (λ t. walk-at-lts.spec
-    (walk-node-below t, walk-node.Post)
-    (walk-at-at t)
+    (lower walk-node-kinds.ps μ-walk-node walk-node.Pre t, walk-node.Post)
+    (here walk-at-kinds.ps μ-walk-at walk-at.Pre t)
     walk-at.Post
-    (walk-at-mul-word t)
-    (walk-at-element-copy-out-word t)
-    (walk-at-sub-t18 t)
-    (walk-at-cast-t20 t)
-    (walk-at-returns t)
-    (walk-at-walk-node-requires t)
-    (walk-at-enum-known-visited t)
-    (walk-at-enum-told t)
-    (walk-at-returns-2 t)
-    (walk-at-cast-kept t)
-    (walk-at-add-kept t)
-    (walk-at-mul-kept t)
-    (walk-at-element-write-kept t)
-    (walk-at-returns-3 t))
+    (λ c. omega arith)
+    (λ c. omega arith)
+    (λ c. omega arith)
+    (λ c. omega arith)
+    (λ c.
+      let start = c .before .before in
+      given-again (substituteAt (start .args .var) (start .args .value)) _ _ (start .args .term) (c .if1 .taken))
+    (λ c κs.
+      let start = c .before .before .before .before .before in
+      (omega (arith, start .pre .0), start .pre .1))
+    (λ c. c .match .keys1)
+    (λ c. c .match .keys2)
+    (λ c.
+      let call = c .before .before in
+      let test = call .before .before .before .before in
+      let start = test .before .before in
+      visited (substituteAt (start .args .var) (start .args .value)) _ _ (start .args .term) (test .if1 .left)
+      (stopped (call .walk-node .last .0) (call .walk-node .last .1 .0) (resultsOf (call .walk-node .last .1 .1 .0)) _ _ _ _ (c .enum-told .given .1) (call .walk-node .ensures)))
+    (λ c. omega arith)
+    (λ c. omega arith)
+    (λ c. omega arith)
+    (λ c. omega arith)
+    (λ c.
+      let call = c .before .before .before in
+      let test = call .before .before .before .before in
+      let start = test .before .before in
+      visited (substituteAt (start .args .var) (start .args .value)) _ _ (start .args .term) (test .if1 .left)
+      (onward (call .walk-node .last .0) (call .walk-node .last .1 .0) (resultsOf (call .walk-node .last .1 .1 .0)) _ (c .before .visited .given .1) (call .walk-node .ensures)
+      (kept-now _ _ _ (omega arith)))))
     (λ t. walk-node-lts.spec (
       node-at-reads.Asked,
       node-at-reads.Learnt,
       put-for-reads.Asked,
       put-for-reads.Learnt,
-      walk-two-below t,
+      lower walk-two-kinds.ps μ-walk-two walk-two.Pre t,
       walk-two.Post,
-      walk-one-below t,
+      lower walk-one-kinds.ps μ-walk-one walk-one.Pre t,
       walk-one.Post,
     )
-    (walk-node-at t)
+    (here walk-node-kinds.ps μ-walk-node walk-node.Pre t)
     walk-node.Post
-    (walk-node-node-at-requires t)
-    (walk-node-enum-told t)
-    (walk-node-enum-known-node t)
-    (walk-node-put-for-requires t)
-    (walk-node-enum-told-2 t)
-    (walk-node-enum-known-node-2 t)
-    (walk-node-walk-two-requires t)
-    (walk-node-enum-known-node-3 t)
-    (walk-node-walk-two-requires-2 t)
-    (walk-node-enum-known-node-4 t)
-    (walk-node-walk-two-requires-3 t)
-    (walk-node-enum-known-node-5 t)
-    (walk-node-walk-one-requires t)
-    (walk-node-enum-known-node-6 t)
-    (walk-node-walk-one-requires-2 t)
-    (walk-node-enum-known-node-7 t)
-    (walk-node-walk-one-requires-3 t)
-    (walk-node-enum-known-node-8 t)
-    (walk-node-walk-two-requires-4 t)
-    (walk-node-returns t)
-    (walk-node-returns-2 t)
-    (walk-node-returns-3 t)
-    (walk-node-returns-4 t)
-    (walk-node-returns-5 t)
-    (walk-node-returns-6 t)
-    (walk-node-returns-7 t)
-    (walk-node-returns-8 t)
-    (walk-node-returns-9 t)
-    (walk-node-returns-10 t))
+    (λ c κs. tt)
+    (λ c. c .match .keys1)
+    (λ c. c .match .keys2)
+    (λ c κs. tt)
+    (λ c. c .match .keys3)
+    (λ c. c .match .keys4)
+    (λ c κs.
+      let start = c .before .before .before .before .before .before .before .before .before in
+      (omega (arith, start .pre .0), start .pre .1))
+    (λ c. c .match .keys5)
+    (λ c κs.
+      let start = c .before .before .before .before .before .before .before .before .before in
+      (omega (arith, start .pre .0), start .pre .1))
+    (λ c. c .match .keys6)
+    (λ c κs.
+      let start = c .before .before .before .before .before .before .before .before .before in
+      (omega (arith, start .pre .0), start .pre .1))
+    (λ c. c .match .keys7)
+    (λ c κs.
+      let start = c .before .before .before .before .before .before .before .before .before in
+      (omega (arith, start .pre .0), start .pre .1))
+    (λ c. c .match .keys8)
+    (λ c κs.
+      let start = c .before .before .before .before .before .before .before .before .before in
+      (omega (arith, start .pre .0), start .pre .1))
+    (λ c. c .match .keys9)
+    (λ c κs.
+      let start = c .before .before .before .before .before .before .before .before .before in
+      (omega (arith, start .pre .0), start .pre .1))
+    (λ c. c .match .keys10)
+    (λ c κs.
+      let start = c .before .before .before .before .before .before .before .before .before in
+      (omega (arith, start .pre .0), start .pre .1))
+    (λ c.
+      let start = c .before .before .before .before .before in
+      by-kind (substituteNode (start .args .var) (start .args .value)) _ _ _ (c .before .before .node-at .ensures) (c .enum-told .given .1) refl)
+    (λ c.
+      let read = c .before .before .before .before in
+      let start = read .before .before .before in
+      by-kind (substituteNode (start .args .var) (start .args .value)) _ _ _ (read .node-at .ensures) (c .before .before .node .given .1) (given _ (c .put-for .ensures)))
+    (λ c.
+      let start = c .before .before .before .before .before in
+      by-kind (substituteNode (start .args .var) (start .args .value)) _ _ _ (c .before .before .node-at .ensures) (c .enum-told2 .given .1) refl)
+    (λ c.
+      let found = c .before .before .before .before .before in
+      let read = found .before .before in
+      let start = read .before .before .before in
+      by-kind (substituteNode (start .args .var) (start .args .value)) _ _ _ (read .node-at .ensures) (found .node2 .given .1) (c .walk-two .ensures))
+    (λ c.
+      let found = c .before .before .before .before .before in
+      let read = found .before .before in
+      let start = read .before .before .before in
+      by-kind (substituteNode (start .args .var) (start .args .value)) _ _ _ (read .node-at .ensures) (found .node3 .given .1) (c .walk-two2 .ensures))
+    (λ c.
+      let found = c .before .before .before .before .before in
+      let read = found .before .before in
+      let start = read .before .before .before in
+      by-kind (substituteNode (start .args .var) (start .args .value)) _ _ _ (read .node-at .ensures) (found .node4 .given .1) (c .walk-two3 .ensures))
+    (λ c.
+      let found = c .before .before .before .before .before in
+      let read = found .before .before in
+      let start = read .before .before .before in
+      by-kind (substituteNode (start .args .var) (start .args .value)) _ _ _ (read .node-at .ensures) (found .node5 .given .1) (c .walk-one .ensures))
+    (λ c.
+      let found = c .before .before .before .before .before in
+      let read = found .before .before in
+      let start = read .before .before .before in
+      by-kind (substituteNode (start .args .var) (start .args .value)) _ _ _ (read .node-at .ensures) (found .node6 .given .1) (c .walk-one2 .ensures))
+    (λ c.
+      let found = c .before .before .before .before .before in
+      let read = found .before .before in
+      let start = read .before .before .before in
+      by-kind (substituteNode (start .args .var) (start .args .value)) _ _ _ (read .node-at .ensures) (found .node7 .given .1) (c .walk-one3 .ensures))
+    (λ c.
+      let found = c .before .before .before .before .before in
+      let read = found .before .before in
+      let start = read .before .before .before in
+      by-kind (substituteNode (start .args .var) (start .args .value)) _ _ _ (read .node-at .ensures) (found .node8 .given .1) (c .walk-two4 .ensures)))
     (λ t. walk-one-lts.spec (
-      walk-part-below t,
+      lower walk-part-kinds.ps μ-walk-part walk-part.Pre t,
       walk-part.Post,
       rebuild-one-reads.Asked,
       rebuild-one-reads.Learnt,
     )
-    (walk-one-at t)
+    (here walk-one-kinds.ps μ-walk-one walk-one.Pre t)
     walk-one.Post
-    (walk-one-walk-part-requires t)
-    (walk-one-enum-known-part t)
-    (walk-one-enum-told t)
-    (walk-one-returns t)
-    (walk-one-rebuild-one-requires t)
-    (walk-one-returns-2 t))
+    (λ c κs.
+      let start = c .before .before .before in
+      (omega (arith, start .pre .0), start .pre .1))
+    (λ c. c .match .keys1)
+    (λ c. c .match .keys2)
+    (λ c.
+      let call = c .before .before in
+      stopped (call .walk-part .last .0) (call .walk-part .last .1 .0) (resultsOf (call .walk-part .last .1 .1 .0)) _ _ _ _ (c .enum-told .given .1) (call .walk-part .ensures))
+    (λ c κs. tt)
+    (λ c.
+      let came = c .before .before .before .before in
+      let call = came .before .before in
+      onward (call .walk-part .last .0) (call .walk-part .last .1 .0) (resultsOf (call .walk-part .last .1 .1 .0)) _ (came .part .given .1) (call .walk-part .ensures)
+      (c .rebuild-one .ensures _)))
     (λ t. walk-part-lts.spec
-    (walk-at-below t, walk-at.Post)
-    (walk-part-at t)
+    (lower walk-at-kinds.ps μ-walk-at walk-at.Pre t, walk-at.Post)
+    (here walk-part-kinds.ps μ-walk-part walk-part.Pre t)
     walk-part.Post
-    (walk-part-walk-at-requires t)
-    (walk-part-returns t)
-    (walk-part-returns-2 t))
+    (λ c κs.
+      let test = c .before .before .before in
+      let start = test .before in
+      (omega (arith, start .pre .0, test .if1 .taken), omega (arith, start .pre .1, test .if1 .taken)))
+    (λ c.
+      let test = c .before .before .before .before in
+      let start = test .before in
+      (c .walk-at .ensures) ∙ below (substituteAt (start .args .var) (start .args .value)) _ (start .args .term) (start .args .a) (test .if1 .taken))
+    (λ c. above (substituteAt (c .before .args .var) (c .before .args .value)) _ (c .before .args .term) (c .before .args .a) (c .if1 .left)))
     λ t. walk-two-lts.spec (
-      walk-part-below t,
+      lower walk-part-kinds.ps μ-walk-part walk-part.Pre t,
       walk-part.Post,
       rebuild-two-reads.Asked,
       rebuild-two-reads.Learnt,
     )
-    (walk-two-at t)
+    (here walk-two-kinds.ps μ-walk-two walk-two.Pre t)
     walk-two.Post
-    (walk-two-walk-part-requires t)
-    (walk-two-enum-known-left t)
-    (walk-two-enum-told t)
-    (walk-two-returns t)
-    (walk-two-walk-part-requires-2 t)
-    (walk-two-enum-known-right t)
-    (walk-two-enum-told-2 t)
-    (walk-two-returns-2 t)
-    (walk-two-rebuild-two-requires t)
-    (walk-two-returns-3 t)
+    (λ c κs.
+      let start = c .before .before .before in
+      (omega (arith, start .pre .0), start .pre .1))
+    (λ c. c .match .keys1)
+    (λ c. c .match .keys2)
+    (λ c.
+      let call = c .before .before in
+      stopped (call .walk-part .last .0) (call .walk-part .last .1 .0) (resultsOf (call .walk-part .last .1 .1 .0)) _ _ _ _ (c .enum-told .given .1) (call .walk-part .ensures))
+    (λ c κs.
+      let start = c .before .before .before .before .before .before .before .before .before .before in
+      (omega (arith, start .pre .0), start .pre .1))
+    (λ c. c .match2 .keys1)
+    (λ c. c .match2 .keys2)
+    (λ c.
+      let second = c .before .before in
+      let came = second .before .before .before .before .before in
+      let call = came .before .before in
+      onward (call .walk-part .last .0) (call .walk-part .last .1 .0) (resultsOf (call .walk-part .last .1 .1 .0)) _ (came .left .given .1) (call .walk-part .ensures)
+      (stopped (second .walk-part2 .last .0) (second .walk-part2 .last .1 .0) (resultsOf (second .walk-part2 .last .1 .1 .0)) _ _ _ _ (c .enum-told2 .given .1) (second .walk-part2 .ensures)))
+    (λ c κs. tt)
+    (λ c.
+      let last = c .before .before .before .before in
+      let second = last .before .before in
+      let came = second .before .before .before .before .before in
+      let call = came .before .before in
+      onward (call .walk-part .last .0) (call .walk-part .last .1 .0) (resultsOf (call .walk-part .last .1 .1 .0)) _ (came .left .given .1) (call .walk-part .ensures)
+      (onward (second .walk-part2 .last .0) (second .walk-part2 .last .1 .0) (resultsOf (second .walk-part2 .last .1 .1 .0)) _ (last .right .given .1) (second .walk-part2 .ensures)
+      (c .rebuild-two .ensures _)))
