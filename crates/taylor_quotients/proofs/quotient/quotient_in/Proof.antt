@@ -6,8 +6,8 @@ use mathlib.Core.Path.{_≡_}
 use Rattle.pool.specs.Made.{poolOf}
 use Rattle.taylor.specs.Work.{div, at}
 use Rattle.taylor_base.specs.Answers.{listOf}
-use Rattle.taylor_base.proofs.Lists.{constant-answers, lists-answer, lists-same, answers-same}
-use Rattle.taylor_base.proofs.Operations.{Coded, given-coded, all-entries, each-made}
+use Rattle.taylor_base.proofs.Lists.{constant-answers, lists-answer, answers-same}
+use Rattle.taylor_base.proofs.Operations.{Coded, given-coded, all-entries, each-lists}
 use Rattle.taylor_quotients.proofs.Quotients.{constant-over-is, list-over-is}
 use Rattle.taylor_quotients.proofs.quotient.quotient_in.Statement.{statement}
 use Rattle.taylor_quotients.proofs.quotient.quotient_in.Tie as tie
@@ -46,8 +46,10 @@ entries-in-requires c κs = all-entries (c .before .before .before .before .befo
 
 returns-3 : tie.Need-returns-3
 returns-3 c =
-    rw (c .before .before .before .before .before .if1 .left, c .before .before .before .before .if3 .taken)
-    (lists-answer (lists-same (c .entries-in .ensures) (each-made (c .before .before .before .before .before .before .args .t4) (lhs-list (c .before .before .before .before .before .before) (c .before .before .before .before .before .if1 .left)) (λ u. div u (at (c .before .before .before .before .before .before .args .t5 .coeffs) 0)) (poolOf (c .before .before .before .before .before .before .args .kinds .now) (c .before .before .before .before .before .before .args .words .now) (c .before .before .before .before .before .before .args .room)))))
+    let test = c .before .before .before .before .before .if1 .left in
+    let start = c .before .before .before .before .before .before in
+    rw (test, c .before .before .before .before .if3 .taken)
+    (lists-answer (each-lists (start .args .t4) (lhs-list start test) (λ u. div u (at (start .args .t5 .coeffs) 0)) (poolOf (start .args .kinds .now) (start .args .words .now) (start .args .room)) (c .entries-in .ensures)))
 
 list-over-requires : tie.Need-list-over-requires
 list-over-requires c κs = ((c .before .before .before .before .pre .0 .least (c .before .before .before .if1 .left), c .before .before .before .before .pre .0 .most (c .before .before .before .if1 .left)), (c .before .before .before .before .pre .1 .least (c .before .before .if3 .left), c .before .before .before .before .pre .1 .most (c .before .before .if3 .left)))
