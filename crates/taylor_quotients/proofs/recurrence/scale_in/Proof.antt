@@ -1,9 +1,9 @@
--- `taylor_quotients::quotient::scale_in` meets its contract: it is the definition, step by step.
+-- `taylor_quotients::recurrence::scale_in` meets its contract: it is the definition, step by step.
 -- Assumes nothing.
 use borrow.Author.Needs.{needs}
 use Rattle.taylor_base.proofs.Steps.{onward, handed-on}
-use Rattle.taylor_quotients.proofs.quotient.scale_in.Statement.{statement}
-use Rattle.taylor_quotients.proofs.quotient.scale_in.Tie as tie
+use Rattle.taylor_quotients.proofs.recurrence.scale_in.Statement.{statement}
+use Rattle.taylor_quotients.proofs.recurrence.scale_in.Tie as tie
 
 from-in-requires : tie.Need-from-in-requires
 from-in-requires c κs = search needs
