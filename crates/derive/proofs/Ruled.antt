@@ -1,6 +1,6 @@
--- With which numbers: the code's are the definition's.
+-- What is done by the kind of a node, and with which numbers: the arm that the code took is the definition's.
 -- Assumes nothing.
-use mathlib.Core.Path.{_≡_, ap, _∙_}
+use mathlib.Core.Path.{_≡_, sym, ap, _∙_}
 use Prim.Native.Nat.{ℕ}
 use native.Mathlib.Omega.{arith}
 use lib.IntN.{ℤ, pos}
@@ -10,10 +10,20 @@ use Rattle.pool.specs.Pool.{Pool, Out}
 use Rattle.constructors.specs.Build.{calls, depth}
 use Rattle.walks.specs.Walk.{State, Went}
 use Rattle.walks.specs.Derive.{lit}
+use Rattle.derive.specs.Rules.{ruleTwo, ruleOne}
+use Rattle.derive.specs.declared.rules.Two.{Two}
+use Rattle.derive.specs.declared.rules.One.{One}
 
--- the literal y that was made is z
-pub of-number : (S : State) {o : Went} {y z : ℤ} → y ≡ z → o ≡ lit y S → o ≡ lit z S
-of-number S e h = h ∙ ap (λ (z : ℤ). lit z S) e
+module _ (S : State) {o : Went} where
+  pub by-two : (a b da db : ℕ) {op x : Two} → op ≡ x → o ≡ ruleTwo x a b da db S → o ≡ ruleTwo op a b da db S
+  by-two a b da db e h = h ∙ sym (ap (λ (x : Two). ruleTwo x a b da db S) e)
+
+  pub by-one : (term a da : ℕ) {op x : One} → op ≡ x → o ≡ ruleOne x term a da S → o ≡ ruleOne op term a da S
+  by-one term a da e h = h ∙ sym (ap (λ (x : One). ruleOne x term a da S) e)
+
+  -- the literal y that was made is z
+  pub of-number : {y z : ℤ} → y ≡ z → o ≡ lit y S → o ≡ lit z S
+  of-number e h = h ∙ ap (λ (z : ℤ). lit z S) e
 
 -- the exponent that was given is e
 pub to-the : (P : Pool) {o : Out} (a : ℕ) {d e : ℕ} → d ≡ e → o ≡ calls depth .pow-at a d P → o ≡ calls depth .pow-at a e P

@@ -1,14 +1,13 @@
--- The rule of each kind of node: what is made of it and of the derivatives of its parts.
+-- Nodes of two parts and of one are derived alike; the rule of each kind stands here.
 -- Assumes nothing.
-use mathlib.Core.Bool.{cond}
 use Prim.Native.Nat.{ℕ, _-_}
-use lib.Dec.{eqb}
 use lib.IntN.{pos}
-use Rattle.refusals.specs.Refusals.{brokenPool, maxReached}
-use Rattle.pool.specs.declared.node.Node.{Node}
-use Rattle.pool.specs.declared.node.Node.the-variants.{Empty, Variable, Lit, Add, Mul, Div, Exp, Log, Pow, Max}
-use Rattle.walks.specs.Walk.{Walk, _>>=_, refuse}
+use Rattle.walks.specs.Walk.{Walk, _>>=_}
 use Rattle.walks.specs.Derive.{lit, add, mul, div, pow, quotientRule}
+use Rattle.derive.specs.declared.rules.Two.{Two}
+use Rattle.derive.specs.declared.rules.Two.the-variants as two
+use Rattle.derive.specs.declared.rules.One.{One}
+use Rattle.derive.specs.declared.rules.One.the-variants as one
 
 -- the rule of a product: a × db + b × da
 abbrev pub productRule : ℕ → ℕ → ℕ → ℕ → Walk
@@ -25,15 +24,27 @@ powerRule a e da = do
   t ← mul n da
   mul t p
 
--- match term, where da and db are the derivatives of the parts
-abbrev pub derivedOf : ℕ → ℕ → Node → ℕ → ℕ → Walk
-derivedOf var term Empty da db = refuse brokenPool
-derivedOf var term (Variable v) da db = lit (cond (eqb v var) (pos 1) (pos 0))
-derivedOf var term (Lit z) da db = lit (pos 0)
-derivedOf var term (Add a b) da db = add da db
-derivedOf var term (Mul a b) da db = productRule a b da db
-derivedOf var term (Div a b) da db = quotientRule a b da db
-derivedOf var term (Exp a) da db = mul da term
-derivedOf var term (Log a) da db = div da a
-derivedOf var term (Pow a e) da db = powerRule a e da
-derivedOf var term (Max a b) da db = refuse maxReached
+-- what is made of two parts and their derivatives
+abbrev pub ruleTwo : Two → ℕ → ℕ → ℕ → ℕ → Walk
+ruleTwo two.Add a b da db = add da db
+ruleTwo two.Mul a b da db = productRule a b da db
+ruleTwo two.Div a b da db = quotientRule a b da db
+
+-- what is made of a part and its derivative
+abbrev pub ruleOne : One → ℕ → ℕ → ℕ → Walk
+ruleOne one.Exp term a da = mul da term
+ruleOne one.Log term a da = div da a
+ruleOne (one.Pow e) term a da = powerRule a e da
+
+-- a node of two parts
+abbrev pub deriveTwo : (ℕ → Walk) → Two → ℕ → ℕ → Walk
+deriveTwo down op a b = do
+  da ← down a
+  db ← down b
+  ruleTwo op a b da db
+
+-- a node of one part
+abbrev pub deriveOne : (ℕ → Walk) → ℕ → One → ℕ → Walk
+deriveOne down term op a = do
+  da ← down a
+  ruleOne op term a da

@@ -1,5 +1,6 @@
-// `derive_with` of the source, at a node: what is made of the node and of the derivatives of its parts.
+// `derive_with` of the source: a walk from a node to its parts, with each visited node's derivative kept.
 mod quotient;
 mod rules;
+mod walk;
 
-pub use rules::derived_in;
+pub use walk::derive_in;

@@ -8,15 +8,28 @@ ghost use lib.IntN.{pos};
 ghost use Rattle.pool.specs.Made.{made, poolOf};
 ghost use Rattle.walks.specs.Walk.{state, lifted};
 ghost use Rattle.walks.specs.Derive.{lit};
-ghost use Rattle.derive.specs.Rules.{productRule, powerRule, derivedOf};
+ghost use Rattle.derive.specs.Rules.{productRule, powerRule, ruleTwo, ruleOne};
 use constructors::DEPTH;
 use pool::LIMIT;
 use pool::Made;
-use pool::Node;
 use pool::Room;
 
+// The kinds of nodes with two parts that have a derivative.
+pub enum Two {
+    Add,
+    Mul,
+    Div,
+}
+
+// The kinds of nodes with one part.
+pub enum One {
+    Exp,
+    Log,
+    Pow(u32),
+}
+
 // if v == var { 1 } else { 0 }
-fn slope(v: u32, var: u32) -> i64
+pub fn slope(v: u32, var: u32) -> i64
     ensures { λ r. ⌜ r ≡ cond (eqb v var) (pos 1) (pos 0) ⌝ }
 {
     if v == var {
@@ -26,7 +39,7 @@ fn slope(v: u32, var: u32) -> i64
 }
 
 // lit(z)
-fn lit_rule(kinds: &mut [u8; LIMIT], words: &mut [u64; LIMIT], room: Room, z: i64) -> Made
+pub fn lit_rule(kinds: &mut [u8; LIMIT], words: &mut [u64; LIMIT], room: Room, z: i64) -> Made
     ensures { λ r. ⌜ ((kept : List ℕ) → lifted kept (made r (now (kinds .exit)) (now (words .exit))) ≡ lit z (state (poolOf (now (kinds .entry)) (now (words .entry)) room) kept)) ⌝ }
 {
     adds::lit_in(kinds, words, room, literal::fold(z))
@@ -111,29 +124,41 @@ fn power_rule(
     muls::mul_in(kinds, words, room3, DEPTH, t, p)
 }
 
-// The node `term`, of the derivatives of its parts, by its kind.
-pub fn derived_in(
+// The rule of a node of two parts.
+pub fn rule_two(
     kinds: &mut [u8; LIMIT],
     words: &mut [u64; LIMIT],
     room: Room,
-    var: u32,
-    term: u32,
-    node: Node,
+    op: Two,
+    a: u32,
+    b: u32,
     da: u32,
     db: u32,
 ) -> Made
-    ensures { λ r. ⌜ ((kept : List ℕ) → lifted kept (made r (now (kinds .exit)) (now (words .exit))) ≡ derivedOf var term node da db (state (poolOf (now (kinds .entry)) (now (words .entry)) room) kept)) ⌝ }
+    ensures { λ r. ⌜ ((kept : List ℕ) → lifted kept (made r (now (kinds .exit)) (now (words .exit))) ≡ ruleTwo op a b da db (state (poolOf (now (kinds .entry)) (now (words .entry)) room) kept)) ⌝ }
 {
-    match node {
-        Node::Empty => Made::Refused(refusals::BROKEN_POOL),
-        Node::Variable(v) => lit_rule(kinds, words, room, slope(v, var)),
-        Node::Lit(_) => lit_rule(kinds, words, room, 0),
-        Node::Add(_, _) => adds::add_in(kinds, words, room, DEPTH, da, db),
-        Node::Mul(a, b) => product_rule(kinds, words, room, a, b, da, db),
-        Node::Div(a, b) => crate::quotient::quotient_rule(kinds, words, room, a, b, da, db),
-        Node::Exp(_) => muls::mul_in(kinds, words, room, DEPTH, da, term),
-        Node::Log(a) => logs::div_in(kinds, words, room, DEPTH, da, a),
-        Node::Pow(a, e) => power_rule(kinds, words, room, a, e, da),
-        Node::Max(_, _) => Made::Refused(refusals::MAX_REACHED),
+    match op {
+        Two::Add => adds::add_in(kinds, words, room, DEPTH, da, db),
+        Two::Mul => product_rule(kinds, words, room, a, b, da, db),
+        Two::Div => crate::quotient::quotient_rule(kinds, words, room, a, b, da, db),
+    }
+}
+
+// The rule of a node of one part.
+pub fn rule_one(
+    kinds: &mut [u8; LIMIT],
+    words: &mut [u64; LIMIT],
+    room: Room,
+    op: One,
+    term: u32,
+    a: u32,
+    da: u32,
+) -> Made
+    ensures { λ r. ⌜ ((kept : List ℕ) → lifted kept (made r (now (kinds .exit)) (now (words .exit))) ≡ ruleOne op term a da (state (poolOf (now (kinds .entry)) (now (words .entry)) room) kept)) ⌝ }
+{
+    match op {
+        One::Exp => muls::mul_in(kinds, words, room, DEPTH, da, term),
+        One::Log => logs::div_in(kinds, words, room, DEPTH, da, a),
+        One::Pow(e) => power_rule(kinds, words, room, a, e, da),
     }
 }

@@ -30,7 +30,7 @@ pub fn substitute_var(
         return Answer::Refused(refusals::UNKNOWN_VARIABLE);
     }
     let room = pool::room_between(n as u32, LIMIT as u32);
-    let made = build_walk::substitute_in(
+    let made = substitute::substitute_in(
         &mut k,
         &mut w,
         room,
@@ -58,6 +58,6 @@ pub fn derive(kinds: &mut [u8], words: &mut [u64], count: &mut u64, root: u64, v
         return Answer::Refused(refusals::UNKNOWN_VARIABLE);
     }
     let room = pool::room_between(n as u32, LIMIT as u32);
-    let made = build_walk::derive_in(&mut k, &mut w, room, root as u32, var as u32);
+    let made = derive::derive_in(&mut k, &mut w, room, root as u32, var as u32);
     lent::finish(kinds, words, count, &k, &w, made)
 }

@@ -1,4 +1,5 @@
-// `substitute_with` of the source, at a node: the node itself where no part has changed, else one that is rebuilt.
+// `substitute_with` of the source: a walk from a node to its parts, with each visited node's result kept.
 mod rebuild;
+mod walk;
 
-pub use rebuild::rebuilt_in;
+pub use walk::substitute_in;

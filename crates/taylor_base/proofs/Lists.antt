@@ -11,15 +11,14 @@ use Rattle.pool.specs.Made.{made, poolOf}
 use Rattle.pool.specs.declared.table.Made.{Made}
 use Rattle.pool.specs.declared.table.Made.the-variants.{Node, Refused}
 use Rattle.taylor.specs.Work.{Result, Work, bind, yield, at}
-use Rattle.pool.specs.Pool.{Pool, done, refused}
+use Rattle.pool.specs.Pool.{done, refused}
 use Rattle.pool.specs.declared.table.Room.{Room}
-use Rattle.taylor.specs.Expansion.{Expansion, Constant, Polynomial, first}
+use Rattle.taylor.specs.Expansion.{Expansion, Constant, Polynomial}
 use Rattle.taylor_base.specs.Answers.{terms, statusOf, expanded, listOf, Given, Tidy, Answers, Lists, zeroes, refusedExpansion, answerOf, Tidied, WithFirst, constantOf, TidyOf, expansionOf}
 use Rattle.taylor_base.specs.declared.answer.Expansion as coded
 use Rattle.taylor_base.specs.declared.answer.Status.{Status}
 use Rattle.taylor_base.specs.declared.answer.Status.the-variants as status
 use Rattle.taylor_base.specs.declared.answer.Expanded.{Expanded}
-use Rattle.taylor_base.proofs.Entrywise.{first-is}
 use Rattle.taylor_base.proofs.Steps.{onward, goes-on, ends}
 
 -- an expansion of one entry, the first of 25
@@ -133,9 +132,3 @@ first-put {m} e t {c} {room} d h ks ws =
 module _ (e : coded.Expansion) (long : length (e .coeffs) ≡ terms) (most : e .len ≤ terms) where
   pub list-long : length (listOf e) ≡ e .len
   list-long = length-take-le (e .len) (e .coeffs) (omega (arith, long))
-
--- another coefficient 0 of a list
-pub first-lists :
-    {r : Expanded} (m : Made) (e : coded.Expansion) (f : ℕ → Work ℕ) (P : Pool) (ks ws : List ℕ)
-    → WithFirst m e r → made m ks ws ≡ f (at (listOf e) 0) P → 1 ≤ length (listOf e) → Lists r ks ws (first f (listOf e) P)
-first-lists {r} m e f P ks ws w h l = rw (first-is f (listOf e) P l, ← h) (w ks ws)

@@ -11,13 +11,16 @@ use native.Mathlib.Omega.{arith}
 use lib.ListN.{length, take, set, replicate}
 use Rattle.pool.specs.Pool.{Pool, refused}
 use Rattle.refusals.specs.Refusals.{maxReached}
-use Rattle.taylor.specs.Work.{Work, bind, yield, zeroLit, oneLit, at, each, eachTwo, fill}
-use Rattle.taylor.specs.Expansion.{Expansion, Constant, Polynomial, varCoeffs, coeff, maximum}
-use Rattle.taylor_base.specs.Answers.{terms, listOf, Given}
+use Rattle.pool.specs.Made.{made}
+use Rattle.pool.specs.declared.table.Made.{Made}
+use Rattle.taylor.specs.Work.{Result, Work, bind, yield, zeroLit, oneLit, at, each, eachTwo, fill}
+use Rattle.taylor.specs.Expansion.{Expansion, Constant, Polynomial, first, varCoeffs, coeff, maximum}
+use Rattle.taylor_base.specs.Answers.{terms, listOf, Given, Lists, WithFirst}
 use Rattle.taylor_base.specs.Entries.{Entries}
 use Rattle.taylor_base.specs.declared.answer.Expansion as coded
-use Rattle.taylor_base.proofs.Entrywise.{two-is-fill, each-is-fill}
-use Rattle.taylor_base.proofs.Lists.{list-long}
+use Rattle.taylor_base.specs.declared.answer.Expanded.{Expanded}
+use Rattle.taylor_base.proofs.Entrywise.{two-is-fill, each-is-fill, first-is}
+use Rattle.taylor_base.proofs.Lists.{list-long, lists-same}
 
 -- a list that the code has as an array of 25: its length is 1 to 25
 pub record Coded (e : coded.Expansion) : Type 0 where
@@ -27,6 +30,10 @@ pub record Coded (e : coded.Expansion) : Type 0 where
 
 pub given-coded : {e : coded.Expansion} → Given e → length (e .coeffs) ≡ terms → e .constant ≡ false → Coded e
 given-coded g l h = record { long = l; least = g .least h; most = g .most h }
+
+-- of what is given: a list has 1 to 25 entries
+pub list-sized : {e : coded.Expansion} → Given e → e .constant ≡ false → (1 ≤ e .len) × (e .len ≤ terms)
+list-sized g h = (g .least h, g .most h)
 
 pub coded-long : (e : coded.Expansion) → Coded e → length (listOf e) ≡ e .len
 coded-long e d = list-long e (d .long) (d .most)
@@ -50,9 +57,12 @@ module _ (us ws : coded.Expansion) (u : Coded us) (w : Coded ws) {n : ℕ} (e : 
   pub shorter-length : n ≡ min (length (listOf us)) (length (listOf ws))
   shorter-length = rw (coded-long us u, coded-long ws w) e
 
-  pub two-made : (f : ℕ → ℕ → Work ℕ) (P : Pool) → fill (λ res k. f (at (listOf us) k) (at (listOf ws) k)) n [] P ≡ eachTwo f (listOf us) (listOf ws) P
-  two-made f P =
-      ap (λ (m : ℕ). fill (λ res k. f (at (listOf us) k) (at (listOf ws) k)) m [] P) shorter-length ∙ sym (two-is-fill f (listOf us) (listOf ws) P)
+  -- two lists side by side
+  pub two-lists :
+      (f : ℕ → ℕ → Work ℕ) (P : Pool) {r : Expanded} {ks ts : List ℕ} → Lists r ks ts (fill (λ res k. f (at (listOf us) k) (at (listOf ws) k)) n [] P) → Lists r ks ts (eachTwo f (listOf us) (listOf ws) P)
+  two-lists f P l =
+      lists-same l
+      (ap (λ (m : ℕ). fill (λ res k. f (at (listOf us) k) (at (listOf ws) k)) m [] P) shorter-length ∙ sym (two-is-fill f (listOf us) (listOf ws) P))
 
 module _ (us : coded.Expansion) (u : Coded us) where
   pub all-entries : Entries us us (us .len)
@@ -60,8 +70,18 @@ module _ (us : coded.Expansion) (u : Coded us) where
       let same : us .len ≤ us .len = omega arith in
       record { least = u .least; most = u .most; left = same; right = same; left-most = u .most; right-most = u .most }
 
-  pub each-made : (f : ℕ → Work ℕ) (P : Pool) → fill (λ res k. f (at (listOf us) k)) (us .len) [] P ≡ each f (listOf us) P
-  each-made f P = ap (λ (n : ℕ). fill (λ res k. f (at (listOf us) k)) n [] P) (sym (coded-long us u)) ∙ sym (each-is-fill f (listOf us) P)
+  -- each entry of a list
+  pub each-lists : (f : ℕ → Work ℕ) (P : Pool) {r : Expanded} {ks ts : List ℕ} → Lists r ks ts (fill (λ res k. f (at (listOf us) k)) (us .len) [] P) → Lists r ks ts (each f (listOf us) P)
+  each-lists f P l =
+      lists-same l (ap (λ (n : ℕ). fill (λ res k. f (at (listOf us) k)) n [] P) (sym (coded-long us u)) ∙ sym (each-is-fill f (listOf us) P))
+
+  -- another coefficient 0: what was made of the one that the code read as c
+  pub first-lists :
+      (f : ℕ → Work ℕ) (P : Pool) {r : Expanded} (m : Made) (ks ts : List ℕ) {c : ℕ}
+      → WithFirst m us r → c ≡ at (listOf us) 0 → made m ks ts ≡ f c P → Lists r ks ts (first f (listOf us) P)
+  first-lists f P m ks ts w e h =
+      lists-same (w ks ts)
+      (ap (λ (x : Result ℕ). bind x (λ c. yield (set (listOf us) 0 c))) (h ∙ ap (λ (c : ℕ). f c P) e) ∙ sym (first-is f (listOf us) P (coded-some us u)))
 
 -- var: what follows the zero
 abbrev pub afterZero : ℕ → ℕ → ℕ → Work (List ℕ)

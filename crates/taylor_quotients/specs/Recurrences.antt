@@ -2,12 +2,13 @@
 -- Assumes nothing.
 use mathlib.Core.Path.{_≡_}
 use mathlib.Core.List.{List, [], _∷_}
-use Prim.Native.Nat.{ℕ, _-_, min, _≤_, _<_}
-use lib.ListN.{length}
-use Rattle.taylor.specs.Work.{Work, _>>=_, zeroLit, oneLit, from, sub, mul, div, exp, log, at, fill}
+use Prim.Native.Nat.{ℕ, _-_, _≤_, _<_}
+use Rattle.taylor.specs.Work.{Work, _>>=_, yield, zeroLit, oneLit, from, sub, mul, div, exp, log, at, fill}
 use Rattle.taylor.specs.Expansion.{quotientAt, expAt, logAt}
 use Rattle.taylor_base.specs.Answers.{terms}
 use Rattle.taylor_base.specs.declared.answer.Expansion as coded
+use Rattle.taylor_quotients.specs.declared.recurrence.Operation.{Operation}
+use Rattle.taylor_quotients.specs.declared.recurrence.Operation.the-variants.{ConstantOver, ListOver, Exp, Log}
 use Rattle.taylor_quotients.specs.declared.coefficient.Recurrence.{Recurrence}
 use Rattle.taylor_quotients.specs.declared.coefficient.Recurrence.the-variants.{OfConstant, OfList, Exponential, Logarithm}
 
@@ -51,29 +52,30 @@ pub record Next (us res : coded.Expansion) (k : ℕ) : Type 0 where
   pub most : us .len ≤ terms
   pub so-far : res .len ≡ k
 
--- the lists' quotients, exponentials and logarithms
-abbrev pub constantOver : ℕ → List ℕ → Work (List ℕ)
-constantOver c ws = do
-  z ← zeroLit
-  scale ← scaleOf (at ws 0)
-  r ← mul c scale
-  fill (quotientAt (λ k. z) ws scale) (length ws - 1) (r ∷ [])
+-- scale = one / ws[0] of a quotient by ws; any number else
+abbrev pub scaleFor : Operation → ℕ → ℕ → Work ℕ
+scaleFor (ConstantOver c) w z = scaleOf w
+scaleFor ListOver w z = scaleOf w
+scaleFor Exp w z = yield z
+scaleFor Log w z = yield z
 
-abbrev pub listOver : List ℕ → List ℕ → Work (List ℕ)
-listOver us ws = do
-  z ← zeroLit
-  scale ← scaleOf (at ws 0)
-  r ← mul scale (at us 0)
-  fill (quotientAt (λ k. at us k) ws scale) (min (length us) (length ws) - 1) (r ∷ [])
+-- result[0], where u is us[0]
+abbrev pub firstOf : Operation → ℕ → ℕ → Work ℕ
+firstOf (ConstantOver c) u scale = mul c scale
+firstOf ListOver u scale = mul scale u
+firstOf Exp u scale = exp u
+firstOf Log u scale = log u
 
-abbrev pub expList : List ℕ → Work (List ℕ)
-expList us = do
-  z ← zeroLit
-  r ← exp (at us 0)
-  fill (expAt us z) (length us - 1) (r ∷ [])
+abbrev pub ruleOf : Operation → ℕ → ℕ → Recurrence
+ruleOf (ConstantOver c) scale z = OfConstant scale z
+ruleOf ListOver scale z = OfList scale
+ruleOf Exp scale z = Exponential z
+ruleOf Log scale z = Logarithm z
 
-abbrev pub logList : List ℕ → Work (List ℕ)
-logList us = do
+-- the n coefficients of an answer
+abbrev pub recurrenceWork : Operation → ℕ → List ℕ → List ℕ → Work (List ℕ)
+recurrenceWork op n us ws = do
   z ← zeroLit
-  r ← log (at us 0)
-  fill (logAt us z) (length us - 1) (r ∷ [])
+  scale ← scaleFor op (at ws 0) z
+  r ← firstOf op (at us 0) scale
+  fill (coefficientWork (ruleOf op scale z) us ws) (n - 1) (r ∷ [])

@@ -1,10 +1,11 @@
 -- The functions of the walk meet their contracts: each step is a step of the definition, a kept expansion is left as it is, and node numbers fall from a node to its parts.
 -- Assumes nothing.
 use Prim.Native.Nat.{ℕ, _+_, _*_, _<_}
-use borrow.Fn.Kinds.{In}
+use borrow.Fn.Kinds.{PK, In}
 use borrow.Fn.PlainCycle.{Measures, is, falls, and}
 use native.Mathlib.Omega.{arith}
 use mathlib.Core.Path.{sym, _∙_}
+use mathlib.Core.List.{List}
 use Rattle.pool.specs.Made.{poolOf}
 use Rattle.expand.specs.Points.{pointOf}
 use Rattle.expand.specs.Tables.{expansionAt, stateOf}
@@ -46,511 +47,148 @@ abbrev μ-walk-part : Measures 4 walk-part-kinds.ps ℕ
 abbrev μ-walk-two : Measures 4 walk-two-kinds.ps ℕ
 μ-walk-two κs a = 4 * (a .1 .1 .1 .1 .1 .0) + 1
 
-abbrev walk-at-at : ℕ → In 4 walk-at-kinds.ps
-walk-at-at t = and 4 walk-at-kinds.ps (is 4 walk-at-kinds.ps μ-walk-at t) walk-at.Pre
+-- a function of the walk is shown at the measure t, from those that it calls below it
+abbrev here : (ps : List (PK 4)) → Measures 4 ps ℕ → In 4 ps → ℕ → In 4 ps
+here ps μ pre t = and 4 ps (is 4 ps μ t) pre
 
-abbrev walk-at-below : ℕ → In 4 walk-at-kinds.ps
-walk-at-below t = and 4 walk-at-kinds.ps (falls 4 walk-at-kinds.ps _<_ μ-walk-at t) walk-at.Pre
+abbrev lower : (ps : List (PK 4)) → Measures 4 ps ℕ → In 4 ps → ℕ → In 4 ps
+lower ps μ pre t = and 4 ps (falls 4 ps _<_ μ t) pre
 
-abbrev walk-node-at : ℕ → In 4 walk-node-kinds.ps
-walk-node-at t = and 4 walk-node-kinds.ps (is 4 walk-node-kinds.ps μ-walk-node t) walk-node.Pre
-
-abbrev walk-node-below : ℕ → In 4 walk-node-kinds.ps
-walk-node-below t =
-    and 4 walk-node-kinds.ps (falls 4 walk-node-kinds.ps _<_ μ-walk-node t) walk-node.Pre
-
-abbrev walk-one-at : ℕ → In 4 walk-one-kinds.ps
-walk-one-at t = and 4 walk-one-kinds.ps (is 4 walk-one-kinds.ps μ-walk-one t) walk-one.Pre
-
-abbrev walk-one-below : ℕ → In 4 walk-one-kinds.ps
-walk-one-below t =
-    and 4 walk-one-kinds.ps (falls 4 walk-one-kinds.ps _<_ μ-walk-one t) walk-one.Pre
-
-abbrev walk-part-at : ℕ → In 4 walk-part-kinds.ps
-walk-part-at t = and 4 walk-part-kinds.ps (is 4 walk-part-kinds.ps μ-walk-part t) walk-part.Pre
-
-abbrev walk-part-below : ℕ → In 4 walk-part-kinds.ps
-walk-part-below t =
-    and 4 walk-part-kinds.ps (falls 4 walk-part-kinds.ps _<_ μ-walk-part t) walk-part.Pre
-
-abbrev walk-two-at : ℕ → In 4 walk-two-kinds.ps
-walk-two-at t = and 4 walk-two-kinds.ps (is 4 walk-two-kinds.ps μ-walk-two t) walk-two.Pre
-
-abbrev walk-two-below : ℕ → In 4 walk-two-kinds.ps
-walk-two-below t =
-    and 4 walk-two-kinds.ps (falls 4 walk-two-kinds.ps _<_ μ-walk-two t) walk-two.Pre
-
-walk-at-element-copy-out-mark : (t : ℕ) → walk-at-lts.Need-element-copy-out-mark (
-  node-at-reads.Asked,
-  node-at-reads.Learnt,
-  walk-node-below t,
-  walk-node.Post,
-) (walk-at-at t) walk-at.Post
-walk-at-element-copy-out-mark t c = omega (arith, c .pre .1 .within)
-
-walk-at-returns : (t : ℕ) → walk-at-lts.Need-returns (
-  node-at-reads.Asked,
-  node-at-reads.Learnt,
-  walk-node-below t,
-  walk-node.Post,
-) (walk-at-at t) walk-at.Post
-walk-at-returns t c =
-    let start = c .before .before in
-    left-as-kept (start .args .asked .var) (pointOf (start .args .asked .point)) (start .args .asked .order) _ _ _ (start .args .term)
-    (start .pre .1 .sized) (c .if1 .taken)
-
-walk-at-node-at-requires : (t : ℕ) → walk-at-lts.Need-node-at-requires (
-  node-at-reads.Asked,
-  node-at-reads.Learnt,
-  walk-node-below t,
-  walk-node.Post,
-) (walk-at-at t) walk-at.Post
-walk-at-node-at-requires t c κs = tt
-
-walk-at-walk-node-requires : (t : ℕ) → walk-at-lts.Need-walk-node-requires (
-  node-at-reads.Asked,
-  node-at-reads.Learnt,
-  walk-node-below t,
-  walk-node.Post,
-) (walk-at-at t) walk-at.Post
-walk-at-walk-node-requires t c κs =
-    let start = c .before .before .before .before .before .before .before .before .before in
-    (omega (arith, start .pre .0), start .pre .1)
-
-walk-at-returns-2 : (t : ℕ) → walk-at-lts.Need-returns-2 (
-  node-at-reads.Asked,
-  node-at-reads.Learnt,
-  walk-node-below t,
-  walk-node.Post,
-) (walk-at-at t) walk-at.Post
-walk-at-returns-2 t c =
-    let at-node-at = c .before .before .before .before .before in
-    let start = at-node-at .before .before .before .before .before in
-    let args = start .args in
-    visits-now (args .asked .var) (pointOf (args .asked .point)) (args .asked .order) (poolOf (args .kinds .now) (args .words .now) (args .room))
-    (args .term) (start .pre .1 .sized) (at-node-at .before .before .before .if1 .left) (at-node-at .node-at .ensures) (c .walk-node .ensures)
-
-walk-node-visited-requires : (t : ℕ) → walk-node-lts.Need-visited-requires (
-  visited-reads.Asked,
-  visited-reads.Learnt,
-  join-in-reads.Asked,
-  join-in-reads.Learnt,
-  walk-one-below t,
-  walk-one.Post,
-  walk-two-below t,
-  walk-two.Post,
-) (walk-node-at t) walk-node.Post
-walk-node-visited-requires t c κs = tt
-
-walk-node-enum-told : (t : ℕ) → walk-node-lts.Need-enum-told (
-  visited-reads.Asked,
-  visited-reads.Learnt,
-  join-in-reads.Asked,
-  join-in-reads.Learnt,
-  walk-one-below t,
-  walk-one.Post,
-  walk-two-below t,
-  walk-two.Post,
-) (walk-node-at t) walk-node.Post
-walk-node-enum-told t c = c .match .keys1
-
-walk-node-join-in-requires : (t : ℕ) → walk-node-lts.Need-join-in-requires (
-  visited-reads.Asked,
-  visited-reads.Learnt,
-  join-in-reads.Asked,
-  join-in-reads.Learnt,
-  walk-one-below t,
-  walk-one.Post,
-  walk-two-below t,
-  walk-two.Post,
-) (walk-node-at t) walk-node.Post
-walk-node-join-in-requires t c κs =
-    let at-enum-told = c .before .before .before .before in
-    let start = at-enum-told .before .before .before in (
-      start .pre .1,
-      none-visited (start .args .marks .now) (start .args .node)
-          (sym (at-enum-told .before .before .visited .ensures) ∙ at-enum-told .enum-told .given .1),
-    )
-
-walk-node-enum-known-parts : (t : ℕ) → walk-node-lts.Need-enum-known-parts (
-  visited-reads.Asked,
-  visited-reads.Learnt,
-  join-in-reads.Asked,
-  join-in-reads.Learnt,
-  walk-one-below t,
-  walk-one.Post,
-  walk-two-below t,
-  walk-two.Post,
-) (walk-node-at t) walk-node.Post
-walk-node-enum-known-parts t c = c .match .keys2
-
-walk-node-walk-one-requires : (t : ℕ) → walk-node-lts.Need-walk-one-requires (
-  visited-reads.Asked,
-  visited-reads.Learnt,
-  join-in-reads.Asked,
-  join-in-reads.Learnt,
-  walk-one-below t,
-  walk-one.Post,
-  walk-two-below t,
-  walk-two.Post,
-) (walk-node-at t) walk-node.Post
-walk-node-walk-one-requires t c κs =
-    let at-parts = c .before .before .before .before .before in
-    let start = at-parts .before .before .before in
-    (omega (arith, start .pre .0), (start .pre .1, sym (at-parts .before .before .visited .ensures) ∙ at-parts .parts .given .1))
-
-walk-node-enum-known-parts-2 : (t : ℕ) → walk-node-lts.Need-enum-known-parts-2 (
-  visited-reads.Asked,
-  visited-reads.Learnt,
-  join-in-reads.Asked,
-  join-in-reads.Learnt,
-  walk-one-below t,
-  walk-one.Post,
-  walk-two-below t,
-  walk-two.Post,
-) (walk-node-at t) walk-node.Post
-walk-node-enum-known-parts-2 t c = c .match .keys3
-
-walk-node-walk-two-requires : (t : ℕ) → walk-node-lts.Need-walk-two-requires (
-  visited-reads.Asked,
-  visited-reads.Learnt,
-  join-in-reads.Asked,
-  join-in-reads.Learnt,
-  walk-one-below t,
-  walk-one.Post,
-  walk-two-below t,
-  walk-two.Post,
-) (walk-node-at t) walk-node.Post
-walk-node-walk-two-requires t c κs =
-    let at-parts2 = c .before .before .before .before .before in
-    let start = at-parts2 .before .before .before in
-    (omega (arith, start .pre .0), (start .pre .1, sym (at-parts2 .before .before .visited .ensures) ∙ at-parts2 .parts2 .given .1))
-
-walk-node-returns : (t : ℕ) → walk-node-lts.Need-returns (
-  visited-reads.Asked,
-  visited-reads.Learnt,
-  join-in-reads.Asked,
-  join-in-reads.Learnt,
-  walk-one-below t,
-  walk-one.Post,
-  walk-two-below t,
-  walk-two.Post,
-) (walk-node-at t) walk-node.Post
-walk-node-returns t c =
-    let at-enum-told = c .before .before .before .before .before in
-    let start = at-enum-told .before .before .before in
-    let args = start .args in
-    none-ends (args .asked .var) (pointOf (args .asked .point)) (args .asked .order) (args .term) (args .node)
-    (stateOf (args .kinds .now) (args .words .now) (args .marks .now) (args .rows .now) (args .room))
-    (expansionAt (args .marks .now) (args .rows .now)) (sym (at-enum-told .before .before .visited .ensures) ∙ at-enum-told .enum-told .given .1)
-    (c .join-in .ensures)
-
-walk-node-returns-2 : (t : ℕ) → walk-node-lts.Need-returns-2 (
-  visited-reads.Asked,
-  visited-reads.Learnt,
-  join-in-reads.Asked,
-  join-in-reads.Learnt,
-  walk-one-below t,
-  walk-one.Post,
-  walk-two-below t,
-  walk-two.Post,
-) (walk-node-at t) walk-node.Post
-walk-node-returns-2 t c = c .walk-one .ensures
-
-walk-node-returns-3 : (t : ℕ) → walk-node-lts.Need-returns-3 (
-  visited-reads.Asked,
-  visited-reads.Learnt,
-  join-in-reads.Asked,
-  join-in-reads.Learnt,
-  walk-one-below t,
-  walk-one.Post,
-  walk-two-below t,
-  walk-two.Post,
-) (walk-node-at t) walk-node.Post
-walk-node-returns-3 t c = c .walk-two .ensures
-
-walk-one-walk-part-requires : (t : ℕ) → walk-one-lts.Need-walk-part-requires (
-  walk-part-below t,
-  walk-part.Post,
-  join-in-reads.Asked,
-  join-in-reads.Learnt,
-) (walk-one-at t) walk-one.Post
-walk-one-walk-part-requires t c κs =
-    let start = c .before .before .before .before in
-    (omega (arith, start .pre .0), start .pre .1 .0)
-
-walk-one-enum-known-part : (t : ℕ) → walk-one-lts.Need-enum-known-part (
-  walk-part-below t,
-  walk-part.Post,
-  join-in-reads.Asked,
-  join-in-reads.Learnt,
-) (walk-one-at t) walk-one.Post
-walk-one-enum-known-part t c = c .match .keys1
-
-walk-one-enum-told : (t : ℕ) → walk-one-lts.Need-enum-told (
-  walk-part-below t,
-  walk-part.Post,
-  join-in-reads.Asked,
-  join-in-reads.Learnt,
-) (walk-one-at t) walk-one.Post
-walk-one-enum-told t c = c .match .keys2
-
-walk-one-returns : (t : ℕ) → walk-one-lts.Need-returns (
-  walk-part-below t,
-  walk-part.Post,
-  join-in-reads.Asked,
-  join-in-reads.Learnt,
-) (walk-one-at t) walk-one.Post
-walk-one-returns t c =
-    let start = c .before .before .before .before .before .before .before in
-    let args = start .args in
-    one-refused (args .asked .var) (pointOf (args .asked .point)) (args .asked .order) (args .term) (args .node)
-    (stateOf (args .kinds .now) (args .words .now) (args .marks .now) (args .rows .now) (args .room)) (c .before .before .walk-part .ensures)
-    (c .enum-told .given .1) (start .pre .1 .1)
-
-walk-one-join-in-requires : (t : ℕ) → walk-one-lts.Need-join-in-requires (
-  walk-part-below t,
-  walk-part.Post,
-  join-in-reads.Asked,
-  join-in-reads.Learnt,
-) (walk-one-at t) walk-one.Post
-walk-one-join-in-requires t c κs =
-    let at-part = c .before .before .before .before .before in
-    let at-walk-part = at-part .before .before in
-    let start = at-walk-part .before .before .before .before .before in
-    let args = start .args in (
-      ready-again (start .pre .1 .0) (at-walk-part .walk-part .ensures .sized),
-      one-visited (args .asked .var) (pointOf (args .asked .point)) (args .asked .order) (poolOf (args .kinds .now) (args .words .now) (args .room))
-          (start .pre .1 .0 .sized) (start .pre .1 .0 .within) (at-walk-part .walk-part .ensures) (at-part .part .given .1) (args .node)
-          (start .pre .1 .1),
-    )
-
-walk-one-returns-2 : (t : ℕ) → walk-one-lts.Need-returns-2 (
-  walk-part-below t,
-  walk-part.Post,
-  join-in-reads.Asked,
-  join-in-reads.Learnt,
-) (walk-one-at t) walk-one.Post
-walk-one-returns-2 t c =
-    let at-part = c .before .before .before .before .before .before in
-    let start = at-part .before .before .before .before .before .before .before in
-    let args = start .args in
-    one-ends (args .asked .var) (pointOf (args .asked .point)) (args .asked .order) (args .term) (args .node)
-    (stateOf (args .kinds .now) (args .words .now) (args .marks .now) (args .rows .now) (args .room)) (at-part .before .before .walk-part .ensures)
-    (at-part .part .given .1) (start .pre .1 .1) (c .join-in .ensures)
-
-walk-part-walk-at-requires : (t : ℕ) → walk-part-lts.Need-walk-at-requires (
-  walk-at-below t,
-  walk-at.Post,
-) (walk-part-at t) walk-part.Post
-walk-part-walk-at-requires t c κs =
-    let at-if1 = c .before .before .before .before in
-    let start = at-if1 .before in
-    (omega (arith, start .pre .0, at-if1 .if1 .taken), ready-below (start .pre .1) (at-if1 .if1 .taken))
-
-walk-part-returns :
-    (t : ℕ) →
-    walk-part-lts.Need-returns (walk-at-below t, walk-at.Post) (walk-part-at t) walk-part.Post
-walk-part-returns t c =
-    let at-if1 = c .before .before .before .before .before in
-    let start = at-if1 .before in
-    let args = start .args in
-    part-below (args .asked .var) (pointOf (args .asked .point)) (args .asked .order)
-    (stateOf (args .kinds .now) (args .words .now) (args .marks .now) (args .rows .now) (args .room)) (args .term) (args .a) (at-if1 .if1 .taken)
-    (c .walk-at .ensures)
-
-walk-part-returns-2 :
-    (t : ℕ) →
-    walk-part-lts.Need-returns-2 (walk-at-below t, walk-at.Post) (walk-part-at t) walk-part.Post
-walk-part-returns-2 t c =
-    let start = c .before in
-    let args = start .args in
-    part-above (args .asked .var) (pointOf (args .asked .point)) (args .asked .order)
-    (stateOf (args .kinds .now) (args .words .now) (args .marks .now) (args .rows .now) (args .room)) (args .term) (args .a) (start .pre .1 .sized)
-    (c .if1 .left)
-
-walk-two-walk-part-requires : (t : ℕ) → walk-two-lts.Need-walk-part-requires (
-  walk-part-below t,
-  walk-part.Post,
-  join-in-reads.Asked,
-  join-in-reads.Learnt,
-) (walk-two-at t) walk-two.Post
-walk-two-walk-part-requires t c κs =
-    let start = c .before .before .before .before in
-    (omega (arith, start .pre .0), start .pre .1 .0)
-
-walk-two-enum-known-left : (t : ℕ) → walk-two-lts.Need-enum-known-left (
-  walk-part-below t,
-  walk-part.Post,
-  join-in-reads.Asked,
-  join-in-reads.Learnt,
-) (walk-two-at t) walk-two.Post
-walk-two-enum-known-left t c = c .match .keys1
-
-walk-two-enum-told : (t : ℕ) → walk-two-lts.Need-enum-told (
-  walk-part-below t,
-  walk-part.Post,
-  join-in-reads.Asked,
-  join-in-reads.Learnt,
-) (walk-two-at t) walk-two.Post
-walk-two-enum-told t c = c .match .keys2
-
-walk-two-returns : (t : ℕ) → walk-two-lts.Need-returns (
-  walk-part-below t,
-  walk-part.Post,
-  join-in-reads.Asked,
-  join-in-reads.Learnt,
-) (walk-two-at t) walk-two.Post
-walk-two-returns t c =
-    let start = c .before .before .before .before .before .before .before in
-    let args = start .args in
-    left-refused (args .asked .var) (pointOf (args .asked .point)) (args .asked .order) (args .term) (args .node)
-    (stateOf (args .kinds .now) (args .words .now) (args .marks .now) (args .rows .now) (args .room)) (c .before .before .walk-part .ensures)
-    (c .enum-told .given .1) (start .pre .1 .1)
-
-walk-two-walk-part-requires-2 : (t : ℕ) → walk-two-lts.Need-walk-part-requires-2 (
-  walk-part-below t,
-  walk-part.Post,
-  join-in-reads.Asked,
-  join-in-reads.Learnt,
-) (walk-two-at t) walk-two.Post
-walk-two-walk-part-requires-2 t c κs =
-    let at-walk-part = c .before .before .before .before .before .before .before in
-    let start = at-walk-part .before .before .before .before .before in
-    (omega (arith, start .pre .0), ready-again (start .pre .1 .0) (at-walk-part .walk-part .ensures .sized))
-
-walk-two-enum-known-right : (t : ℕ) → walk-two-lts.Need-enum-known-right (
-  walk-part-below t,
-  walk-part.Post,
-  join-in-reads.Asked,
-  join-in-reads.Learnt,
-) (walk-two-at t) walk-two.Post
-walk-two-enum-known-right t c = c .match2 .keys1
-
-walk-two-enum-told-2 : (t : ℕ) → walk-two-lts.Need-enum-told-2 (
-  walk-part-below t,
-  walk-part.Post,
-  join-in-reads.Asked,
-  join-in-reads.Learnt,
-) (walk-two-at t) walk-two.Post
-walk-two-enum-told-2 t c = c .match2 .keys2
-
-walk-two-returns-2 : (t : ℕ) → walk-two-lts.Need-returns-2 (
-  walk-part-below t,
-  walk-part.Post,
-  join-in-reads.Asked,
-  join-in-reads.Learnt,
-) (walk-two-at t) walk-two.Post
-walk-two-returns-2 t c =
-    let at-left = c .before .before .before .before .before .before .before .before in
-    let start = at-left .before .before .before .before .before .before .before in
-    let args = start .args in
-    right-refused (args .asked .var) (pointOf (args .asked .point)) (args .asked .order) (args .term) (args .node)
-    (stateOf (args .kinds .now) (args .words .now) (args .marks .now) (args .rows .now) (args .room)) (at-left .before .before .walk-part .ensures)
-    (at-left .left .given .1) (c .before .before .walk-part2 .ensures) (c .enum-told2 .given .1) (start .pre .1 .1)
-
-walk-two-join-in-requires : (t : ℕ) → walk-two-lts.Need-join-in-requires (
-  walk-part-below t,
-  walk-part.Post,
-  join-in-reads.Asked,
-  join-in-reads.Learnt,
-) (walk-two-at t) walk-two.Post
-walk-two-join-in-requires t c κs =
-    let at-right = c .before .before .before .before .before in
-    let at-walk-part2 = at-right .before .before in
-    let at-left = at-walk-part2 .before .before .before .before .before .before in
-    let start = at-left .before .before .before .before .before .before .before in
-    let args = start .args in (
-      ready-again (start .pre .1 .0) (at-walk-part2 .walk-part2 .ensures .sized),
-      two-visited (args .asked .var) (pointOf (args .asked .point)) (args .asked .order) (poolOf (args .kinds .now) (args .words .now) (args .room))
-          (start .pre .1 .0 .sized) (start .pre .1 .0 .within) (at-left .before .before .walk-part .ensures) (at-left .left .given .1)
-          (at-walk-part2 .walk-part2 .ensures) (at-right .right .given .1) (args .node) (start .pre .1 .1),
-    )
-
-walk-two-returns-3 : (t : ℕ) → walk-two-lts.Need-returns-3 (
-  walk-part-below t,
-  walk-part.Post,
-  join-in-reads.Asked,
-  join-in-reads.Learnt,
-) (walk-two-at t) walk-two.Post
-walk-two-returns-3 t c =
-    let at-right = c .before .before .before .before .before .before in
-    let at-left = at-right .before .before .before .before .before .before .before .before in
-    let start = at-left .before .before .before .before .before .before .before in
-    let args = start .args in
-    two-ends (args .asked .var) (pointOf (args .asked .point)) (args .asked .order) (poolOf (args .kinds .now) (args .words .now) (args .room))
-    (start .pre .1 .0 .sized) (start .pre .1 .0 .within) (at-left .before .before .walk-part .ensures) (at-left .left .given .1)
-    (at-right .before .before .walk-part2 .ensures) (at-right .right .given .1) (args .node) (start .pre .1 .1) (c .join-in .ensures)
-
+-- the answers stand in the order of each function's text
 pub +walk-at+walk-node+walk-one+walk-part+walk-two-spec : {M : Type 1} → statement M
 +walk-at+walk-node+walk-one+walk-part+walk-two-spec =
     close μ-walk-at μ-walk-node μ-walk-one μ-walk-part μ-walk-two (λ t. walk-at-lts.spec (
       node-at-reads.Asked,
       node-at-reads.Learnt,
-      walk-node-below t,
+      lower walk-node-kinds.ps μ-walk-node walk-node.Pre t,
       walk-node.Post,
     )
-    (walk-at-at t)
+    (here walk-at-kinds.ps μ-walk-at walk-at.Pre t)
     walk-at.Post
-    (walk-at-element-copy-out-mark t)
-    (walk-at-returns t)
-    (walk-at-node-at-requires t)
-    (walk-at-walk-node-requires t)
-    (walk-at-returns-2 t))
+    (λ c. omega (arith, c .pre .1 .within))
+    (λ c.
+    let start = c .before .before in
+    left-as-kept (start .args .asked .var) (pointOf (start .args .asked .point)) (start .args .asked .order) _ _ _ (start .args .term) (start .pre .1 .sized) (c .if1 .taken))
+    (λ c κs. tt)
+    (λ c κs.
+    let start = c .before .before .before .before .before .before .before .before .before in
+    (omega (arith, start .pre .0), start .pre .1))
+    (λ c.
+    let read = c .before .before .before .before .before in
+    let test = read .before .before .before in
+    let start = test .before .before in
+    visits-now (start .args .asked .var) (pointOf (start .args .asked .point)) (start .args .asked .order) (poolOf (start .args .kinds .now) (start .args .words .now) (start .args .room)) (start .args .term) (start .pre .1 .sized) (test .if1 .left) (read .node-at .ensures) (c .walk-node .ensures)))
     (λ t. walk-node-lts.spec (
       visited-reads.Asked,
       visited-reads.Learnt,
       join-in-reads.Asked,
       join-in-reads.Learnt,
-      walk-one-below t,
+      lower walk-one-kinds.ps μ-walk-one walk-one.Pre t,
       walk-one.Post,
-      walk-two-below t,
+      lower walk-two-kinds.ps μ-walk-two walk-two.Pre t,
       walk-two.Post,
     )
-    (walk-node-at t)
+    (here walk-node-kinds.ps μ-walk-node walk-node.Pre t)
     walk-node.Post
-    (walk-node-visited-requires t)
-    (walk-node-enum-told t)
-    (walk-node-join-in-requires t)
-    (walk-node-enum-known-parts t)
-    (walk-node-walk-one-requires t)
-    (walk-node-enum-known-parts-2 t)
-    (walk-node-walk-two-requires t)
-    (walk-node-returns t)
-    (walk-node-returns-2 t)
-    (walk-node-returns-3 t))
+    (λ c κs. tt)
+    (λ c. c .match .keys1)
+    (λ c κs.
+    let told = c .before .before .before .before in
+    let found = told .before .before in
+    let start = found .before in
+    (start .pre .1, none-visited (start .args .marks .now) (start .args .node) (sym (found .visited .ensures) ∙ told .enum-told .given .1)))
+    (λ c. c .match .keys2)
+    (λ c κs.
+    let told = c .before .before .before .before .before in
+    let found = told .before .before in
+    let start = found .before in
+    (omega (arith, start .pre .0), (start .pre .1, sym (found .visited .ensures) ∙ told .parts .given .1)))
+    (λ c. c .match .keys3)
+    (λ c κs.
+    let told = c .before .before .before .before .before in
+    let found = told .before .before in
+    let start = found .before in
+    (omega (arith, start .pre .0), (start .pre .1, sym (found .visited .ensures) ∙ told .parts2 .given .1)))
+    (λ c.
+    let told = c .before .before .before .before .before in
+    let found = told .before .before in
+    let start = found .before in
+    none-ends (start .args .asked .var) (pointOf (start .args .asked .point)) (start .args .asked .order) (start .args .term) (start .args .node) (stateOf (start .args .kinds .now) (start .args .words .now) (start .args .marks .now) (start .args .rows .now) (start .args .room)) (expansionAt (start .args .marks .now) (start .args .rows .now)) (sym (found .visited .ensures) ∙ told .enum-told .given .1) (c .join-in .ensures))
+    (λ c. c .walk-one .ensures)
+    (λ c. c .walk-two .ensures))
     (λ t. walk-one-lts.spec (
-      walk-part-below t,
+      lower walk-part-kinds.ps μ-walk-part walk-part.Pre t,
       walk-part.Post,
       join-in-reads.Asked,
       join-in-reads.Learnt,
     )
-    (walk-one-at t)
+    (here walk-one-kinds.ps μ-walk-one walk-one.Pre t)
     walk-one.Post
-    (walk-one-walk-part-requires t)
-    (walk-one-enum-known-part t)
-    (walk-one-enum-told t)
-    (walk-one-returns t)
-    (walk-one-join-in-requires t)
-    (walk-one-returns-2 t))
+    (λ c κs.
+    let start = c .before .before .before .before in
+    (omega (arith, start .pre .0), start .pre .1 .0))
+    (λ c. c .match .keys1)
+    (λ c. c .match .keys2)
+    (λ c.
+    let start = c .before .before .before .before .before .before .before in
+    one-refused (start .args .asked .var) (pointOf (start .args .asked .point)) (start .args .asked .order) (start .args .term) (start .args .node) (stateOf (start .args .kinds .now) (start .args .words .now) (start .args .marks .now) (start .args .rows .now) (start .args .room)) (c .before .before .walk-part .ensures) (c .enum-told .given .1) (start .pre .1 .1))
+    (λ c κs.
+    let came = c .before .before .before .before .before in
+    let call = came .before .before in
+    let start = call .before .before .before .before .before in
+    (ready-again (start .pre .1 .0) (call .walk-part .ensures .sized), one-visited (start .args .asked .var) (pointOf (start .args .asked .point)) (start .args .asked .order) (poolOf (start .args .kinds .now) (start .args .words .now) (start .args .room)) (start .pre .1 .0 .sized) (start .pre .1 .0 .within) (call .walk-part .ensures) (came .part .given .1) (start .args .node) (start .pre .1 .1)))
+    (λ c.
+    let came = c .before .before .before .before .before .before in
+    let call = came .before .before in
+    let start = call .before .before .before .before .before in
+    one-ends (start .args .asked .var) (pointOf (start .args .asked .point)) (start .args .asked .order) (start .args .term) (start .args .node) (stateOf (start .args .kinds .now) (start .args .words .now) (start .args .marks .now) (start .args .rows .now) (start .args .room)) (call .walk-part .ensures) (came .part .given .1) (start .pre .1 .1) (c .join-in .ensures)))
     (λ t. walk-part-lts.spec
-    (walk-at-below t, walk-at.Post)
-    (walk-part-at t)
+    (lower walk-at-kinds.ps μ-walk-at walk-at.Pre t, walk-at.Post)
+    (here walk-part-kinds.ps μ-walk-part walk-part.Pre t)
     walk-part.Post
-    (walk-part-walk-at-requires t)
-    (walk-part-returns t)
-    (walk-part-returns-2 t))
+    (λ c κs.
+    let test = c .before .before .before .before in
+    let start = test .before in
+    (omega (arith, start .pre .0, test .if1 .taken), ready-below (start .pre .1) (test .if1 .taken)))
+    (λ c.
+    let test = c .before .before .before .before .before in
+    let start = test .before in
+    part-below (start .args .asked .var) (pointOf (start .args .asked .point)) (start .args .asked .order) (stateOf (start .args .kinds .now) (start .args .words .now) (start .args .marks .now) (start .args .rows .now) (start .args .room)) (start .args .term) (start .args .a) (test .if1 .taken) (c .walk-at .ensures))
+    (λ c. part-above (c .before .args .asked .var) (pointOf (c .before .args .asked .point)) (c .before .args .asked .order) (stateOf (c .before .args .kinds .now) (c .before .args .words .now) (c .before .args .marks .now) (c .before .args .rows .now) (c .before .args .room)) (c .before .args .term) (c .before .args .a) (c .before .pre .1 .sized) (c .if1 .left)))
     λ t. walk-two-lts.spec
-    (walk-part-below t, walk-part.Post, join-in-reads.Asked, join-in-reads.Learnt)
-    (walk-two-at t)
+    (lower walk-part-kinds.ps μ-walk-part walk-part.Pre t, walk-part.Post, join-in-reads.Asked, join-in-reads.Learnt)
+    (here walk-two-kinds.ps μ-walk-two walk-two.Pre t)
     walk-two.Post
-    (walk-two-walk-part-requires t)
-    (walk-two-enum-known-left t)
-    (walk-two-enum-told t)
-    (walk-two-returns t)
-    (walk-two-walk-part-requires-2 t)
-    (walk-two-enum-known-right t)
-    (walk-two-enum-told-2 t)
-    (walk-two-returns-2 t)
-    (walk-two-join-in-requires t)
-    (walk-two-returns-3 t)
+    (λ c κs.
+    let start = c .before .before .before .before in
+    (omega (arith, start .pre .0), start .pre .1 .0))
+    (λ c. c .match .keys1)
+    (λ c. c .match .keys2)
+    (λ c.
+    let start = c .before .before .before .before .before .before .before in
+    left-refused (start .args .asked .var) (pointOf (start .args .asked .point)) (start .args .asked .order) (start .args .term) (start .args .node) (stateOf (start .args .kinds .now) (start .args .words .now) (start .args .marks .now) (start .args .rows .now) (start .args .room)) (c .before .before .walk-part .ensures) (c .enum-told .given .1) (start .pre .1 .1))
+    (λ c κs.
+    let call = c .before .before .before .before .before .before .before in
+    let start = call .before .before .before .before .before in
+    (omega (arith, start .pre .0), ready-again (start .pre .1 .0) (call .walk-part .ensures .sized)))
+    (λ c. c .match2 .keys1)
+    (λ c. c .match2 .keys2)
+    (λ c.
+    let came = c .before .before .before .before .before .before .before .before in
+    let call = came .before .before in
+    let start = call .before .before .before .before .before in
+    right-refused (start .args .asked .var) (pointOf (start .args .asked .point)) (start .args .asked .order) (start .args .term) (start .args .node) (stateOf (start .args .kinds .now) (start .args .words .now) (start .args .marks .now) (start .args .rows .now) (start .args .room)) (call .walk-part .ensures) (came .left .given .1) (c .before .before .walk-part2 .ensures) (c .enum-told2 .given .1) (start .pre .1 .1))
+    (λ c κs.
+    let last = c .before .before .before .before .before in
+    let second = last .before .before in
+    let came = second .before .before .before .before .before .before in
+    let call = came .before .before in
+    let start = call .before .before .before .before .before in
+    (ready-again (start .pre .1 .0) (second .walk-part2 .ensures .sized), two-visited (start .args .asked .var) (pointOf (start .args .asked .point)) (start .args .asked .order) (poolOf (start .args .kinds .now) (start .args .words .now) (start .args .room)) (start .pre .1 .0 .sized) (start .pre .1 .0 .within) (call .walk-part .ensures) (came .left .given .1) (second .walk-part2 .ensures) (last .right .given .1) (start .args .node) (start .pre .1 .1)))
+    (λ c.
+    let last = c .before .before .before .before .before .before in
+    let second = last .before .before in
+    let came = second .before .before .before .before .before .before in
+    let call = came .before .before in
+    let start = call .before .before .before .before .before in
+    two-ends (start .args .asked .var) (pointOf (start .args .asked .point)) (start .args .asked .order) (poolOf (start .args .kinds .now) (start .args .words .now) (start .args .room)) (start .pre .1 .0 .sized) (start .pre .1 .0 .within) (call .walk-part .ensures) (came .left .given .1) (second .walk-part2 .ensures) (last .right .given .1) (start .args .node) (start .pre .1 .1) (c .join-in .ensures))

@@ -1,6 +1,7 @@
 -- `taylor_base::answer::tidy_of` meets its contract: a constant is made anew, a list is tidied.
 -- Assumes nothing.
 use borrow.Author.Needs.{needs}
+use Rattle.taylor_base.proofs.Operations.{list-sized}
 use Rattle.taylor_base.proofs.Lists.{constant-tidied, list-tidied}
 use Rattle.taylor_base.proofs.answer.tidy_of.Statement.{statement}
 use Rattle.taylor_base.proofs.answer.tidy_of.Tie as tie
@@ -15,7 +16,7 @@ returns : tie.Need-returns
 returns c = constant-tidied (c .before .before .if1 .taken) (c .constant-of .ensures)
 
 tidied-requires : tie.Need-tidied-requires
-tidied-requires c κs = (c .before .pre .least (c .if1 .left), c .before .pre .most (c .if1 .left))
+tidied-requires c κs = list-sized (c .before .pre) (c .if1 .left)
 
 returns-2 : tie.Need-returns-2
 returns-2 c = list-tidied (c .before .if1 .left) (c .tidied .ensures)

@@ -5,8 +5,8 @@ use mathlib.Core.Bool.{false}
 use mathlib.Core.Path.{_≡_}
 use Rattle.pool.specs.Made.{poolOf}
 use Rattle.taylor.specs.Work.{neg}
-use Rattle.taylor_base.proofs.Lists.{constant-answers, lists-answer, lists-same}
-use Rattle.taylor_base.proofs.Operations.{Coded, all-entries, each-made, given-coded}
+use Rattle.taylor_base.proofs.Lists.{constant-answers, lists-answer}
+use Rattle.taylor_base.proofs.Operations.{Coded, given-coded, all-entries, each-lists}
 use Rattle.taylor_base.proofs.sums.neg_in.Statement.{statement}
 use Rattle.taylor_base.proofs.sums.neg_in.Tie as tie
 
@@ -31,7 +31,10 @@ entries-in-requires : tie.Need-entries-in-requires
 entries-in-requires c κs = all-entries (c .before .before .before .args .t4) (list (c .before .before .before) (c .before .before .if1 .left))
 
 returns-2 : tie.Need-returns-2
-returns-2 c = rw (c .before .before .before .if1 .left) (lists-answer (lists-same (c .entries-in .ensures) (each-made (c .before .before .before .before .args .t4) (list (c .before .before .before .before) (c .before .before .before .if1 .left)) neg (poolOf (c .before .before .before .before .args .kinds .now) (c .before .before .before .before .args .words .now) (c .before .before .before .before .args .room)))))
+returns-2 c =
+    let start = c .before .before .before .before in
+    let test = c .before .before .before .if1 .left in
+    rw test (lists-answer (each-lists (start .args .t4) (list start test) neg (poolOf (start .args .kinds .now) (start .args .words .now) (start .args .room)) (c .entries-in .ensures)))
 
 pub neg-in-spec : {M : Type 1} → statement M
 neg-in-spec =

@@ -2,12 +2,11 @@
 -- Assumes nothing.
 use borrow.Author.Needs.{needs}
 use mathlib.Core.Bool.{false}
-use mathlib.Core.Path.{_≡_, refl}
+use mathlib.Core.Path.{_≡_}
 use Rattle.pool.specs.Made.{poolOf}
-use Rattle.taylor.specs.Work.{sub}
-use Rattle.taylor_base.proofs.Steps.{with-those}
-use Rattle.taylor_base.proofs.Lists.{constant-answers, lists-answer, lists-same, first-lists}
-use Rattle.taylor_base.proofs.Operations.{Coded, given-coded, coded-some, shorter-entries, two-made}
+use Rattle.taylor.specs.Work.{sub, at}
+use Rattle.taylor_base.proofs.Lists.{constant-answers, lists-answer}
+use Rattle.taylor_base.proofs.Operations.{Coded, given-coded, shorter-entries, two-lists, first-lists, list-sized}
 use Rattle.taylor_base.proofs.sums.sub_in.Statement.{statement}
 use Rattle.taylor_base.proofs.sums.sub_in.Tie as tie
 
@@ -35,28 +34,26 @@ returns c =
     rw (c .before .before .before .before .before .before .before .if1 .taken, c .before .before .before .before .before .if2 .taken) (constant-answers (entry .result) (entry .last .0) (entry .last .1 .0) (c .answer-of .ensures) (entry .ensures))
 
 at-requires : tie.Need-at-requires
-at-requires c κs = (c .before .before .before .before .before .pre .0 .least (c .before .before .if2 .left), c .before .before .before .before .before .pre .0 .most (c .before .before .if2 .left))
+at-requires c κs = list-sized (c .before .before .before .before .before .pre .0) (c .before .before .if2 .left)
 
 entry-in-requires-2 : tie.Need-entry-in-requires-2
 entry-in-requires-2 c κs = search needs
 
 with-first-requires : tie.Need-with-first-requires
-with-first-requires c κs = (c .before .before .before .before .before .before .before .pre .0 .least (c .before .before .before .before .if2 .left), c .before .before .before .before .before .before .before .pre .0 .most (c .before .before .before .before .if2 .left))
+with-first-requires c κs = list-sized (c .before .before .before .before .before .before .before .pre .0) (c .before .before .before .before .if2 .left)
 
 returns-2 : tie.Need-returns-2
 returns-2 c =
     let entry = c .before .entry-in2 in
+    let start = c .before .before .before .before .before .before .before .before in
     rw (c .before .before .before .before .before .before .before .if1 .taken, c .before .before .before .before .before .if2 .left)
-    (lists-answer
-    (first-lists (entry .result) (c .before .before .before .before .before .before .before .before .args .t4) _ (poolOf (c .before .before .before .before .before .before .before .before .args .kinds .now) (c .before .before .before .before .before .before .before .before .args .words .now) (c .before .before .before .before .before .before .before .before .args .room)) (entry .last .0) (entry .last .1 .0) (c .with-first .ensures)
-    (with-those (λ l r. sub l r (poolOf (c .before .before .before .before .before .before .before .before .args .kinds .now) (c .before .before .before .before .before .before .before .before .args .words .now) (c .before .before .before .before .before .before .before .before .args .room))) (c .before .before .at .ensures) refl (entry .ensures))
-    (coded-some (c .before .before .before .before .before .before .before .before .args .t4) (lhs-list (c .before .before .before .before .before .before .before .before) (c .before .before .before .before .before .if2 .left)))))
+    (lists-answer (first-lists (start .args .t4) (lhs-list start (c .before .before .before .before .before .if2 .left)) (λ l. sub l (at (start .args .t5 .coeffs) 0)) (poolOf (start .args .kinds .now) (start .args .words .now) (start .args .room)) (entry .result) (entry .last .0) (entry .last .1 .0) (c .with-first .ensures) (c .before .before .at .ensures) (entry .ensures)))
 
 element-copy-out-l-2 : tie.Need-element-copy-out-l-2
 element-copy-out-l-2 c = search needs
 
 sub-from-requires : tie.Need-sub-from-requires
-sub-from-requires c κs = (c .before .before .before .before .before .pre .1 .least (c .before .before .before .before .if1 .left), c .before .before .before .before .before .pre .1 .most (c .before .before .before .before .if1 .left))
+sub-from-requires c κs = list-sized (c .before .before .before .before .before .pre .1) (c .before .before .before .before .if1 .left)
 
 returns-3 : tie.Need-returns-3
 returns-3 c = rw (c .before .before .before .before .before .if1 .left, c .before .before .before .before .if3 .taken) (lists-answer (c .sub-from .ensures))
@@ -65,14 +62,18 @@ shorter-requires : tie.Need-shorter-requires
 shorter-requires c κs = search needs
 
 entries-in-requires : tie.Need-entries-in-requires
-entries-in-requires c κs = shorter-entries (c .before .before .before .before .before .args .t4) (c .before .before .before .before .before .args .t5) (lhs-list (c .before .before .before .before .before) (c .before .before .before .if3 .left)) (rhs-list (c .before .before .before .before .before) (c .before .before .before .before .if1 .left)) (c .shorter .ensures)
+entries-in-requires c κs =
+    let start = c .before .before .before .before .before in
+    shorter-entries (start .args .t4) (start .args .t5) (lhs-list start (c .before .before .before .if3 .left)) (rhs-list start (c .before .before .before .before .if1 .left)) (c .shorter .ensures)
 
 returns-4 : tie.Need-returns-4
 returns-4 c =
+    let found = c .before in
+    let start = found .before .before .before .before .before in
+    let lhs = lhs-list start (c .before .before .before .before .if3 .left) in
+    let rhs = rhs-list start (c .before .before .before .before .before .if1 .left) in
     rw (c .before .before .before .before .before .if1 .left, c .before .before .before .before .if3 .left)
-    (lists-answer
-    (lists-same (c .entries-in .ensures)
-    (two-made (c .before .before .before .before .before .before .args .t4) (c .before .before .before .before .before .before .args .t5) (lhs-list (c .before .before .before .before .before .before) (c .before .before .before .before .if3 .left)) (rhs-list (c .before .before .before .before .before .before) (c .before .before .before .before .before .if1 .left)) (c .before .shorter .ensures) (λ u w. sub u w) (poolOf (c .before .before .before .before .before .before .args .kinds .now) (c .before .before .before .before .before .before .args .words .now) (c .before .before .before .before .before .before .args .room)))))
+    (lists-answer (two-lists (start .args .t4) (start .args .t5) lhs rhs (found .shorter .ensures) (λ u w. sub u w) (poolOf (start .args .kinds .now) (start .args .words .now) (start .args .room)) (c .entries-in .ensures)))
 
 pub sub-in-spec : {M : Type 1} → statement M
 sub-in-spec =

@@ -6,8 +6,8 @@ use mathlib.Core.Path.{_≡_}
 use Rattle.pool.specs.Made.{poolOf}
 use Rattle.taylor.specs.Work.{mul, at}
 use Rattle.taylor.specs.Expansion.{times}
-use Rattle.taylor_base.proofs.Lists.{constant-answers, lists-answer, lists-same}
-use Rattle.taylor_base.proofs.Operations.{Coded, given-coded, all-entries, each-made}
+use Rattle.taylor_base.proofs.Lists.{constant-answers, lists-answer}
+use Rattle.taylor_base.proofs.Operations.{Coded, given-coded, all-entries, each-lists, list-sized}
 use Rattle.taylor_products.proofs.product.times_in.Statement.{statement}
 use Rattle.taylor_products.proofs.product.times_in.Tie as tie
 
@@ -41,8 +41,9 @@ entries-in-requires c κs = all-entries (c .before .before .before .before .befo
 returns-2 : tie.Need-returns-2
 unfolding times
 returns-2 c =
+    let start = c .before .before .before .before .before .before in
     rw (c .before .before .before .before .before .if1 .taken, c .before .before .before .if2 .left)
-    (lists-answer (lists-same (c .entries-in .ensures) (each-made (c .before .before .before .before .before .before .args .t5) (rhs-list (c .before .before .before .before .before .before) (c .before .before .before .if2 .left)) (λ w. mul w (at (c .before .before .before .before .before .before .args .t4 .coeffs) 0)) (poolOf (c .before .before .before .before .before .before .args .kinds .now) (c .before .before .before .before .before .before .args .words .now) (c .before .before .before .before .before .before .args .room)))))
+    (lists-answer (each-lists (start .args .t5) (rhs-list start (c .before .before .before .if2 .left)) (λ w. mul w (at (start .args .t4 .coeffs) 0)) (poolOf (start .args .kinds .now) (start .args .words .now) (start .args .room)) (c .entries-in .ensures)))
 
 element-copy-out-r-2 : tie.Need-element-copy-out-r-2
 element-copy-out-r-2 c = search needs
@@ -53,11 +54,12 @@ entries-in-requires-2 c κs = all-entries (c .before .before .before .before .be
 returns-3 : tie.Need-returns-3
 unfolding times
 returns-3 c =
+    let start = c .before .before .before .before .before .before in
     rw (c .before .before .before .before .before .if1 .left, c .before .before .before .before .if3 .taken)
-    (lists-answer (lists-same (c .entries-in2 .ensures) (each-made (c .before .before .before .before .before .before .args .t4) (lhs-list (c .before .before .before .before .before .before) (c .before .before .before .before .before .if1 .left)) (λ u. mul u (at (c .before .before .before .before .before .before .args .t5 .coeffs) 0)) (poolOf (c .before .before .before .before .before .before .args .kinds .now) (c .before .before .before .before .before .before .args .words .now) (c .before .before .before .before .before .before .args .room)))))
+    (lists-answer (each-lists (start .args .t4) (lhs-list start (c .before .before .before .before .before .if1 .left)) (λ u. mul u (at (start .args .t5 .coeffs) 0)) (poolOf (start .args .kinds .now) (start .args .words .now) (start .args .room)) (c .entries-in2 .ensures)))
 
 times-lists-requires : tie.Need-times-lists-requires
-times-lists-requires c κs = ((c .before .before .before .before .pre .0 .least (c .before .before .before .if1 .left), c .before .before .before .before .pre .0 .most (c .before .before .before .if1 .left)), (c .before .before .before .before .pre .1 .least (c .before .before .if3 .left), c .before .before .before .before .pre .1 .most (c .before .before .if3 .left)))
+times-lists-requires c κs = (list-sized (c .before .before .before .before .pre .0) (c .before .before .before .if1 .left), list-sized (c .before .before .before .before .pre .1) (c .before .before .if3 .left))
 
 returns-4 : tie.Need-returns-4
 unfolding times

@@ -1,6 +1,7 @@
 -- `taylor_products::subst::subst_in` meets its contract: a constant is itself, a list goes by Horner's method from a zero.
 -- Assumes nothing.
 use borrow.Author.Needs.{needs}
+use Rattle.taylor_base.proofs.Operations.{list-sized}
 use mathlib.Core.Path.{refl}
 use Rattle.taylor_base.proofs.Steps.{onward, stopped}
 use Rattle.taylor_base.proofs.Lists.{constant-answers, refusal-answers, answers-same}
@@ -38,7 +39,7 @@ returns-2 c =
     (stopped (zero .last .0) (zero .last .1 .0) _ (c .before .enum-told .given .1) (zero .ensures)))
 
 horner-in-requires : tie.Need-horner-in-requires
-horner-in-requires c κs = ((c .before .before .before .before .before .before .before .before .before .pre .0 .least (c .before .before .before .before .before .before .before .before .if1 .left), c .before .before .before .before .before .before .before .before .before .pre .0 .most (c .before .before .before .before .before .before .before .before .if1 .left)), c .before .before .before .before .before .before .before .before .before .pre .1)
+horner-in-requires c κs = ((list-sized (c .before .before .before .before .before .before .before .before .before .pre .0) (c .before .before .before .before .before .before .before .before .if1 .left)), c .before .before .before .before .before .before .before .before .before .pre .1)
 
 returns-3 : tie.Need-returns-3
 returns-3 c =

@@ -1,9 +1,17 @@
 -- `taylor_quotients::exp::exp_in` meets its contract: a constant, or a list.
 -- Assumes nothing.
 use borrow.Author.Needs.{needs}
-use Rattle.taylor_base.proofs.Lists.{constant-answers, lists-answer}
+use mathlib.Core.Bool.{false}
+use mathlib.Core.Path.{_≡_}
+use Rattle.pool.specs.Made.{poolOf}
+use Rattle.taylor_base.proofs.Operations.{Coded, given-coded, all-entries}
+use Rattle.taylor_base.proofs.Lists.{constant-answers, lists-answer, answers-same}
+use Rattle.taylor_quotients.proofs.Quotients.{exp-is}
 use Rattle.taylor_quotients.proofs.exp.exp_in.Statement.{statement}
 use Rattle.taylor_quotients.proofs.exp.exp_in.Tie as tie
+
+list : (c : tie.Start) → c .args .t4 .constant ≡ false → Coded (c .args .t4)
+list c h = given-coded (c .pre) (search needs) h
 
 element-copy-out-c : tie.Need-element-copy-out-c
 element-copy-out-c c = search needs
@@ -19,11 +27,14 @@ returns c =
     let made = c .before .exp-in in
     rw (c .before .before .before .before .before .if1 .taken) (constant-answers (made .result) (made .last .0) (made .last .1 .0) (c .answer-of .ensures) (made .ensures))
 
-exp-list-requires : tie.Need-exp-list-requires
-exp-list-requires c κs = (c .before .before .before .pre .least (c .before .before .if1 .left), c .before .before .before .pre .most (c .before .before .if1 .left))
+recurrence-in-requires : tie.Need-recurrence-in-requires
+recurrence-in-requires c κs = all-entries (c .before .before .before .args .t4) (list (c .before .before .before) (c .before .before .if1 .left))
 
 returns-2 : tie.Need-returns-2
-returns-2 c = rw (c .before .before .before .if1 .left) (lists-answer (c .exp-list .ensures))
+returns-2 c =
+    let start = c .before .before .before .before in
+    let test = c .before .before .before .if1 .left in
+    rw test (answers-same (lists-answer (c .recurrence-in .ensures)) (exp-is (start .args .t4) (list start test) (poolOf (start .args .kinds .now) (start .args .words .now) (start .args .room))))
 
 pub exp-in-spec : {M : Type 1} → statement M
 exp-in-spec =
@@ -33,5 +44,5 @@ exp-in-spec =
     exp-in-requires
     answer-of-requires
     returns
-    exp-list-requires
+    recurrence-in-requires
     returns-2)

@@ -5,15 +5,17 @@ use mathlib.Core.Bool.{false}
 use mathlib.Core.Path.{_≡_}
 use Rattle.pool.specs.Made.{poolOf}
 use Rattle.taylor.specs.Work.{div, at}
-use Rattle.taylor_base.specs.Answers.{listOf}
-use Rattle.taylor_base.proofs.Lists.{constant-answers, lists-answer, lists-same, answers-same}
-use Rattle.taylor_base.proofs.Operations.{Coded, given-coded, all-entries, each-made}
+use Rattle.taylor_base.proofs.Lists.{constant-answers, lists-answer, answers-same}
+use Rattle.taylor_base.proofs.Operations.{Coded, given-coded, shorter-entries, all-entries, each-lists}
 use Rattle.taylor_quotients.proofs.Quotients.{constant-over-is, list-over-is}
 use Rattle.taylor_quotients.proofs.quotient.quotient_in.Statement.{statement}
 use Rattle.taylor_quotients.proofs.quotient.quotient_in.Tie as tie
 
 lhs-list : (c : tie.Start) → c .args .t4 .constant ≡ false → Coded (c .args .t4)
 lhs-list c h = given-coded (c .pre .0) (search needs) h
+
+rhs-list : (c : tie.Start) → c .args .t5 .constant ≡ false → Coded (c .args .t5)
+rhs-list c h = given-coded (c .pre .1) (search needs) h
 
 element-copy-out-l : tie.Need-element-copy-out-l
 element-copy-out-l c = search needs
@@ -32,11 +34,16 @@ returns c =
     let made = c .before .div-in in
     rw (c .before .before .before .before .before .before .before .if1 .taken, c .before .before .before .before .before .if2 .taken) (constant-answers (made .result) (made .last .0) (made .last .1 .0) (c .answer-of .ensures) (made .ensures))
 
-constant-over-requires : tie.Need-constant-over-requires
-constant-over-requires c κs = (c .before .before .before .before .before .pre .1 .least (c .before .before .if2 .left), c .before .before .before .before .before .pre .1 .most (c .before .before .if2 .left))
+recurrence-in-requires : tie.Need-recurrence-in-requires
+recurrence-in-requires c κs =
+    let start = c .before .before .before .before .before in
+    all-entries (start .args .t5) (rhs-list start (c .before .before .if2 .left))
 
 returns-2 : tie.Need-returns-2
-returns-2 c = rw (c .before .before .before .before .before .if1 .taken, c .before .before .before .if2 .left) (answers-same (lists-answer (c .constant-over .ensures)) (constant-over-is (at (c .before .before .before .before .before .before .args .t4 .coeffs) 0) (listOf (c .before .before .before .before .before .before .args .t5)) (poolOf (c .before .before .before .before .before .before .args .kinds .now) (c .before .before .before .before .before .before .args .words .now) (c .before .before .before .before .before .before .args .room))))
+returns-2 c =
+    let test = c .before .before .before .if2 .left in
+    let start = c .before .before .before .before .before .before in
+    rw (c .before .before .before .before .before .if1 .taken, test) (answers-same (lists-answer (c .recurrence-in .ensures)) (constant-over-is (start .args .t5) (rhs-list start test) (poolOf (start .args .kinds .now) (start .args .words .now) (start .args .room)) (at (start .args .t4 .coeffs) 0)))
 
 element-copy-out-r-2 : tie.Need-element-copy-out-r-2
 element-copy-out-r-2 c = search needs
@@ -46,14 +53,27 @@ entries-in-requires c κs = all-entries (c .before .before .before .before .befo
 
 returns-3 : tie.Need-returns-3
 returns-3 c =
-    rw (c .before .before .before .before .before .if1 .left, c .before .before .before .before .if3 .taken)
-    (lists-answer (lists-same (c .entries-in .ensures) (each-made (c .before .before .before .before .before .before .args .t4) (lhs-list (c .before .before .before .before .before .before) (c .before .before .before .before .before .if1 .left)) (λ u. div u (at (c .before .before .before .before .before .before .args .t5 .coeffs) 0)) (poolOf (c .before .before .before .before .before .before .args .kinds .now) (c .before .before .before .before .before .before .args .words .now) (c .before .before .before .before .before .before .args .room)))))
+    let test = c .before .before .before .before .before .if1 .left in
+    let start = c .before .before .before .before .before .before in
+    rw (test, c .before .before .before .before .if3 .taken)
+    (lists-answer (each-lists (start .args .t4) (lhs-list start test) (λ u. div u (at (start .args .t5 .coeffs) 0)) (poolOf (start .args .kinds .now) (start .args .words .now) (start .args .room)) (c .entries-in .ensures)))
 
-list-over-requires : tie.Need-list-over-requires
-list-over-requires c κs = ((c .before .before .before .before .pre .0 .least (c .before .before .before .if1 .left), c .before .before .before .before .pre .0 .most (c .before .before .before .if1 .left)), (c .before .before .before .before .pre .1 .least (c .before .before .if3 .left), c .before .before .before .before .pre .1 .most (c .before .before .if3 .left)))
+shorter-requires : tie.Need-shorter-requires
+shorter-requires c κs = search needs
+
+recurrence-in-requires-2 : tie.Need-recurrence-in-requires-2
+recurrence-in-requires-2 c κs =
+    let start = c .before .before .before .before .before in
+    shorter-entries (start .args .t4) (start .args .t5) (lhs-list start (c .before .before .before .before .if1 .left)) (rhs-list start (c .before .before .before .if3 .left)) (c .shorter .ensures)
 
 returns-4 : tie.Need-returns-4
-returns-4 c = rw (c .before .before .before .before .if1 .left, c .before .before .before .if3 .left) (answers-same (lists-answer (c .list-over .ensures)) (list-over-is (listOf (c .before .before .before .before .before .args .t4)) (listOf (c .before .before .before .before .before .args .t5)) (poolOf (c .before .before .before .before .before .args .kinds .now) (c .before .before .before .before .before .args .words .now) (c .before .before .before .before .before .args .room))))
+returns-4 c =
+    let start = c .before .before .before .before .before .before in
+    let lhs = c .before .before .before .before .before .if1 .left in
+    let rhs = c .before .before .before .before .if3 .left in
+    rw (lhs, rhs)
+    (answers-same (lists-answer (c .recurrence-in2 .ensures))
+    (list-over-is (start .args .t4) (start .args .t5) (lhs-list start lhs) (rhs-list start rhs) (c .before .shorter .ensures) (poolOf (start .args .kinds .now) (start .args .words .now) (start .args .room))))
 
 pub quotient-in-spec : {M : Type 1} → statement M
 quotient-in-spec =
@@ -64,10 +84,11 @@ quotient-in-spec =
     div-in-requires
     answer-of-requires
     returns
-    constant-over-requires
+    recurrence-in-requires
     returns-2
     element-copy-out-r-2
     entries-in-requires
     returns-3
-    list-over-requires
+    shorter-requires
+    recurrence-in-requires-2
     returns-4)

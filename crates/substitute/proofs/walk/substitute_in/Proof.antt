@@ -1,0 +1,23 @@
+-- `substitute_in` is a whole walk: it begins with no result kept, and a root past the tables is no node.
+-- Assumes nothing.
+use native.Mathlib.Omega.{arith}
+use mathlib.Core.Path.{refl}
+use Rattle.walks.specs.Substitute.{substituteAt, substituteVar, substituteNode}
+use Rattle.walk_laws.specs.Walked.{resultsOf}
+use Rattle.walk_laws.proofs.Turns.{whole, nowhere}
+use Rattle.substitute.proofs.walk.substitute_in.Statement.{statement}
+use Rattle.substitute.proofs.walk.substitute_in.Tie as tie
+
+walk-at-requires : tie.Need-walk-at-requires
+walk-at-requires c κs = omega arith
+
+returns : tie.Need-returns
+unfolding substituteVar
+returns c = whole (substituteAt (c .before .before .before .before .before .args .var) (c .before .before .before .before .before .args .value)) _ (resultsOf (c .walk-at .last .1 .1 .0)) (c .before .before .before .before .before .args .root) (c .walk-at .ensures)
+
+returns-2 : tie.Need-returns-2
+unfolding substituteVar
+returns-2 c = nowhere (substituteNode (c .before .args .var) (c .before .args .value)) _ (c .before .args .root) (c .if1 .left) (λ down S. refl)
+
+pub substitute-in-spec : {M : Type 1} → statement M
+substitute-in-spec = tie.close (tie.spec walk-at-requires returns returns-2)
