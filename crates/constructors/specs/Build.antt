@@ -3,14 +3,13 @@
 use mathlib.Core.Bool.{Bool, true, false}
 use Prim.Native.Nat.{ℕ, zero, suc}
 use lib.Dec.{leb}
-use lib.IntN.{ℤ}
 use Rattle.refusals.specs.Refusals.{tooDeep, exponentTooLarge}
 use Rattle.literal.specs.Literal.{folded, expOf, logOf}
 use Rattle.literal.specs.declared.Folded.{Folded}
 use Rattle.literal.specs.declared.Folded.the-variants.{Value, Refused}
 use Rattle.pool.specs.declared.node.Node.the-variants as node
 use Rattle.pool.specs.Nodes.{greatestExponent}
-use Rattle.pool.specs.Pool.{Pool, Out, Run, _>>=_, yield, refuse, append, nodeAt}
+use Rattle.pool.specs.Pool.{Run, _>>=_, yield, refuse, append, nodeAt}
 use Rattle.constructors.specs.Terms.{Term, #, lit, lit-exp, lit-log, add, mul, exp, log, pow, Add, Mul, Div, Max, Exp, Log, Pow}
 use Rattle.constructors.specs.Tables.{addTable, mulTable, divTable, negTable, expTable, logTable, powTable, maxTable}
 

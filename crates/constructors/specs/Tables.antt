@@ -6,7 +6,7 @@ use lib.IntN.{ℤ, pos, negsuc, _+ℤ_, _*ℤ_}
 use Rattle.literal.specs.Literal.{isZero, isOne}
 use Rattle.pool.specs.declared.node.Node.{Node}
 use Rattle.constructors.specs.Patterns.{litIn, addIn, mulIn, expIn, powIn}
-use Rattle.constructors.specs.Terms.{Term, #, lit, lit-exp, lit-log, add, mul, exp, log, pow, Add, Mul, Div, Max, Exp, Log, Pow, Arm, skip, leave, return, _>>=_, _>>_, _&_, swap, _or_, inside, _then_}
+use Rattle.constructors.specs.Terms.{Term, #, lit, lit-exp, lit-log, add, mul, exp, log, pow, Add, Mul, Div, Max, Exp, Log, Pow, Arm, return, _>>=_, _>>_, _&_, swap, _or_, inside, _then_}
 
 module _ (at : ℕ → Node) where
   abbrev pub lit? : ℕ → Arm ℤ

@@ -1,6 +1,6 @@
 -- Doubles, from document 01's "Values": the toolchain's account of IEEE 754 at binary64, with 01's own rules for Pow and Max.
 -- Assumes nothing.
-use mathlib.Core.Bool.{Bool, true, false, _||_, cond}
+use mathlib.Core.Bool.{_||_, cond}
 use Prim.Native.Nat.{ℕ, zero, suc, _/_, _%_}
 use lib.Dec.{eqb}
 use lib.IntN.{ℤ, pos}

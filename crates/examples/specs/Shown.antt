@@ -2,7 +2,6 @@
 -- Assumes nothing.
 use mathlib.Core.List.{List, [], _∷_}
 use Prim.Native.Nat.{ℕ}
-use lib.IntN.{ℤ, pos}
 use Rattle.pool.specs.declared.node.Node.the-variants as node
 pub use Rattle.text.specs.Text.{bytes}
 use Rattle.pool.specs.Pool.{Pool, Out, done, refused, Run, _>>=_, append, nodeAt}

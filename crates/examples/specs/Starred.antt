@@ -5,7 +5,7 @@ use mathlib.Core.List.{[], _∷_}
 use Prim.Native.Nat.{ℕ}
 use lib.IntN.{ℤ, pos}
 use Rattle.refusals.specs.Refusals.{noExpOrLog}
-use Rattle.residue.specs.Residue.{fixedModulus, residue}
+use Rattle.residue.specs.Residue.{fixedModulus}
 use Rattle.residue.specs.declared.Divided.{Divided}
 use Rattle.residue.specs.declared.Divided.the-variants.{Residue, Refused}
 use Rattle.pool.specs.declared.node.Node.the-variants as node

@@ -2,7 +2,7 @@
 -- Assumes nothing.
 use mathlib.Core.Path.{_≡_, refl, ap, _∙_}
 use mathlib.Core.Bool.{Bool, true, false, _&&_, and-eq-true-iff}
-use mathlib.Core.List.{List, [], _∷_, _++_, map}
+use mathlib.Core.List.{List, _∷_, map}
 use Prim.Native.Nat.{ℕ, zero, suc, _+_, _-_, _<_, _≤_}
 use native.Mathlib.Nat.{zero-add}
 use native.Mathlib.Omega.{arith}
@@ -13,7 +13,7 @@ use borrow.Author.Tests.{leb-true, ltb-true, ltb-false, lt-ltb}
 use Rattle.pool.specs.declared.node.Node.the-variants.{Exp}
 use Rattle.pool.specs.Nodes.{decode, half, mayStandAt}
 use Rattle.pool.specs.Pool.{limit, isPool, each}
-use Rattle.constructor_laws.proofs.Rules.{Rules, kept-rules, each-at, entryAt, entry-before, entry-behind}
+use Rattle.constructor_laws.proofs.Rules.{kept-rules, each-at, entryAt, entry-before, entry-behind}
 use Rattle.limits.specs.Lent.{Entry, Lent, lent, table, kindIn, wordIn, kindsOf, wordsOf, from, full, chain}
 
 -- a lent pool passes the test of 1

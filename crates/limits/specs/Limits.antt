@@ -1,8 +1,7 @@
 -- The limits and the refusal numbers of document 01, in its digits: what a call answers at each limit, and one past it. No name of a limit or of a refusal stands here.
 -- Assumes nothing.
 use mathlib.Core.Path.{_≡_}
-use mathlib.Core.List.{List, [], _∷_, _++_}
-use Prim.Native.Nat.{ℕ}
+use mathlib.Core.List.{[], _∷_, _++_}
 use lib.IntN.{pos, negsuc}
 use lib.Ieee.{Float, binary64, toBits}
 use lib.ListN.{replicate}
@@ -21,7 +20,7 @@ use Rattle.engine_pairs.specs.Pairs.{onExpansions}
 use Rattle.engine_pairs.specs.declared.binary.Binary.the-variants as binary
 use Rattle.engine_expand.specs.Expressions.{expandWork}
 use Rattle.limits.specs.Lent.{Lent, lent, tables, variable, literal, sum, product, quotient, greater, exponential, logarithm, power, full, underMul}
-use Rattle.limits.specs.Calls.{Answer, gives, refuses, called, expanded, listed, listOf, evaluated, evaluatedByResidues, printed, written}
+use Rattle.limits.specs.Calls.{gives, refuses, called, expanded, listed, listOf, evaluated, evaluatedByResidues, printed, written}
 use Rattle.limits.specs.Digits.{hex}
 
 -- "An empty pool has count 0."

@@ -23,7 +23,7 @@ use Rattle.engine_file.specs.Write.{fileOver}
 use Rattle.lent.specs.Call.{leaves}
 use Rattle.lent.specs.declared.Answer.the-variants as answered
 use Rattle.limits.specs.Lent.{lent, chain, variable, kindsOf, wordsOf}
-use Rattle.limits.specs.Calls.{Answer, gives, refuses, called, nodeGiven, output, lengthWritten, written, file}
+use Rattle.limits.specs.Calls.{gives, refuses, called, nodeGiven, output, lengthWritten, written, file}
 use Rattle.limits_texts.specs.Outputs.{Longest}
 use Rattle.limits.proofs.Pools.{chain-by-rules, chainKinds, chainWords, chain-entry, from-below}
 use Rattle.limits.proofs.Called.{called-on, written-by, file-by, fileIn}

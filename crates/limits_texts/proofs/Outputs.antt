@@ -18,7 +18,7 @@ use Rattle.pool.specs.Pool.{nodeIn, each}
 use Rattle.shape.specs.Order as order
 use Rattle.shape.specs.File.{fileOf, writtenFile}
 use Rattle.refusals.specs.Refusals.{maxReached, noRoom}
-use Rattle.walks.specs.Print.{textOf, hasMax}
+use Rattle.walks.specs.Print.{textOf}
 use Rattle.lent.specs.Call.{demand}
 use Rattle.lent.specs.declared.Written.the-variants.{Length}
 use Rattle.lent.specs.Writing.{put, unwritten, writes}

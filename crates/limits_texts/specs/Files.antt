@@ -4,7 +4,7 @@ use mathlib.Core.Path.{_≡_}
 use mathlib.Core.List.{List, [], _∷_}
 use Rattle.shape.specs.File.{readFile}
 use Rattle.limits.specs.Lent.{Entry, Lent, lent, variable, literal, sum, product, quotient, greater, exponential, logarithm, power}
-use Rattle.limits.specs.Calls.{Answer, gives, refuses, called, file}
+use Rattle.limits.specs.Calls.{refuses, called, file}
 use Rattle.limits.specs.Digits.{hex}
 
 -- nodes 0 and 1 are x0 and x1; then these

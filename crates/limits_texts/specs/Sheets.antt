@@ -1,7 +1,7 @@
 -- The limits and the refusal numbers in the text that the program `sheet` prints.
 -- Assumes nothing.
 use mathlib.Core.Path.{_≡_}
-use mathlib.Core.List.{List, [], _∷_, _++_}
+use mathlib.Core.List.{List, [], _++_}
 use Prim.Native.Nat.{ℕ}
 use lib.ListN.{length, replicate}
 use Rattle.sheet_text.specs.Sheet.{sheet}

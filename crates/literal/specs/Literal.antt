@@ -1,6 +1,6 @@
 -- Literals, from document 01: their range, folding with its range test, `exp` and `log` of a literal, and the word in the pool.
 -- Assumes nothing.
-use mathlib.Core.Bool.{Bool, true, false, cond}
+use mathlib.Core.Bool.{Bool, false, cond}
 use Prim.Native.Nat.{ℕ, _-_, _^_}
 use lib.Dec.{leb, eqb}
 use lib.IntN.{ℤ, pos, negsuc, natAbs}

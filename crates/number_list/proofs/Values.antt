@@ -6,7 +6,7 @@ use mathlib.Core.List.{List, [], _∷_}
 use Prim.Native.Nat.{ℕ, _+_, _*_, _-_, _≤_, _<_}
 use native.Mathlib.Omega.{arith}
 use lib.ListN.{length, getD, drop, drop-of-length-le}
-use Rattle.number_list.specs.Numbers.{greatest, isDigit, value, Reads}
+use Rattle.number_list.specs.Numbers.{greatestNumber, isDigit, value, Reads}
 use Rattle.number_list.proofs.Runs.{here}
 
 -- digits only make a number greater
@@ -21,7 +21,7 @@ grows n (b ∷ bs) = go (isDigit b) (grows (10 * n + (b - 48)) bs)
 
 -- the digits before i gave n, and those from i on go on from it
 pub record Reading (text : List ℕ) (from n i : ℕ) : Type 0 where
-  pub small : n ≤ greatest
+  pub small : n ≤ greatestNumber
   pub gives : value n (drop i text) ≡ value 0 (drop from text)
 
 pub starts : (text : List ℕ) (from : ℕ) → Reading text from 0 from
@@ -45,10 +45,10 @@ module _ (text : List ℕ) (from n i : ℕ) (r : Reading text from n i) where
   unfolding value
   ends h = as-it-is (ap (value n) (sym (drop-of-length-le text h)) ∙ r .gives)
 
-  pub goes-on : {t : Bool} → i < length text → t ≡ isDigit (getD text i 0) → t ≡ true → 10 * n + (getD text i 0 - 48) ≤ greatest → Reading text from (10 * n + (getD text i 0 - 48)) (i + 1)
+  pub goes-on : {t : Bool} → i < length text → t ≡ isDigit (getD text i 0) → t ≡ true → 10 * n + (getD text i 0 - 48) ≤ greatestNumber → Reading text from (10 * n + (getD text i 0 - 48)) (i + 1)
   goes-on {t} h e f room = record { small = room; gives = at true h (sym f ∙ e) }
 
-  pub too-long : {t : Bool} → i < length text → t ≡ isDigit (getD text i 0) → t ≡ true → greatest < 10 * n + (getD text i 0 - 48) → Reads greatest (value 0 (drop from text))
+  pub too-long : {t : Bool} → i < length text → t ≡ isDigit (getD text i 0) → t ≡ true → greatestNumber < 10 * n + (getD text i 0 - 48) → Reads greatestNumber (value 0 (drop from text))
   too-long {t} h e f over =
       let p = at true h (sym f ∙ e) in
       let g = grows (10 * n + (getD text i 0 - 48)) (drop (i + 1) text) in

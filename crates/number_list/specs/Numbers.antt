@@ -8,8 +8,8 @@ use lib.Dec.{leb}
 use lib.ListN.{drop}
 
 -- the greatest number of 64 bits
-abbrev pub greatest : ℕ
-greatest = 18446744073709551615
+abbrev pub greatestNumber : ℕ
+greatestNumber = 18446744073709551615
 
 abbrev pub isDigit : ℕ → Bool
 isDigit b = leb 48 b && leb b 57
@@ -33,13 +33,13 @@ abbrev pub firstDigit : List ℕ → ℕ → ℕ
 firstDigit text at = at + run false (drop at text)
 
 -- the next number, and the place behind it
-abbrev pub numberAt : List ℕ → ℕ → ℕ
-numberAt text at = value 0 (drop (firstDigit text at) text)
+abbrev pub decimalAt : List ℕ → ℕ → ℕ
+decimalAt text at = value 0 (drop (firstDigit text at) text)
 
 abbrev pub placeAfter : List ℕ → ℕ → ℕ
 placeAfter text at = firstDigit text at + run true (drop (firstDigit text at) text)
 
 -- a number of 64 bits is read as it is; a greater one, which no list has, as the greatest
 pub record Reads (r v : ℕ) : Type 0 where
-  pub fits : v ≤ greatest → r ≡ v
-  pub above : greatest < v → r ≡ greatest
+  pub fits : v ≤ greatestNumber → r ≡ v
+  pub above : greatestNumber < v → r ≡ greatestNumber

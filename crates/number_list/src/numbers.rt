@@ -4,7 +4,7 @@ ghost use mathlib.Core.Bool.{true, false};
 ghost use Prim.Native.Nat.{_+_, _*_, _-_};
 ghost use lib.Dec.{leb};
 ghost use lib.ListN.{length, drop};
-ghost use Rattle.number_list.specs.Numbers.{greatest, isDigit, belongsTo, run, value, firstDigit, numberAt, placeAfter, Reads};
+ghost use Rattle.number_list.specs.Numbers.{greatestNumber, isDigit, belongsTo, run, value, firstDigit, decimalAt, placeAfter, Reads};
 
 fn is_digit(byte: u8) -> bool
     ensures { λ r. ⌜ r ≡ isDigit byte ⌝ }
@@ -46,7 +46,7 @@ const TENTH: u64 = 1_844_674_407_370_955_161;
 
 // Whether a number has room for one more digit.
 fn has_room(n: u64, digit: u64) -> bool
-    ensures { λ r. ⌜ r ≡ leb (10 * n + digit) greatest ⌝ }
+    ensures { λ r. ⌜ r ≡ leb (10 * n + digit) greatestNumber ⌝ }
 {
     if TENTH < n {
         return false;
@@ -86,7 +86,7 @@ fn value_from(text: &[u8], from: usize) -> u64
 
 // The next number, from a place on, which then is the place behind it.
 pub fn next(text: &[u8], at: &mut usize) -> u64
-    ensures { λ r. ⌜ Reads r (numberAt (now (text .entry)) (now (at .entry))) ⌝ }
+    ensures { λ r. ⌜ Reads r (decimalAt (now (text .entry)) (now (at .entry))) ⌝ }
     ensures { λ _. ⌜ now (at .exit) ≡ placeAfter (now (text .entry)) (now (at .entry)) ⌝ }
 {
     let from = run_end(text, *at, false);

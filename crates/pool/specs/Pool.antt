@@ -1,6 +1,6 @@
 -- The pool of document 01: "a lent table of 4,096 kinds, one of 4,096 words, and a count from 0 to 4,096". The state of every definition is these two tables, the count, and the number at which the pool is full.
 -- Assumes nothing.
-use mathlib.Core.Bool.{Bool, true, false, _&&_, cond}
+use mathlib.Core.Bool.{Bool, true, _&&_, cond}
 use mathlib.Core.List.{List}
 use Prim.Native.Nat.{ℕ, zero, suc, _+_}
 use lib.Dec.{leb, ltb, eqb}

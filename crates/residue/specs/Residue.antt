@@ -1,6 +1,6 @@
 -- Residues, from document 01's "By residues .." and document 02's C-17: the modulus is a parameter, and need not be prime.
 -- Assumes nothing.
-use mathlib.Core.Bool.{Bool, true, false, cond}
+use mathlib.Core.Bool.{Bool, cond}
 use Prim.Native.Nat.{ℕ, zero, suc, _+_, _-_, _*_, _%_, _^_, _≤_}
 use lib.Dec.{eqb}
 use lib.IntN.{ℤ, pos, negsuc}

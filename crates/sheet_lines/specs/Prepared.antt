@@ -18,7 +18,7 @@ use Rattle.expand.specs.declared.point.Point.the-variants as place
 use Rattle.shape.specs.File.{readFile}
 use Rattle.inputs.specs.Rooms.{Holds}
 use Rattle.sheet_text.specs.Line.{Line, usage, asks, parse}
-use Rattle.sheet_text.specs.Sheet.{Coefficients, coefficientsOf, empty, expandRoot, sheet}
+use Rattle.sheet_text.specs.Sheet.{Coefficients, empty, expandRoot, sheet}
 use Rattle.sheet_page.specs.declared.first.Page.{Page}
 use Rattle.sheet_page.specs.declared.first.Verdict.{Verdict}
 use Rattle.sheet_page.specs.Pages.{wholeOf, Printable}

@@ -1,8 +1,8 @@
 -- A sheet in pieces, line by line: the first line is one piece; of each further line the index, the text and the line end are one each.
 -- Assumes nothing.
 use mathlib.Core.Path.{_≡_}
-use mathlib.Core.Bool.{Bool, true, false, _&&_, cond}
-use mathlib.Core.List.{List, [], _∷_, _++_}
+use mathlib.Core.Bool.{_&&_, cond}
+use mathlib.Core.List.{List, [], _++_}
 use Prim.Native.Nat.{ℕ, zero, suc, _≤_, _<_}
 use lib.Dec.{leb, ltb}
 use lib.ListN.{length, drop}

@@ -1,7 +1,7 @@
 -- The sheet that document 01 prints, computed from the definition.
 -- Assumes nothing.
 use mathlib.Core.Path.{_≡_, refl}
-use mathlib.Core.List.{[], _∷_}
+use mathlib.Core.List.{_∷_}
 use lib.ListN.{replicate}
 use Rattle.literal.specs.Literal.{folded, expOf, logOf}
 use Rattle.text.specs.Text.{bytes, digitsWithin, decimal, signedDecimal, display}

@@ -1,9 +1,9 @@
 -- The input line of `sheet`: "a line of variable, order and, if wanted, point: decimals without leading zeros, one space between, a minus only before a nonzero point, a line end .. or none, 64 bytes at most".
 -- Assumes nothing.
 use mathlib.Core.Bool.{Bool, true, false, not, _&&_, cond}
-use mathlib.Core.List.{List, [], _∷_, _++_}
+use mathlib.Core.List.{List, [], _∷_}
 use Prim.Native.Nat.{ℕ, zero, suc, _+_, _-_, _*_}
-use lib.Dec.{leb, ltb, eqb}
+use lib.Dec.{leb, eqb}
 use lib.IntN.{ℤ, pos, negsuc}
 use lib.ListN.{length}
 use Rattle.taylor.specs.Expand.{Point, none, point}

@@ -26,7 +26,7 @@ use Rattle.engine_given.specs.Variable.{varCall}
 use Rattle.engine_given.specs.Read.{counted, countOf, expansionOr, coefficientsOf}
 use Rattle.engine_pairs.specs.Pairs.{agree}
 use Rattle.engine_expand.specs.Expressions.{expandWork}
-use Rattle.situations.specs.Refusal.{Among, ofOut, ofResult}
+use Rattle.situations.specs.Refusal.{Among, ofResult}
 use Rattle.situations.specs.Situations.{OfExpansions}
 use Rattle.situations.proofs.Situations.{of-walks, of-expansions}
 use Rattle.situation_calls.specs.Table as table

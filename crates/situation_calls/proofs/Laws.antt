@@ -1,6 +1,6 @@
 -- How a check in front of the work changes what a call answers, for every kind of answer; and what follows from the table for every call: which numbers it can answer at all, and that 0 is none of them.
 -- Assumes nothing.
-use mathlib.Core.Path.{_≡_, refl, sym, subst, subst⁻¹}
+use mathlib.Core.Path.{_≡_, refl, sym, subst⁻¹}
 use mathlib.Core.Logic.{inl, inr}
 use mathlib.Core.Bool.{Bool, true, false}
 use mathlib.Core.List.{List, [], _∷_, _++_}

@@ -9,7 +9,7 @@ use Rattle.refusals.specs.Refusals.{noExpOrLog, outOfRange, exponentTooLarge, t
 use Rattle.literal.specs.Literal.{folded}
 use Rattle.pool.specs.declared.node.Node.the-variants as node
 use Rattle.pool.specs.Nodes.{greatestExponent}
-use Rattle.pool.specs.Pool.{Pool, refuse, nodeAt}
+use Rattle.pool.specs.Pool.{Pool, nodeAt}
 use Rattle.constructors.specs.Terms.{Term, #, lit, lit-exp, lit-log, add, mul, exp, log, pow, Add, Mul, Div, Max, Exp, Log, Pow}
 use Rattle.constructors.specs.Tables.{addTable, mulTable, divTable, negTable, expTable, logTable, powTable, maxTable}
 use Rattle.constructors.specs.Build.{Calls, literal, build, noCalls, deeper, calls}

@@ -1,6 +1,6 @@
 -- Evaluation as doubles, from document 01's "Values, from a table of one value per variable". No result is kept in the definition: a node has one value.
 -- Assumes nothing.
-use mathlib.Core.Bool.{Bool, true, false, cond}
+use mathlib.Core.Bool.{cond}
 use mathlib.Core.List.{List}
 use Prim.Native.Nat.{ℕ}
 use lib.Dec.{ltb}

@@ -1,6 +1,6 @@
 -- Evaluation by residues, from document 01's "By residues ..", the modulus as a parameter (02, C-17).
 -- Assumes nothing.
-use mathlib.Core.Bool.{Bool, true, false, cond}
+use mathlib.Core.Bool.{cond}
 use mathlib.Core.List.{List}
 use Prim.Native.Nat.{ℕ}
 use lib.Dec.{ltb}

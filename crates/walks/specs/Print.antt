@@ -1,7 +1,7 @@
 -- Printing: `precedence` and `node_fmt` of src/symbolic.rs, as bytes.
 -- Assumes nothing.
 use mathlib.Core.Bool.{Bool, true, false}
-use mathlib.Core.List.{List, [], _∷_, _++_}
+use mathlib.Core.List.{List, [], _++_}
 use Prim.Native.Nat.{ℕ, _+_}
 use lib.Dec.{ltb}
 use Rattle.text.specs.Text.{bytes, decimal, signedDecimal, display}

@@ -1,6 +1,6 @@
 -- A walk over an expression that builds: left before right, "and keep each visited node's result for that call, so a shared part stays shared".
 -- Assumes nothing.
-use mathlib.Core.Bool.{Bool, true, false, cond}
+use mathlib.Core.Bool.{cond}
 use mathlib.Core.List.{List}
 use Prim.Native.Nat.{ℕ, zero, suc}
 use lib.Dec.{eqb}

@@ -17,8 +17,9 @@ int-to-float-t3 c = literal-has-double _ (sym (c .before .before .is-literal .en
 
 returns : tie.Need-returns
 returns c =
-    let z = c .before .before .before .args .z in
-    let e : toZ w64 (ofZ w64 z) ≡ z = toZ-ofZ w64 z (c .before .before .before .fits .z) in
+    let start = c .before .before .before in
+    let z = start .args .z in
+    let e : toZ w64 (ofZ w64 z) ≡ z = toZ-ofZ w64 z (start .fits .z) in
     rw e (literal-double z (rw e at (sym (c .before .before .is-literal .ensures) ∙ c .before .if1 .taken)))
 
 returns-2 : tie.Need-returns-2

@@ -16,7 +16,10 @@ same-length-2 : tie.Need-same-length-2
 same-length-2 c = search needs
 
 returns : tie.Need-returns
-returns c = rw (toZ-ofZ w64 (c .before .before .before .before .before .before .before .before .before .before .args .z) (c .before .before .before .before .before .before .before .before .before .before .fits .z)) at (c .before .before .before .before .on-expression .ensures)
+returns c =
+    let at-on-expression = c .before .before .before .before in
+    let start = at-on-expression .before .before .before .before .before .before in
+    rw (toZ-ofZ w64 (start .args .z) (start .fits .z)) at (at-on-expression .on-expression .ensures)
 
 pub coeffs-at-spec : {M : Type 1} → statement M
 coeffs-at-spec = tie.close (tie.spec on-expression-requires same-length same-length-2 returns)

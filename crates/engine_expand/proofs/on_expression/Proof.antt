@@ -31,9 +31,12 @@ same-length-2 c = search needs
 
 returns : tie.Need-returns
 returns c =
-    let start = c .before .before .before .before .before .before .before .before .before .before in
+    let at-take-in = c .before .before in
+    let start = at-take-in .before .before .before .before .before .before .before .before in
     let a = start .args in
-    rw (c .refused .ensures) (broken (c .before .before .take-in .ensures) accepted refusedOutcome limit (expandWork (a .root) (a .var) (pointOf (a .x)) (a .order)) (not-true _ (c .before .if1 .taken)))
+    rw (c .refused .ensures)
+    (broken (at-take-in .take-in .ensures) accepted refusedOutcome limit (expandWork (a .root) (a .var) (pointOf (a .x)) (a .order))
+    (not-true _ (c .before .if1 .taken)))
 
 one-given-requires : tie.Need-one-given-requires
 one-given-requires c κs = search needs
@@ -54,7 +57,8 @@ returns-2 c =
     let a = start .args in
     let not-below = test-fails (c .before .before .one-given .ensures) (c .before .if2 .taken) in
     rw (c .refused2 .ensures)
-    (demanded (in-pool .before .take-in .ensures) (not-false _ (in-pool .if1 .left)) accepted refusedOutcome limit (expandWork (a .root) (a .var) (pointOf (a .x)) (a .order)) (rw not-below))
+    (demanded (in-pool .before .take-in .ensures) (not-false _ (in-pool .if1 .left)) accepted refusedOutcome limit
+    (expandWork (a .root) (a .var) (pointOf (a .x)) (a .order)) (rw not-below))
 
 is-variable-requires : tie.Need-is-variable-requires
 is-variable-requires c κs = search needs
@@ -77,7 +81,8 @@ returns-3 c =
     let below = test-holds (given .before .one-given .ensures) (given .if2 .left) in
     let unknown = test-fails (c .before .before .is-variable .ensures) (c .before .if3 .taken) in
     rw (c .refused3 .ensures)
-    (demanded (in-pool .before .take-in .ensures) (not-false _ (in-pool .if1 .left)) accepted refusedOutcome limit (expandWork (a .root) (a .var) (pointOf (a .x)) (a .order)) (rw (below, unknown)))
+    (demanded (in-pool .before .take-in .ensures) (not-false _ (in-pool .if1 .left)) accepted refusedOutcome limit
+    (expandWork (a .root) (a .var) (pointOf (a .x)) (a .order)) (rw (below, unknown)))
 
 is-point-requires : tie.Need-is-point-requires
 is-point-requires c κs = search needs
@@ -102,7 +107,8 @@ returns-4 c =
     let variable = test-holds (known .before .is-variable .ensures) (known .if3 .left) in
     let no-literal = test-fails (c .before .before .is-point .ensures) (c .before .if4 .taken) in
     rw (c .refused4 .ensures)
-    (demanded (in-pool .before .take-in .ensures) (not-false _ (in-pool .if1 .left)) accepted refusedOutcome limit (expandWork (a .root) (a .var) (pointOf (a .x)) (a .order)) (rw (below, variable, no-literal)))
+    (demanded (in-pool .before .take-in .ensures) (not-false _ (in-pool .if1 .left)) accepted refusedOutcome limit
+    (expandWork (a .root) (a .var) (pointOf (a .x)) (a .order)) (rw (below, variable, no-literal)))
 
 refused-requires-5 : tie.Need-refused-requires-5
 refused-requires-5 c κs = search needs
@@ -126,7 +132,8 @@ returns-5 c =
     let literal = test-holds (at-point .before .is-point .ensures) (at-point .if4 .left) in
     let too-high = le-ltb (a .order) terms (c .before .if5 .taken) in
     rw (c .refused5 .ensures)
-    (demanded (in-pool .before .take-in .ensures) (not-false _ (in-pool .if1 .left)) accepted refusedOutcome limit (expandWork (a .root) (a .var) (pointOf (a .x)) (a .order)) (rw (below, variable, literal, too-high)))
+    (demanded (in-pool .before .take-in .ensures) (not-false _ (in-pool .if1 .left)) accepted refusedOutcome limit
+    (expandWork (a .root) (a .var) (pointOf (a .x)) (a .order)) (rw (below, variable, literal, too-high)))
 
 cast-room-between : tie.Need-cast-room-between
 cast-room-between c =
@@ -149,8 +156,10 @@ cast-expand-in c =
 cast-expand-in-2 : tie.Need-cast-expand-in-2
 cast-expand-in-2 c =
     let known = c .before .before .before .before .before .before in
-    let start = known .before .before .before .before .before .before .before .before .before .before .before .before .before in
-    record { fits = omega (arith, leb-true (start .args .var) greatestVariable (test-holds (known .before .is-variable .ensures) (known .if3 .left))) }
+    let at-is-variable = known .before in
+    let earlier = at-is-variable .before .before .before .before .before .before in
+    let start = earlier .before .before .before .before .before .before in
+    record { fits = omega (arith, leb-true (start .args .var) greatestVariable (test-holds (at-is-variable .is-variable .ensures) (known .if3 .left))) }
 
 cast-expand-in-3 : tie.Need-cast-expand-in-3
 cast-expand-in-3 c = search needs

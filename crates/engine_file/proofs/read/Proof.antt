@@ -23,8 +23,9 @@ same-length-2 c = search needs
 
 returns : tie.Need-returns
 returns c =
-    let start = c .before .before .before .before .before .before .before .before .before .before in
-    broken (c .before .take-in .ensures) Node Refused limit (readFile (now (start .args .file))) (not-true _ (c .if1 .taken))
+    let at-take-in = c .before in
+    let start = at-take-in .before .before .before .before .before .before .before .before .before in
+    broken (at-take-in .take-in .ensures) Node Refused limit (readFile (now (start .args .file))) (not-true _ (c .if1 .taken))
 
 cast-room-between : tie.Need-cast-room-between
 cast-room-between c = record { fits = omega (arith, sizes (c .before .take-in .ensures) (not-false _ (c .if1 .left)) .small) }
@@ -46,8 +47,9 @@ finish-requires c κs =
     let work = c .before .before .before .before .before in
     let room = work .before .before .before in
     let in-pool = room .before in
-    let start = in-pool .before .before .before .before .before .before .before .before .before .before in
-    let taken = in-pool .before .take-in .ensures in
+    let at-take-in = in-pool .before in
+    let start = at-take-in .before .before .before .before .before .before .before .before .before in
+    let taken = at-take-in .take-in .ensures in
     let pool-taken = not-false _ (in-pool .if1 .left) in
     let file = now (start .args .file) in
     may-finish taken pool-taken limit (reading-grows file) (on-lent taken pool-taken (readFile file) (room .room-between .ensures) (work .read-file .ensures))
@@ -64,8 +66,9 @@ returns-2 c =
     let work = done .before .before .before .before .before .before in
     let room = work .before .before .before in
     let in-pool = room .before in
-    let start = in-pool .before .before .before .before .before .before .before .before .before .before in
-    let taken = in-pool .before .take-in .ensures in
+    let at-take-in = in-pool .before in
+    let start = at-take-in .before .before .before .before .before .before .before .before .before in
+    let taken = at-take-in .take-in .ensures in
     let pool-taken = not-false _ (in-pool .if1 .left) in
     let file = now (start .args .file) in
     worked taken pool-taken Node Refused limit (readFile file) (done .finish .ensures)

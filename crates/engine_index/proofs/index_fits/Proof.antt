@@ -14,10 +14,18 @@ returns : tie.Need-returns
 returns c = rw (sym (c .before .has-length .ensures) ∙ not-true _ (c .if1 .taken)) refl
 
 returns-2 : tie.Need-returns-2
-returns-2 c = rw (sym (c .before .before .has-length .ensures) ∙ not-false _ (c .before .if1 .left), eq-eqb (c .before .before .before .args .s .order) endless (c .if2 .taken)) refl
+returns-2 c =
+    rw (
+      sym (c .before .before .has-length .ensures) ∙ not-false _ (c .before .if1 .left),
+      eq-eqb (c .before .before .before .args .s .order) endless (c .if2 .taken),
+    ) refl
 
 returns-3 : tie.Need-returns-3
-returns-3 c = rw (sym (c .before .before .has-length .ensures) ∙ not-false _ (c .before .if1 .left), ne-eqb (c .before .before .before .args .s .order) endless (c .if2 .left)) refl
+returns-3 c =
+    rw (
+      sym (c .before .before .has-length .ensures) ∙ not-false _ (c .before .if1 .left),
+      ne-eqb (c .before .before .before .args .s .order) endless (c .if2 .left),
+    ) refl
 
 pub index-fits-spec : {M : Type 1} → statement M
 index-fits-spec = tie.close (tie.spec has-length-requires returns returns-2 returns-3)

@@ -51,7 +51,8 @@ returns-2 c =
     let in-pool = c .before .before in
     let start = in-pool .before .before .before .before .before .before .before .before .before in
     let a = start .args in
-    demanded (in-pool .before .take-in .ensures) (not-false _ (in-pool .if1 .left)) Node Refused limit (onIndex (a .op) (a .s) (a .index)) (rw (test-fails (c .before .nodes-below .ensures) (c .if2 .taken)))
+    demanded (in-pool .before .take-in .ensures) (not-false _ (in-pool .if1 .left)) Node Refused limit (onIndex (a .op) (a .s) (a .index))
+    (rw (test-fails (c .before .nodes-below .ensures) (c .if2 .taken)))
 
 index-fits-requires : tie.Need-index-fits-requires
 index-fits-requires c κs = search needs
@@ -69,7 +70,8 @@ returns-3 c =
     let start = in-pool .before .before .before .before .before .before .before .before .before in
     let a = start .args in
     let below = test-holds (nodes .before .nodes-below .ensures) (nodes .if2 .left) in
-    demanded (in-pool .before .take-in .ensures) (not-false _ (in-pool .if1 .left)) Node Refused limit (onIndex (a .op) (a .s) (a .index)) (rw (below, test-fails (c .before .index-fits .ensures) (c .if3 .taken)))
+    demanded (in-pool .before .take-in .ensures) (not-false _ (in-pool .if1 .left)) Node Refused limit (onIndex (a .op) (a .s) (a .index))
+    (rw (below, test-fails (c .before .index-fits .ensures) (c .if3 .taken)))
 
 cast-room-between : tie.Need-cast-room-between
 cast-room-between c =
@@ -91,7 +93,8 @@ expansion-of-requires c κs =
     let a = start .args in
     let small = sizes (in-pool .before .take-in .ensures) (not-false _ (in-pool .if1 .left)) .small in
     let has-index = test-holds (listed .before .index-fits .ensures) (listed .if3 .left) in
-    usable (a .s) (a .count .now) (long start) small (test-holds (nodes .before .nodes-below .ensures) (nodes .if2 .left)) (index-length (a .s) (a .index) has-index)
+    usable (a .s) (a .count .now) (long start) small (test-holds (nodes .before .nodes-below .ensures) (nodes .if2 .left))
+    (index-length (a .s) (a .index) has-index)
 
 indexed-in-requires : tie.Need-indexed-in-requires
 indexed-in-requires c κs =
@@ -103,8 +106,13 @@ indexed-in-requires c κs =
     let pool-taken = not-false _ (in-pool .if1 .left) in
     let long-as = sizes taken pool-taken in
     let e = narrowed .expansion-of .ensures in
-    let has-index = test-holds (listed .before .index-fits .ensures) (listed .if3 .left) in
-    (tidy-given (e .tidy), (index-within (start .args .s) (start .args .index) has-index e, (ap length (taken .kinds-copied pool-taken) ∙ long-as .kinds-long, ap length (taken .words-copied pool-taken) ∙ long-as .words-long)))
+    let has-index = test-holds (listed .before .index-fits .ensures) (listed .if3 .left) in (
+      tidy-given (e .tidy),
+      (
+        index-within (start .args .s) (start .args .index) has-index e,
+        (ap length (taken .kinds-copied pool-taken) ∙ long-as .kinds-long, ap length (taken .words-copied pool-taken) ∙ long-as .words-long),
+      ),
+    )
 
 finish-requires : tie.Need-finish-requires
 finish-requires c κs =
@@ -117,7 +125,8 @@ finish-requires c κs =
     let pool-taken = not-false _ (in-pool .if1 .left) in
     let a = start .args in
     let run = indexedWork (a .op) (given (a .s)) (a .index) in
-    may-finish taken pool-taken limit (indexed-grows (a .op) (given (a .s)) (a .index)) (on-lent taken pool-taken run (room .room-between .ensures) (rw (narrowed .expansion-of .ensures .is) at (work .indexed-in .ensures)))
+    may-finish taken pool-taken limit (indexed-grows (a .op) (given (a .s)) (a .index))
+    (on-lent taken pool-taken run (room .room-between .ensures) (rw (narrowed .expansion-of .ensures .is) at (work .indexed-in .ensures)))
 
 same-length-7 : tie.Need-same-length-7
 same-length-7 c = search needs
@@ -140,8 +149,10 @@ returns-4 c =
     let below = test-holds (nodes .before .nodes-below .ensures) (nodes .if2 .left) in
     let has-index = test-holds (listed .before .index-fits .ensures) (listed .if3 .left) in
     let a = start .args in
-    let is = on-lent taken pool-taken (indexedWork (a .op) (given (a .s)) (a .index)) (room .room-between .ensures) (rw (narrowed .expansion-of .ensures .is) at (work .indexed-in .ensures)) in
-    worked taken pool-taken Node Refused limit (onIndex (a .op) (a .s) (a .index)) (done .finish .ensures) (is ∙ met wrongOrder has-index ∙ met unknownNode below)
+    let is = on-lent taken pool-taken (indexedWork (a .op) (given (a .s)) (a .index)) (room .room-between .ensures)
+    (rw (narrowed .expansion-of .ensures .is) at (work .indexed-in .ensures)) in
+    worked taken pool-taken Node Refused limit (onIndex (a .op) (a .s) (a .index)) (done .finish .ensures)
+    (is ∙ met wrongOrder has-index ∙ met unknownNode below)
 
 pub on-index-spec : {M : Type 1} → statement M
 on-index-spec =

@@ -45,12 +45,14 @@ reaches-requires c κs = search needs
 
 returns-3 : tie.Need-returns-3
 returns-3 c =
-    let a = c .before .before .before .before .before .before .before .before .before .before .before .before .before .args in
-    let taken = c .before .before .before .before .before .before .before .take-in .ensures in
-    let ok = not-false _ (c .before .before .before .before .before .before .if1 .left) in
+    let at-if2 = c .before .before .before .before in
+    let a = at-if2 .before .before .before .before .before .before .before .before .before .args in
+    let taken = at-if2 .before .before .before .take-in .ensures in
+    let ok = not-false _ (at-if2 .before .before .if1 .left) in
     let p = sym (taken .tested) ∙ ok in
-    let g = sym (c .before .before .before .before .before .one-given .ensures) ∙ not-false _ (c .before .before .before .before .if2 .left) in
-    let m : hasMax (nodeIn (a .kinds .now) (a .words .now)) (a .root) ≡ true = rw (taken .kinds-copied ok, taken .words-copied ok) at (sym (c .before .reaches .ensures) ∙ c .if3 .taken) in
+    let g = sym (at-if2 .before .one-given .ensures) ∙ not-false _ (at-if2 .if2 .left) in
+    let m : hasMax (nodeIn (a .kinds .now) (a .words .now)) (a .root) ≡ true = rw (taken .kinds-copied ok, taken .words-copied ok)
+    at (sym (c .before .reaches .ensures) ∙ c .if3 .taken) in
     has-a-max (a .kinds .now) (a .words .now) (a .count) (a .root) (a .out .now) p g m
 
 print-into-requires : tie.Need-print-into-requires
@@ -64,12 +66,15 @@ same-length c = search needs
 
 returns-4 : tie.Need-returns-4
 returns-4 c =
-    let a = c .before .before .before .before .before .before .before .before .before .before .before .before .before .before .before .before .before .before .before .before .args in
-    let taken = c .before .before .before .before .before .before .before .before .before .before .before .before .before .before .take-in .ensures in
-    let ok = not-false _ (c .before .before .before .before .before .before .before .before .before .before .before .before .before .if1 .left) in
+    let at-if3 = c .before .before .before .before .before .before .before in
+    let at-if2 = at-if3 .before .before .before .before in
+    let a = at-if2 .before .before .before .before .before .before .before .before .before .args in
+    let taken = at-if2 .before .before .before .take-in .ensures in
+    let ok = not-false _ (at-if2 .before .before .if1 .left) in
     let p = sym (taken .tested) ∙ ok in
-    let g = sym (c .before .before .before .before .before .before .before .before .before .before .before .before .one-given .ensures) ∙ not-false _ (c .before .before .before .before .before .before .before .before .before .before .before .if2 .left) in
-    let m : hasMax (nodeIn (a .kinds .now) (a .words .now)) (a .root) ≡ false = rw (taken .kinds-copied ok, taken .words-copied ok) at (sym (c .before .before .before .before .before .before .before .before .reaches .ensures) ∙ c .before .before .before .before .before .before .before .if3 .left) in
+    let g = sym (at-if2 .before .one-given .ensures) ∙ not-false _ (at-if2 .if2 .left) in
+    let m : hasMax (nodeIn (a .kinds .now) (a .words .now)) (a .root) ≡ false = rw (taken .kinds-copied ok, taken .words-copied ok)
+    at (sym (at-if3 .before .reaches .ensures) ∙ at-if3 .if3 .left) in
     let w = rw (taken .kinds-copied ok, taken .words-copied ok) at (c .before .before .before .print-into .ensures) in
     too-long (a .kinds .now) (a .words .now) (a .count) (a .root) (a .out .now) p g m w (c .if4 .taken)
 
@@ -78,28 +83,38 @@ same-length-2 c = search needs
 
 returns-5 : tie.Need-returns-5
 returns-5 c =
-    let a = c .before .before .before .before .before .before .before .before .before .before .before .before .before .before .before .before .before .before .before .before .before .args in
-    let taken = c .before .before .before .before .before .before .before .before .before .before .before .before .before .before .before .take-in .ensures in
-    let ok = not-false _ (c .before .before .before .before .before .before .before .before .before .before .before .before .before .before .if1 .left) in
+    let at-print-into = c .before .before .before .before in
+    let at-if3 = at-print-into .before .before .before .before in
+    let at-if2 = at-if3 .before .before .before .before in
+    let a = at-if2 .before .before .before .before .before .before .before .before .before .args in
+    let taken = at-if2 .before .before .before .take-in .ensures in
+    let ok = not-false _ (at-if2 .before .before .if1 .left) in
     let p = sym (taken .tested) ∙ ok in
-    let g = sym (c .before .before .before .before .before .before .before .before .before .before .before .before .before .one-given .ensures) ∙ not-false _ (c .before .before .before .before .before .before .before .before .before .before .before .before .if2 .left) in
-    let m : hasMax (nodeIn (a .kinds .now) (a .words .now)) (a .root) ≡ false = rw (taken .kinds-copied ok, taken .words-copied ok) at (sym (c .before .before .before .before .before .before .before .before .before .reaches .ensures) ∙ c .before .before .before .before .before .before .before .before .if3 .left) in
-    let w = rw (taken .kinds-copied ok, taken .words-copied ok) at (c .before .before .before .before .print-into .ensures) in
-    no-room-for-it (a .kinds .now) (a .words .now) (a .count) (a .root) (a .out .now) p g m w (c .before .if4 .left) (omega (arith, c .before .before .before .before .print-into .kept .1 .1 .1 .0, c .if5 .taken))
+    let g = sym (at-if2 .before .one-given .ensures) ∙ not-false _ (at-if2 .if2 .left) in
+    let m : hasMax (nodeIn (a .kinds .now) (a .words .now)) (a .root) ≡ false = rw (taken .kinds-copied ok, taken .words-copied ok)
+    at (sym (at-if3 .before .reaches .ensures) ∙ at-if3 .if3 .left) in
+    let w = rw (taken .kinds-copied ok, taken .words-copied ok) at (at-print-into .print-into .ensures) in
+    no-room-for-it (a .kinds .now) (a .words .now) (a .count) (a .root) (a .out .now) p g m w (c .before .if4 .left)
+    (omega (arith, at-print-into .print-into .kept .1 .1 .1 .0, c .if5 .taken))
 
 same-length-3 : tie.Need-same-length-3
 same-length-3 c = search needs
 
 returns-6 : tie.Need-returns-6
 returns-6 c =
-    let a = c .before .before .before .before .before .before .before .before .before .before .before .before .before .before .before .before .before .before .before .before .before .args in
-    let taken = c .before .before .before .before .before .before .before .before .before .before .before .before .before .before .before .take-in .ensures in
-    let ok = not-false _ (c .before .before .before .before .before .before .before .before .before .before .before .before .before .before .if1 .left) in
+    let at-print-into = c .before .before .before .before in
+    let at-if3 = at-print-into .before .before .before .before in
+    let at-if2 = at-if3 .before .before .before .before in
+    let a = at-if2 .before .before .before .before .before .before .before .before .before .args in
+    let taken = at-if2 .before .before .before .take-in .ensures in
+    let ok = not-false _ (at-if2 .before .before .if1 .left) in
     let p = sym (taken .tested) ∙ ok in
-    let g = sym (c .before .before .before .before .before .before .before .before .before .before .before .before .before .one-given .ensures) ∙ not-false _ (c .before .before .before .before .before .before .before .before .before .before .before .before .if2 .left) in
-    let m : hasMax (nodeIn (a .kinds .now) (a .words .now)) (a .root) ≡ false = rw (taken .kinds-copied ok, taken .words-copied ok) at (sym (c .before .before .before .before .before .before .before .before .before .reaches .ensures) ∙ c .before .before .before .before .before .before .before .before .if3 .left) in
-    let w = rw (taken .kinds-copied ok, taken .words-copied ok) at (c .before .before .before .before .print-into .ensures) in
-    printed (a .kinds .now) (a .words .now) (a .count) (a .root) (a .out .now) p g m w (c .before .if4 .left) (omega (arith, c .before .before .before .before .print-into .kept .1 .1 .1 .0, c .if5 .left))
+    let g = sym (at-if2 .before .one-given .ensures) ∙ not-false _ (at-if2 .if2 .left) in
+    let m : hasMax (nodeIn (a .kinds .now) (a .words .now)) (a .root) ≡ false = rw (taken .kinds-copied ok, taken .words-copied ok)
+    at (sym (at-if3 .before .reaches .ensures) ∙ at-if3 .if3 .left) in
+    let w = rw (taken .kinds-copied ok, taken .words-copied ok) at (at-print-into .print-into .ensures) in
+    printed (a .kinds .now) (a .words .now) (a .count) (a .root) (a .out .now) p g m w (c .before .if4 .left)
+    (omega (arith, at-print-into .print-into .kept .1 .1 .1 .0, c .if5 .left))
 
 pub print-spec : {M : Type 1} → statement M
 print-spec =

@@ -34,9 +34,11 @@ same-length-2 c = search needs
 
 returns : tie.Need-returns
 returns c =
-    let start = c .before .before .before .before .before .before .before .before .before .before in
+    let at-take-in = c .before .before in
+    let start = at-take-in .before .before .before .before .before .before .before .before in
     let a = start .args in
-    rw (c .refused .ensures) (broken (c .before .before .take-in .ensures) accepted refusedOutcome limit (onExpansion (a .op) (a .s)) (not-true _ (c .before .if1 .taken)))
+    rw (c .refused .ensures)
+    (broken (at-take-in .take-in .ensures) accepted refusedOutcome limit (onExpansion (a .op) (a .s)) (not-true _ (c .before .if1 .taken)))
 
 nodes-below-requires : tie.Need-nodes-below-requires
 nodes-below-requires c κs = search needs
@@ -56,7 +58,8 @@ returns-2 c =
     let start = in-pool .before .before .before .before .before .before .before .before .before in
     let a = start .args in
     rw (c .refused2 .ensures)
-    (demanded (in-pool .before .take-in .ensures) (not-false _ (in-pool .if1 .left)) accepted refusedOutcome limit (onExpansion (a .op) (a .s)) (rw (test-fails (c .before .before .nodes-below .ensures) (c .before .if2 .taken))))
+    (demanded (in-pool .before .take-in .ensures) (not-false _ (in-pool .if1 .left)) accepted refusedOutcome limit (onExpansion (a .op) (a .s))
+    (rw (test-fails (c .before .before .nodes-below .ensures) (c .before .if2 .taken))))
 
 has-length-requires : tie.Need-has-length-requires
 has-length-requires c κs = search needs
@@ -78,7 +81,8 @@ returns-3 c =
     let a = start .args in
     let below = test-holds (nodes .before .nodes-below .ensures) (nodes .if2 .left) in
     rw (c .refused3 .ensures)
-    (demanded (in-pool .before .take-in .ensures) (not-false _ (in-pool .if1 .left)) accepted refusedOutcome limit (onExpansion (a .op) (a .s)) (rw (below, test-fails (c .before .before .has-length .ensures) (c .before .if3 .taken))))
+    (demanded (in-pool .before .take-in .ensures) (not-false _ (in-pool .if1 .left)) accepted refusedOutcome limit (onExpansion (a .op) (a .s))
+    (rw (below, test-fails (c .before .before .has-length .ensures) (c .before .if3 .taken))))
 
 cast-room-between : tie.Need-cast-room-between
 cast-room-between c =
@@ -98,7 +102,8 @@ expansion-of-requires c κs =
     let in-pool = nodes .before .before in
     let start = in-pool .before .before .before .before .before .before .before .before .before in
     let small = sizes (in-pool .before .take-in .ensures) (not-false _ (in-pool .if1 .left)) .small in
-    usable (start .args .s) (start .args .count .now) (long start) small (test-holds (nodes .before .nodes-below .ensures) (nodes .if2 .left)) (test-holds (listed .before .has-length .ensures) (listed .if3 .left))
+    usable (start .args .s) (start .args .count .now) (long start) small (test-holds (nodes .before .nodes-below .ensures) (nodes .if2 .left))
+    (test-holds (listed .before .has-length .ensures) (listed .if3 .left))
 
 unary-in-requires : tie.Need-unary-in-requires
 unary-in-requires c κs = search needs
@@ -141,8 +146,10 @@ returns-4 c =
     let length-ok = test-holds (listed .before .has-length .ensures) (listed .if3 .left) in
     let op = start .args .op in
     let s = start .args .s in
-    let is = on-lent taken pool-taken (unaryWork op (given s)) (room .room-between .ensures) (rw (narrowed .expansion-of .ensures .is) at (work .unary-in .ensures .is)) in
-    worked taken pool-taken accepted refusedOutcome limit (onExpansion op s) (done .finish .ensures) (is ∙ met wrongOrder length-ok ∙ met unknownNode below)
+    let is = on-lent taken pool-taken (unaryWork op (given s)) (room .room-between .ensures)
+    (rw (narrowed .expansion-of .ensures .is) at (work .unary-in .ensures .is)) in
+    worked taken pool-taken accepted refusedOutcome limit (onExpansion op s) (done .finish .ensures)
+    (is ∙ met wrongOrder length-ok ∙ met unknownNode below)
 
 pub on-one-spec : {M : Type 1} → statement M
 on-one-spec =

@@ -32,8 +32,11 @@ node-at-requires c κs = tt
 
 shifted-requires : tie.Need-shifted-requires Inv-loop μ-loop
 shifted-requires c κs =
-    let start = c .before .before .before .before in
-    (omega (arith, c .before .before .before .next-of .ensures, start .pre .0 .1), all-below-limit (nodeIn (now (start .args .k)) (now (start .args .w))) (start .pre .1) (c .before .before .loop .i) (omega (arith, start .pre .0 .0, c .before .loop-test .taken)) (c .node-at .ensures))
+    let start = c .before .before .before .before in (
+      omega (arith, c .before .before .before .next-of .ensures, start .pre .0 .1),
+      all-below-limit (nodeIn (now (start .args .k)) (now (start .args .w))) (start .pre .1) (c .before .before .loop .i)
+          (omega (arith, start .pre .0 .0, c .before .loop-test .taken)) (c .node-at .ensures),
+    )
 
 append-requires : tie.Need-append-requires Inv-loop μ-loop
 append-requires c κs = tt
@@ -46,19 +49,31 @@ enum-told c = c .match .keys2
 
 returns : tie.Need-returns Inv-loop μ-loop
 returns c =
-    let a = c .before .before .before .before .before .before .before .before .before .before .args in
-    none-more (c .before .before .before .before .before .before .before .before .loop .inv) (c .before .before .before .before .before .before .before .loop-test .taken) (shifted-by (nodeIn (now (a .k)) (now (a .w))) _ (c .before .before .before .before .before .before .before .before .before .next-of .ensures) (c .before .before .before .before .before .before .node-at .ensures) (c .before .before .before .before .before .shifted .ensures)) _ _ _ (c .before .before .append .ensures) (c .enum-told .given .1)
+    let at-shifted = c .before .before .before .before .before in
+    let at-next-of = at-shifted .before .before .before .before in
+    let a = at-next-of .before .args in
+    none-more (at-shifted .before .before .before .loop .inv) (at-shifted .before .before .loop-test .taken)
+    (shifted-by (nodeIn (now (a .k)) (now (a .w))) _ (at-next-of .next-of .ensures) (at-shifted .before .node-at .ensures)
+    (at-shifted .shifted .ensures)) _ _ _ (c .before .before .append .ensures) (c .enum-told .given .1)
 
 add-i : tie.Need-add-i Inv-loop μ-loop
-add-i c = omega (arith, c .before .before .before .before .before .before .before .before .before .before .before .pre .0 .0, c .before .before .before .before .before .before .before .before .loop-test .taken)
+add-i c =
+    let at-loop-test = c .before .before .before .before .before .before .before .before in
+    omega (arith, at-loop-test .before .before .before .pre .0 .0, at-loop-test .loop-test .taken)
 
 loop-less : tie.Need-loop-less Inv-loop μ-loop
-loop-less c = omega (arith, c .before .before .before .before .before .before .before .before .loop-test .taken)
+loop-less c =
+    let at-loop-test = c .before .before .before .before .before .before .before .before in
+    omega (arith, at-loop-test .loop-test .taken)
 
 loop-again : tie.Need-loop-again Inv-loop μ-loop
 loop-again c =
-    let a = c .before .before .before .before .before .before .before .before .before .before .before .args in
-    one-appended (c .before .before .before .before .before .before .before .before .before .loop .inv) (c .before .before .before .before .before .before .before .before .loop-test .taken) (shifted-by (nodeIn (now (a .k)) (now (a .w))) _ (c .before .before .before .before .before .before .before .before .before .before .next-of .ensures) (c .before .before .before .before .before .before .before .node-at .ensures) (c .before .before .before .before .before .before .shifted .ensures)) _ _ _ (c .before .before .before .append .ensures) (c .before .appended .given .1)
+    let at-shifted = c .before .before .before .before .before .before in
+    let at-next-of = at-shifted .before .before .before .before in
+    let a = at-next-of .before .args in
+    one-appended (at-shifted .before .before .before .loop .inv) (at-shifted .before .before .loop-test .taken)
+    (shifted-by (nodeIn (now (a .k)) (now (a .w))) _ (at-next-of .next-of .ensures) (at-shifted .before .node-at .ensures)
+    (at-shifted .shifted .ensures)) _ _ _ (c .before .before .before .append .ensures) (c .before .appended .given .1)
 
 returns-2 : tie.Need-returns-2 Inv-loop μ-loop
 returns-2 c = all-appended (c .before .loop .inv) (c .loop-test .left)

@@ -59,39 +59,51 @@ may-stand-at-requires c κs = tt
 
 returns : tie.Need-returns Inv-loop μ-loop
 returns c =
-    let start = c .before .before .before .before .before .before .before .before in
-    not-entered (start .args .first) (start .args .n) (now (start .args .bytes)) (start .pre .0 .few) (c .before .before .before .before .before .before .loop .inv) (c .before .before .before .before .before .loop-test .taken) (c .before .before .before .number-at .ensures) (c .before .before .decode .ensures) (sym (c .before .may-stand-at .ensures) ∙ not-true _ (c .if1 .taken))
+    let at-loop-test = c .before .before .before .before .before in
+    let start = at-loop-test .before .before .before in
+    not-entered (start .args .first) (start .args .n) (now (start .args .bytes)) (start .pre .0 .few) (at-loop-test .before .loop .inv)
+    (at-loop-test .loop-test .taken) (c .before .before .before .number-at .ensures) (c .before .before .decode .ensures)
+    (sym (c .before .may-stand-at .ensures) ∙ not-true _ (c .if1 .taken))
 
 element-write-k : tie.Need-element-write-k Inv-loop μ-loop
 element-write-k c =
-    let start = c .before .before .before .before .before .before .before .before in
-    omega (arith, start .pre .0 .few, start .pre .0 .long, c .before .before .before .before .before .loop-test .taken)
+    let at-loop-test = c .before .before .before .before .before in
+    let start = at-loop-test .before .before .before in
+    omega (arith, start .pre .0 .few, start .pre .0 .long, at-loop-test .loop-test .taken)
 
 mul-w : tie.Need-mul-w Inv-loop μ-loop
 mul-w c =
-    let start = c .before .before .before .before .before .before .before .before in
-    record { fits = omega (arith, start .pre .0 .few, start .pre .0 .long, c .before .before .before .before .before .loop-test .taken) }
+    let at-loop-test = c .before .before .before .before .before in
+    let start = at-loop-test .before .before .before in
+    record { fits = omega (arith, start .pre .0 .few, start .pre .0 .long, at-loop-test .loop-test .taken) }
 
 element-write-w : tie.Need-element-write-w Inv-loop μ-loop
 element-write-w c =
-    let start = c .before .before .before .before .before .before .before .before in
-    omega (arith, start .pre .0 .few, start .pre .0 .long, c .before .before .before .before .before .loop-test .taken)
+    let at-loop-test = c .before .before .before .before .before in
+    let start = at-loop-test .before .before .before in
+    omega (arith, start .pre .0 .few, start .pre .0 .long, at-loop-test .loop-test .taken)
 
 add-i : tie.Need-add-i Inv-loop μ-loop
 add-i c =
-    let start = c .before .before .before .before .before .before .before .before in
-    omega (arith, start .pre .0 .few, start .pre .0 .long, c .before .before .before .before .before .loop-test .taken)
+    let at-loop-test = c .before .before .before .before .before in
+    let start = at-loop-test .before .before .before in
+    omega (arith, start .pre .0 .few, start .pre .0 .long, at-loop-test .loop-test .taken)
 
 loop-less : tie.Need-loop-less Inv-loop μ-loop
 loop-less c = omega (arith, c .before .before .before .before .before .loop-test .taken)
 
 loop-again : tie.Need-loop-again Inv-loop μ-loop
 loop-again c =
-    let start = c .before .before .before .before .before .before .before .before in
-    one-entered (start .args .first) (start .args .n) (now (start .args .bytes)) (start .pre .0 .few) (c .before .before .before .before .before .before .loop .inv) (c .before .before .before .before .before .loop-test .taken) (c .before .before .before .number-at .ensures) (c .before .before .decode .ensures) (sym (c .before .may-stand-at .ensures) ∙ not-false _ (c .if1 .left))
+    let at-loop-test = c .before .before .before .before .before in
+    let start = at-loop-test .before .before .before in
+    one-entered (start .args .first) (start .args .n) (now (start .args .bytes)) (start .pre .0 .few) (at-loop-test .before .loop .inv)
+    (at-loop-test .loop-test .taken) (c .before .before .before .number-at .ensures) (c .before .before .decode .ensures)
+    (sym (c .before .may-stand-at .ensures) ∙ not-false _ (c .if1 .left))
 
 returns-2 : tie.Need-returns-2 Inv-loop μ-loop
-returns-2 c = let start = c .before .before .before in all-entered (start .args .first) (start .args .n) (now (start .args .bytes)) (start .pre .0 .few) (c .before .loop .inv) (c .loop-test .left)
+returns-2 c =
+    let start = c .before .before .before in
+    all-entered (start .args .first) (start .args .n) (now (start .args .bytes)) (start .pre .0 .few) (c .before .loop .inv) (c .loop-test .left)
 
 pub entries-in-spec : {M : Type 1} → statement M
 entries-in-spec =

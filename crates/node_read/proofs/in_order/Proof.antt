@@ -18,7 +18,8 @@ in-place-requires c κs = search needs
 returns : tie.Need-returns
 returns c =
     let start = c .before .before .before .before .before .before in
-    c .in-place .ensures ∙ in-order-by-marks (nodeIn (now (start .args .k)) (now (start .args .w))) (now (start .args .roots)) (start .args .n) (c .before .before .number-all .ensures)
+    c .in-place .ensures ∙ in-order-by-marks (nodeIn (now (start .args .k)) (now (start .args .w))) (now (start .args .roots)) (start .args .n)
+    (c .before .before .number-all .ensures)
 
 pub in-order-spec : {M : Type 1} → statement M
 in-order-spec =

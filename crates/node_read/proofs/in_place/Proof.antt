@@ -34,7 +34,8 @@ add-if1 c = omega (arith, c .before .before .before .pre, c .before .loop-test .
 returns : tie.Need-returns Inv-loop μ-loop
 returns c =
     let start = c .before .before .before .before in
-    one-fails (start .args .n) (λ j. eqb (getD (now (start .args .number)) j 0) (j + 1)) (c .before .before .before .loop .i) (c .before .before .loop-test .taken) (ne-eqb _ _ (c .if1 .taken))
+    one-fails (start .args .n) (λ j. eqb (getD (now (start .args .number)) j 0) (j + 1)) (c .before .before .before .loop .i)
+    (c .before .before .loop-test .taken) (ne-eqb _ _ (c .if1 .taken))
 
 add-i : tie.Need-add-i Inv-loop μ-loop
 add-i c = omega (arith, c .before .before .before .before .pre, c .before .before .loop-test .taken)
@@ -43,10 +44,17 @@ loop-less : tie.Need-loop-less Inv-loop μ-loop
 loop-less c = omega (arith, c .before .before .loop-test .taken)
 
 loop-again : tie.Need-loop-again Inv-loop μ-loop
-loop-again c = (omega (arith, c .before .before .loop-test .taken), one-passed (λ j. eqb (getD (now (c .before .before .before .before .args .number)) j 0) (j + 1)) (c .before .before .before .loop .i) (c .before .before .before .loop .inv .1) (eq-eqb _ _ (c .if1 .left)))
+loop-again c =
+    let at-loop = c .before .before .before in (
+      omega (arith, c .before .before .loop-test .taken),
+      one-passed (λ j. eqb (getD (now (at-loop .before .args .number)) j 0) (j + 1)) (at-loop .loop .i) (at-loop .loop .inv .1)
+          (eq-eqb _ _ (c .if1 .left)),
+    )
 
 returns-2 : tie.Need-returns-2 Inv-loop μ-loop
-returns-2 c = all-pass (c .before .before .args .n) (λ j. eqb (getD (now (c .before .before .args .number)) j 0) (j + 1)) (c .before .loop .i) (c .loop-test .left) (c .before .loop .inv .1)
+returns-2 c =
+    let start = c .before .before in
+    all-pass (start .args .n) (λ j. eqb (getD (now (start .args .number)) j 0) (j + 1)) (c .before .loop .i) (c .loop-test .left) (c .before .loop .inv .1)
 
 pub in-place-spec : {M : Type 1} → statement M
 in-place-spec =

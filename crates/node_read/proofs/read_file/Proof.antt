@@ -32,7 +32,8 @@ returns c =
     let told = c .before .before .before .before .before .before in
     let tested = told .before .before in
     let start = tested .before .before .before .before in
-    read-appended (tested .test-file .ensures) (told .n .given .1) (poolOf (now (start .args .kinds)) (now (start .args .words)) (start .args .room)) (c .append-entries .ensures)
+    read-appended (tested .test-file .ensures) (told .n .given .1) (poolOf (now (start .args .kinds)) (now (start .args .words)) (start .args .room))
+    (c .append-entries .ensures)
 
 returns-2 : tie.Need-returns-2
 returns-2 c =

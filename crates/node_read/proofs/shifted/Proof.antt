@@ -22,7 +22,14 @@ enum-known-a c = search needs
 add-with-parts : tie.Need-add-with-parts
 add-with-parts c =
     let start = c .before .before .before .before in
-    record { fits = omega (arith, start .pre .0, of-left (λ j. j < limit) (parts-told (start .args .node) (c .before .before .before .parts-of .ensures) (c .before .a .given .1)) (start .pre .1)) }
+    record {
+      fits = omega (
+        arith,
+        start .pre .0,
+        of-left (λ j. j < limit) (parts-told (start .args .node) (c .before .before .before .parts-of .ensures) (c .before .a .given .1))
+            (start .pre .1),
+      );
+    }
 
 with-parts-requires : tie.Need-with-parts-requires
 with-parts-requires c κs = search needs
@@ -33,12 +40,26 @@ enum-known-a-2 c = search needs
 add-with-parts-2 : tie.Need-add-with-parts-2
 add-with-parts-2 c =
     let start = c .before .before .before .before in
-    record { fits = omega (arith, start .pre .0, of-left (λ j. j < limit) (parts-told (start .args .node) (c .before .before .before .parts-of .ensures) (c .before .a2 .given .1)) (start .pre .1)) }
+    record {
+      fits = omega (
+        arith,
+        start .pre .0,
+        of-left (λ j. j < limit) (parts-told (start .args .node) (c .before .before .before .parts-of .ensures) (c .before .a2 .given .1))
+            (start .pre .1),
+      );
+    }
 
 add-with-parts-3 : tie.Need-add-with-parts-3
 add-with-parts-3 c =
     let start = c .before .before .before .before in
-    record { fits = omega (arith, start .pre .0, of-right (λ j. j < limit) (parts-told (start .args .node) (c .before .before .before .parts-of .ensures) (c .before .a2 .given .1)) (start .pre .1)) }
+    record {
+      fits = omega (
+        arith,
+        start .pre .0,
+        of-right (λ j. j < limit) (parts-told (start .args .node) (c .before .before .before .parts-of .ensures) (c .before .a2 .given .1))
+            (start .pre .1),
+      );
+    }
 
 with-parts-requires-2 : tie.Need-with-parts-requires-2
 with-parts-requires-2 c κs = search needs
@@ -50,13 +71,17 @@ returns c =
 
 returns-2 : tie.Need-returns-2
 returns-2 c =
-    let start = c .before .before .before .before .before in
-    c .with-parts .ensures ∙ renamed-one (λ j. start .args .by + j) (start .args .node) (parts-told (start .args .node) (c .before .before .before .before .parts-of .ensures) (c .before .before .a .given .1)) refl
+    let at-parts-of = c .before .before .before .before in
+    let start = at-parts-of .before in
+    c .with-parts .ensures ∙ renamed-one (λ j. start .args .by + j) (start .args .node)
+    (parts-told (start .args .node) (at-parts-of .parts-of .ensures) (c .before .before .a .given .1)) refl
 
 returns-3 : tie.Need-returns-3
 returns-3 c =
-    let start = c .before .before .before .before .before in
-    c .with-parts2 .ensures ∙ renamed-two (λ j. start .args .by + j) (start .args .node) (parts-told (start .args .node) (c .before .before .before .before .parts-of .ensures) (c .before .before .a2 .given .1)) refl refl
+    let at-parts-of = c .before .before .before .before in
+    let start = at-parts-of .before in
+    c .with-parts2 .ensures ∙ renamed-two (λ j. start .args .by + j) (start .args .node)
+    (parts-told (start .args .node) (at-parts-of .parts-of .ensures) (c .before .before .a2 .given .1)) refl refl
 
 pub shifted-spec : {M : Type 1} → statement M
 shifted-spec =

@@ -25,7 +25,9 @@ returns-3 : tie.Need-returns-3
 returns-3 c = other-length (now (c .before .before .before .before .before .args .bytes)) (c .before .before .number-at .ensures) (c .if3 .taken)
 
 returns-4 : tie.Need-returns-4
-returns-4 c = right-length (now (c .before .before .before .before .before .args .bytes)) (c .before .before .number-at .ensures) (c .before .if2 .left) (c .if3 .left)
+returns-4 c =
+    let start = c .before .before .before .before .before in
+    right-length (now (start .args .bytes)) (c .before .before .number-at .ensures) (c .before .if2 .left) (c .if3 .left)
 
 pub size-of-spec : {M : Type 1} → statement M
 size-of-spec =

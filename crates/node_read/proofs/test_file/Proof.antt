@@ -26,7 +26,8 @@ returns-2 c =
     let entered = c .before in
     let some = entered .before .before .before in
     let sized = some .before in
-    wrong-entry (now (sized .before .before .args .bytes)) (sized .size-of .ensures) (some .if1 .left) (entered .entries-in .ensures) (not-true _ (c .if2 .taken))
+    wrong-entry (now (sized .before .before .args .bytes)) (sized .size-of .ensures) (some .if1 .left) (entered .entries-in .ensures)
+    (not-true _ (c .if2 .taken))
 
 sub-last : tie.Need-sub-last
 sub-last c = search needs
@@ -50,7 +51,8 @@ returns-3 c =
     let entered = right .before in
     let some = entered .before .before .before in
     let sized = some .before in
-    wrong-sequence (now (sized .before .before .args .bytes)) (sized .size-of .ensures) (some .if1 .left) (entered .entries-in .ensures) (not-false _ (right .if2 .left)) (walked .in-order .ensures) (not-true _ (c .if3 .taken))
+    wrong-sequence (now (sized .before .before .args .bytes)) (sized .size-of .ensures) (some .if1 .left) (entered .entries-in .ensures)
+    (not-false _ (right .if2 .left)) (walked .in-order .ensures) (not-true _ (c .if3 .taken))
 
 returns-4 : tie.Need-returns-4
 returns-4 c =
@@ -59,7 +61,8 @@ returns-4 c =
     let entered = right .before in
     let some = entered .before .before .before in
     let sized = some .before in
-    all-right (now (sized .before .before .args .bytes)) (sized .size-of .ensures) (some .if1 .left) (entered .entries-in .ensures) (not-false _ (right .if2 .left)) (walked .in-order .ensures) (not-false _ (c .if3 .left))
+    all-right (now (sized .before .before .args .bytes)) (sized .size-of .ensures) (some .if1 .left) (entered .entries-in .ensures)
+    (not-false _ (right .if2 .left)) (walked .in-order .ensures) (not-false _ (c .if3 .left))
 
 pub test-file-spec : {M : Type 1} → statement M
 test-file-spec =

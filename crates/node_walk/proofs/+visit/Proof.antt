@@ -60,7 +60,9 @@ visit-returns : (t : ℕ) → visit-lts.Need-returns (
   visit-below t,
   visit.Post,
 ) (visit-at t) visit.Post
-visit-returns t c = visited-before (nodeIn (now (c .before .before .args .kinds)) (now (c .before .before .args .words))) (c .before .before .args .i) (c .if1 .taken)
+visit-returns t c =
+    let start = c .before .before in
+    visited-before (nodeIn (now (start .args .kinds)) (now (start .args .words))) (start .args .i) (c .if1 .taken)
 
 visit-node-at-requires : (t : ℕ) → visit-lts.Need-node-at-requires (
   node-at-reads.Asked,
@@ -108,7 +110,15 @@ visit-number-next-requires : (t : ℕ) → visit-lts.Need-number-next-requires (
   visit-below t,
   visit.Post,
 ) (visit-at t) visit.Post
-visit-number-next-requires t c κs = (c .before .before .before .before .before .before .before .before .pre .1 .0, has-a-place (nodeIn (now (c .before .before .before .before .before .before .before .before .args .kinds)) (now (c .before .before .before .before .before .before .before .before .args .words))) (c .before .before .before .before .before .before .before .before .pre .1 .1 .0) (c .before .before .before .before .before .before .before .before .args .i) (c .before .before .before .before .before .before .before .before .pre .1 .0) (c .before .before .before .before .before .before .if1 .left) (its-parts (c .before .before .before .before .parts-of .ensures) (c .before .before .before .before .before .node-at .ensures) (c .before .before .enum-told .given .1)) (λ o w. w) (c .before .before .before .before .before .before .before .before .pre .1 .1 .1))
+visit-number-next-requires t c κs =
+    let at-parts-of = c .before .before .before .before in
+    let start = at-parts-of .before .before .before .before in (
+      start .pre .1 .0,
+      has-a-place (nodeIn (now (start .args .kinds)) (now (start .args .words))) (start .pre .1 .1 .0) (start .args .i) (start .pre .1 .0)
+          (at-parts-of .before .before .if1 .left)
+          (its-parts (at-parts-of .parts-of .ensures) (at-parts-of .before .node-at .ensures) (c .before .before .enum-told .given .1)) (λ o w. w)
+          (start .pre .1 .1 .1),
+    )
 
 visit-enum-known-a : (t : ℕ) → visit-lts.Need-enum-known-a (
   node-at-reads.Asked,
@@ -132,7 +142,13 @@ visit-visit-requires : (t : ℕ) → visit-lts.Need-visit-requires (
   visit-below t,
   visit.Post,
 ) (visit-at t) visit.Post
-visit-visit-requires t c κs = (omega (arith, left-is-below (nodeIn (now (c .before .before .before .before .before .before .before .before .before .args .kinds)) (now (c .before .before .before .before .before .before .before .before .before .args .words))) (c .before .before .before .before .before .before .before .before .before .args .i) (c .before .before .before .before .before .before .before .before .before .pre .1 .1 .0) (its-parts (c .before .before .before .before .before .parts-of .ensures) (c .before .before .before .before .before .before .node-at .ensures) (c .before .before .before .a .given .1)), c .before .before .before .before .before .before .before .before .before .pre .0), (omega (arith, left-is-below (nodeIn (now (c .before .before .before .before .before .before .before .before .before .args .kinds)) (now (c .before .before .before .before .before .before .before .before .before .args .words))) (c .before .before .before .before .before .before .before .before .before .args .i) (c .before .before .before .before .before .before .before .before .before .pre .1 .1 .0) (its-parts (c .before .before .before .before .before .parts-of .ensures) (c .before .before .before .before .before .before .node-at .ensures) (c .before .before .before .a .given .1)), c .before .before .before .before .before .before .before .before .before .pre .1 .0), (c .before .before .before .before .before .before .before .before .before .pre .1 .1 .0, c .before .before .before .before .before .before .before .before .before .pre .1 .1 .1)))
+visit-visit-requires t c κs =
+    let at-a = c .before .before .before in
+    let at-parts-of = at-a .before .before in
+    let start = at-parts-of .before .before .before .before in
+    let below = left-is-below (nodeIn (now (start .args .kinds)) (now (start .args .words))) (start .args .i) (start .pre .1 .1 .0)
+    (its-parts (at-parts-of .parts-of .ensures) (at-parts-of .before .node-at .ensures) (at-a .a .given .1)) in
+    (omega (arith, below, start .pre .0), (omega (arith, below, start .pre .1 .0), (start .pre .1 .1 .0, start .pre .1 .1 .1)))
 
 visit-number-next-requires-2 : (t : ℕ) → visit-lts.Need-number-next-requires-2 (
   node-at-reads.Asked,
@@ -144,7 +160,15 @@ visit-number-next-requires-2 : (t : ℕ) → visit-lts.Need-number-next-requires
   visit-below t,
   visit.Post,
 ) (visit-at t) visit.Post
-visit-number-next-requires-2 t c κs = (c .before .before .before .before .before .before .before .before .before .before .before .before .pre .1 .0, has-a-place (nodeIn (now (c .before .before .before .before .before .before .before .before .before .before .before .before .args .kinds)) (now (c .before .before .before .before .before .before .before .before .before .before .before .before .args .words))) (c .before .before .before .before .before .before .before .before .before .before .before .before .pre .1 .1 .0) (c .before .before .before .before .before .before .before .before .before .before .before .before .args .i) (c .before .before .before .before .before .before .before .before .before .before .before .before .pre .1 .0) (c .before .before .before .before .before .before .before .before .before .before .if1 .left) (its-parts (c .before .before .before .before .before .before .before .before .parts-of .ensures) (c .before .before .before .before .before .before .before .before .before .node-at .ensures) (c .before .before .before .before .before .before .a .given .1)) (c .before .before .visit .ensures) (c .before .before .before .before .before .before .before .before .before .before .before .before .pre .1 .1 .1))
+visit-number-next-requires-2 t c κs =
+    let at-a = c .before .before .before .before .before .before in
+    let at-if1 = at-a .before .before .before .before in
+    let start = at-if1 .before .before in (
+      start .pre .1 .0,
+      has-a-place (nodeIn (now (start .args .kinds)) (now (start .args .words))) (start .pre .1 .1 .0) (start .args .i) (start .pre .1 .0)
+          (at-if1 .if1 .left) (its-parts (at-a .before .before .parts-of .ensures) (at-a .before .before .before .node-at .ensures) (at-a .a .given .1))
+          (c .before .before .visit .ensures) (start .pre .1 .1 .1),
+    )
 
 visit-enum-known-a-2 : (t : ℕ) → visit-lts.Need-enum-known-a-2 (
   node-at-reads.Asked,
@@ -168,7 +192,13 @@ visit-visit-requires-2 : (t : ℕ) → visit-lts.Need-visit-requires-2 (
   visit-below t,
   visit.Post,
 ) (visit-at t) visit.Post
-visit-visit-requires-2 t c κs = (omega (arith, left-is-below (nodeIn (now (c .before .before .before .before .before .before .before .before .before .args .kinds)) (now (c .before .before .before .before .before .before .before .before .before .args .words))) (c .before .before .before .before .before .before .before .before .before .args .i) (c .before .before .before .before .before .before .before .before .before .pre .1 .1 .0) (its-parts (c .before .before .before .before .before .parts-of .ensures) (c .before .before .before .before .before .before .node-at .ensures) (c .before .before .before .a2 .given .1)), c .before .before .before .before .before .before .before .before .before .pre .0), (omega (arith, left-is-below (nodeIn (now (c .before .before .before .before .before .before .before .before .before .args .kinds)) (now (c .before .before .before .before .before .before .before .before .before .args .words))) (c .before .before .before .before .before .before .before .before .before .args .i) (c .before .before .before .before .before .before .before .before .before .pre .1 .1 .0) (its-parts (c .before .before .before .before .before .parts-of .ensures) (c .before .before .before .before .before .before .node-at .ensures) (c .before .before .before .a2 .given .1)), c .before .before .before .before .before .before .before .before .before .pre .1 .0), (c .before .before .before .before .before .before .before .before .before .pre .1 .1 .0, c .before .before .before .before .before .before .before .before .before .pre .1 .1 .1)))
+visit-visit-requires-2 t c κs =
+    let at-a2 = c .before .before .before in
+    let at-parts-of = at-a2 .before .before in
+    let start = at-parts-of .before .before .before .before in
+    let below = left-is-below (nodeIn (now (start .args .kinds)) (now (start .args .words))) (start .args .i) (start .pre .1 .1 .0)
+    (its-parts (at-parts-of .parts-of .ensures) (at-parts-of .before .node-at .ensures) (at-a2 .a2 .given .1)) in
+    (omega (arith, below, start .pre .0), (omega (arith, below, start .pre .1 .0), (start .pre .1 .1 .0, start .pre .1 .1 .1)))
 
 visit-visit-requires-3 : (t : ℕ) → visit-lts.Need-visit-requires-3 (
   node-at-reads.Asked,
@@ -180,7 +210,19 @@ visit-visit-requires-3 : (t : ℕ) → visit-lts.Need-visit-requires-3 (
   visit-below t,
   visit.Post,
 ) (visit-at t) visit.Post
-visit-visit-requires-3 t c κs = (omega (arith, right-is-below (nodeIn (now (c .before .before .before .before .before .before .before .before .before .before .before .before .args .kinds)) (now (c .before .before .before .before .before .before .before .before .before .before .before .before .args .words))) (c .before .before .before .before .before .before .before .before .before .before .before .before .args .i) (c .before .before .before .before .before .before .before .before .before .before .before .before .pre .1 .1 .0) (its-parts (c .before .before .before .before .before .before .before .before .parts-of .ensures) (c .before .before .before .before .before .before .before .before .before .node-at .ensures) (c .before .before .before .before .before .before .a2 .given .1)), c .before .before .before .before .before .before .before .before .before .before .before .before .pre .0), (omega (arith, right-is-below (nodeIn (now (c .before .before .before .before .before .before .before .before .before .before .before .before .args .kinds)) (now (c .before .before .before .before .before .before .before .before .before .before .before .before .args .words))) (c .before .before .before .before .before .before .before .before .before .before .before .before .args .i) (c .before .before .before .before .before .before .before .before .before .before .before .before .pre .1 .1 .0) (its-parts (c .before .before .before .before .before .before .before .before .parts-of .ensures) (c .before .before .before .before .before .before .before .before .before .node-at .ensures) (c .before .before .before .before .before .before .a2 .given .1)), c .before .before .before .before .before .before .before .before .before .before .before .before .pre .1 .0), (c .before .before .before .before .before .before .before .before .before .before .before .before .pre .1 .1 .0, stands-after (nodeIn (now (c .before .before .before .before .before .before .before .before .before .before .before .before .args .kinds)) (now (c .before .before .before .before .before .before .before .before .before .before .before .before .args .words))) (c .before .before .before .before .before .before .a2 .given .0 .0) (c .before .before .visit2 .ensures) (c .before .before .before .before .before .before .before .before .before .before .before .before .pre .1 .1 .1))))
+visit-visit-requires-3 t c κs =
+    let at-a2 = c .before .before .before .before .before .before in
+    let at-parts-of = at-a2 .before .before in
+    let start = at-parts-of .before .before .before .before in
+    let at = nodeIn (now (start .args .kinds)) (now (start .args .words)) in
+    let below = right-is-below at (start .args .i) (start .pre .1 .1 .0)
+    (its-parts (at-parts-of .parts-of .ensures) (at-parts-of .before .node-at .ensures) (at-a2 .a2 .given .1)) in (
+      omega (arith, below, start .pre .0),
+      (
+        omega (arith, below, start .pre .1 .0),
+        (start .pre .1 .1 .0, stands-after at (at-a2 .a2 .given .0 .0) (c .before .before .visit2 .ensures) (start .pre .1 .1 .1)),
+      ),
+    )
 
 visit-number-next-requires-3 : (t : ℕ) → visit-lts.Need-number-next-requires-3 (
   node-at-reads.Asked,
@@ -192,7 +234,17 @@ visit-number-next-requires-3 : (t : ℕ) → visit-lts.Need-number-next-requires
   visit-below t,
   visit.Post,
 ) (visit-at t) visit.Post
-visit-number-next-requires-3 t c κs = (c .before .before .before .before .before .before .before .before .before .before .before .before .before .before .before .pre .1 .0, has-a-place (nodeIn (now (c .before .before .before .before .before .before .before .before .before .before .before .before .before .before .before .args .kinds)) (now (c .before .before .before .before .before .before .before .before .before .before .before .before .before .before .before .args .words))) (c .before .before .before .before .before .before .before .before .before .before .before .before .before .before .before .pre .1 .1 .0) (c .before .before .before .before .before .before .before .before .before .before .before .before .before .before .before .args .i) (c .before .before .before .before .before .before .before .before .before .before .before .before .before .before .before .pre .1 .0) (c .before .before .before .before .before .before .before .before .before .before .before .before .before .if1 .left) (its-parts (c .before .before .before .before .before .before .before .before .before .before .before .parts-of .ensures) (c .before .before .before .before .before .before .before .before .before .before .before .before .node-at .ensures) (c .before .before .before .before .before .before .before .before .before .a2 .given .1)) (λ o w. c .before .before .visit3 .ensures _ (c .before .before .before .before .before .visit2 .ensures o w)) (c .before .before .before .before .before .before .before .before .before .before .before .before .before .before .before .pre .1 .1 .1))
+visit-number-next-requires-3 t c κs =
+    let at-visit2 = c .before .before .before .before .before in
+    let at-a2 = at-visit2 .before .before .before .before in
+    let at-if1 = at-a2 .before .before .before .before in
+    let start = at-if1 .before .before in (
+      start .pre .1 .0,
+      has-a-place (nodeIn (now (start .args .kinds)) (now (start .args .words))) (start .pre .1 .1 .0) (start .args .i) (start .pre .1 .0)
+          (at-if1 .if1 .left)
+          (its-parts (at-a2 .before .before .parts-of .ensures) (at-a2 .before .before .before .node-at .ensures) (at-a2 .a2 .given .1))
+          (λ o w. c .before .before .visit3 .ensures _ (at-visit2 .visit2 .ensures o w)) (start .pre .1 .1 .1),
+    )
 
 visit-returns-2 : (t : ℕ) → visit-lts.Need-returns-2 (
   node-at-reads.Asked,
@@ -204,7 +256,13 @@ visit-returns-2 : (t : ℕ) → visit-lts.Need-returns-2 (
   visit-below t,
   visit.Post,
 ) (visit-at t) visit.Post
-visit-returns-2 t c = numbered-next (nodeIn (now (c .before .before .before .before .before .before .before .before .before .args .kinds)) (now (c .before .before .before .before .before .before .before .before .before .args .words))) (c .before .before .before .before .before .before .before .before .before .pre .1 .1 .0) (c .before .before .before .before .before .before .before .before .before .args .i) (c .before .before .before .before .before .before .before .before .before .pre .1 .0) (c .before .before .before .before .before .before .before .if1 .left) (its-parts (c .before .before .before .before .before .parts-of .ensures) (c .before .before .before .before .before .before .node-at .ensures) (c .before .before .before .enum-told .given .1)) (λ o w. w) (c .number-next .ensures)
+visit-returns-2 t c =
+    let at-parts-of = c .before .before .before .before .before in
+    let start = at-parts-of .before .before .before .before in
+    numbered-next (nodeIn (now (start .args .kinds)) (now (start .args .words))) (start .pre .1 .1 .0) (start .args .i) (start .pre .1 .0)
+    (at-parts-of .before .before .if1 .left)
+    (its-parts (at-parts-of .parts-of .ensures) (at-parts-of .before .node-at .ensures) (c .before .before .before .enum-told .given .1)) (λ o w. w)
+    (c .number-next .ensures)
 
 visit-returns-3 : (t : ℕ) → visit-lts.Need-returns-3 (
   node-at-reads.Asked,
@@ -216,7 +274,13 @@ visit-returns-3 : (t : ℕ) → visit-lts.Need-returns-3 (
   visit-below t,
   visit.Post,
 ) (visit-at t) visit.Post
-visit-returns-3 t c = numbered-next (nodeIn (now (c .before .before .before .before .before .before .before .before .before .before .before .before .before .args .kinds)) (now (c .before .before .before .before .before .before .before .before .before .before .before .before .before .args .words))) (c .before .before .before .before .before .before .before .before .before .before .before .before .before .pre .1 .1 .0) (c .before .before .before .before .before .before .before .before .before .before .before .before .before .args .i) (c .before .before .before .before .before .before .before .before .before .before .before .before .before .pre .1 .0) (c .before .before .before .before .before .before .before .before .before .before .before .if1 .left) (its-parts (c .before .before .before .before .before .before .before .before .before .parts-of .ensures) (c .before .before .before .before .before .before .before .before .before .before .node-at .ensures) (c .before .before .before .before .before .before .before .a .given .1)) (c .before .before .before .visit .ensures) (c .number-next2 .ensures)
+visit-returns-3 t c =
+    let at-a = c .before .before .before .before .before .before .before in
+    let at-if1 = at-a .before .before .before .before in
+    let start = at-if1 .before .before in
+    numbered-next (nodeIn (now (start .args .kinds)) (now (start .args .words))) (start .pre .1 .1 .0) (start .args .i) (start .pre .1 .0)
+    (at-if1 .if1 .left) (its-parts (at-a .before .before .parts-of .ensures) (at-a .before .before .before .node-at .ensures) (at-a .a .given .1))
+    (c .before .before .before .visit .ensures) (c .number-next2 .ensures)
 
 visit-returns-4 : (t : ℕ) → visit-lts.Need-returns-4 (
   node-at-reads.Asked,
@@ -228,7 +292,15 @@ visit-returns-4 : (t : ℕ) → visit-lts.Need-returns-4 (
   visit-below t,
   visit.Post,
 ) (visit-at t) visit.Post
-visit-returns-4 t c = numbered-next (nodeIn (now (c .before .before .before .before .before .before .before .before .before .before .before .before .before .before .before .before .args .kinds)) (now (c .before .before .before .before .before .before .before .before .before .before .before .before .before .before .before .before .args .words))) (c .before .before .before .before .before .before .before .before .before .before .before .before .before .before .before .before .pre .1 .1 .0) (c .before .before .before .before .before .before .before .before .before .before .before .before .before .before .before .before .args .i) (c .before .before .before .before .before .before .before .before .before .before .before .before .before .before .before .before .pre .1 .0) (c .before .before .before .before .before .before .before .before .before .before .before .before .before .before .if1 .left) (its-parts (c .before .before .before .before .before .before .before .before .before .before .before .before .parts-of .ensures) (c .before .before .before .before .before .before .before .before .before .before .before .before .before .node-at .ensures) (c .before .before .before .before .before .before .before .before .before .before .a2 .given .1)) (λ o w. c .before .before .before .visit3 .ensures _ (c .before .before .before .before .before .before .visit2 .ensures o w)) (c .number-next3 .ensures)
+visit-returns-4 t c =
+    let at-visit2 = c .before .before .before .before .before .before in
+    let at-a2 = at-visit2 .before .before .before .before in
+    let at-if1 = at-a2 .before .before .before .before in
+    let start = at-if1 .before .before in
+    numbered-next (nodeIn (now (start .args .kinds)) (now (start .args .words))) (start .pre .1 .1 .0) (start .args .i) (start .pre .1 .0)
+    (at-if1 .if1 .left)
+    (its-parts (at-a2 .before .before .parts-of .ensures) (at-a2 .before .before .before .node-at .ensures) (at-a2 .a2 .given .1))
+    (λ o w. c .before .before .before .visit3 .ensures _ (at-visit2 .visit2 .ensures o w)) (c .number-next3 .ensures)
 
 pub +visit-spec : {M : Type 1} → statement M
 +visit-spec = close μ-visit λ t. visit-lts.spec (

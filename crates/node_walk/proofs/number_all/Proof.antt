@@ -36,8 +36,10 @@ cast-visit c =
 visit-requires : tie.Need-visit-requires Inv-loop μ-loop
 visit-requires c κs =
     let turn = c .before .before .before in
-    let start = turn .before .before .before in
-    (root-below limit (now (start .args .roots)) (start .pre .0) (turn .before .loop .i) (turn .loop-test .taken), (start .pre .1 .0, roots-stand (turn .before .loop .inv)))
+    let start = turn .before .before .before in (
+      root-below limit (now (start .args .roots)) (start .pre .0) (turn .before .loop .i) (turn .loop-test .taken),
+      (start .pre .1 .0, roots-stand (turn .before .loop .inv)),
+    )
 
 add-i : tie.Need-add-i Inv-loop μ-loop
 add-i c = let turn = c .before .before .before .before in omega (arith, turn .loop-test .taken, turn .before .before .before .good)

@@ -20,19 +20,28 @@ abbrev μ-loop : tie.MeasureT-loop
 loop-holds : tie.Need-loop-holds Inv-loop μ-loop
 loop-holds c =
     let start = c .before in
-    no-entries-put kinds-put (entryBy (nodeIn (now (start .args .kinds)) (now (start .args .words))) (now (start .args .number)) (now (start .args .order))) (start .args .n) (start .args .first) _
+    no-entries-put kinds-put
+    (entryBy (nodeIn (now (start .args .kinds)) (now (start .args .words))) (now (start .args .number)) (now (start .args .order))) (start .args .n)
+    (start .args .first) _
 
 entry-requires : tie.Need-entry-requires Inv-loop μ-loop
-entry-requires c κs = let listed = c .before .before .before .pre .0 in (omega (arith, listed .few, c .loop-test .taken), listed .parts-marked (c .before .loop .m) (c .loop-test .taken))
+entry-requires c κs =
+    let listed = c .before .before .before .pre .0 in
+    (omega (arith, listed .few, c .loop-test .taken), listed .parts-marked (c .before .loop .m) (c .loop-test .taken))
 
 kind-of-requires : tie.Need-kind-of-requires Inv-loop μ-loop
 kind-of-requires c κs = tt
 
 add-out : tie.Need-add-out Inv-loop μ-loop
-add-out c = let turn = c .before .before in let start = turn .before .before .before in record { fits = omega (arith, start .pre .1, start .good, turn .loop-test .taken) }
+add-out c =
+    let turn = c .before .before in
+    let start = turn .before .before .before in
+    record { fits = omega (arith, start .pre .1, start .good, turn .loop-test .taken) }
 
 slice-write-out : tie.Need-slice-write-out Inv-loop μ-loop
-slice-write-out c = omega (arith, c .before .before .before .loop .inv .long, c .before .before .before .before .before .pre .1, c .before .before .loop-test .taken)
+slice-write-out c =
+    let start = c .before .before .before .before .before in
+    omega (arith, c .before .before .before .loop .inv .long, start .pre .1, c .before .before .loop-test .taken)
 
 add-m : tie.Need-add-m Inv-loop μ-loop
 add-m c = omega (arith, c .before .before .before .before .before .pre .0 .few, c .before .before .loop-test .taken)

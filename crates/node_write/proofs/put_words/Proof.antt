@@ -19,31 +19,46 @@ abbrev μ-loop : tie.MeasureT-loop
 loop-holds : tie.Need-loop-holds Inv-loop μ-loop
 loop-holds c =
     let start = c .before in
-    no-entries-put words-put (entryBy (nodeIn (now (start .args .kinds)) (now (start .args .words))) (now (start .args .number)) (now (start .args .order))) (start .args .n) (start .args .first) _
+    no-entries-put words-put
+    (entryBy (nodeIn (now (start .args .kinds)) (now (start .args .words))) (now (start .args .number)) (now (start .args .order))) (start .args .n)
+    (start .args .first) _
 
 entry-requires : tie.Need-entry-requires Inv-loop μ-loop
-entry-requires c κs = let listed = c .before .before .before .pre .0 in (omega (arith, listed .few, c .loop-test .taken), listed .parts-marked (c .before .loop .m) (c .loop-test .taken))
+entry-requires c κs =
+    let listed = c .before .before .before .pre .0 in
+    (omega (arith, listed .few, c .loop-test .taken), listed .parts-marked (c .before .loop .m) (c .loop-test .taken))
 
 word-of-requires : tie.Need-word-of-requires Inv-loop μ-loop
 word-of-requires c κs = tt
 
 mul-put-bytes : tie.Need-mul-put-bytes Inv-loop μ-loop
-mul-put-bytes c = record { fits = omega (arith, c .before .before .before .before .before .before .pre .0 .few, c .before .before .before .loop-test .taken) }
+mul-put-bytes c =
+    let start = c .before .before .before .before .before .before in
+    record { fits = omega (arith, start .pre .0 .few, c .before .before .before .loop-test .taken) }
 
 add-put-bytes : tie.Need-add-put-bytes Inv-loop μ-loop
-add-put-bytes c = record { fits = omega (arith, c .before .before .before .before .before .before .pre .0 .few, c .before .before .before .loop-test .taken) }
+add-put-bytes c =
+    let start = c .before .before .before .before .before .before in
+    record { fits = omega (arith, start .pre .0 .few, c .before .before .before .loop-test .taken) }
 
 put-bytes-requires : tie.Need-put-bytes-requires Inv-loop μ-loop
-put-bytes-requires c κs = omega (arith, c .before .before .before .before .loop .inv .long, c .before .before .before .before .before .before .pre .1, c .before .before .before .loop-test .taken)
+put-bytes-requires c κs =
+    let at-loop = c .before .before .before .before in
+    omega (arith, at-loop .loop .inv .long, at-loop .before .before .pre .1, c .before .before .before .loop-test .taken)
 
 add-m : tie.Need-add-m Inv-loop μ-loop
-add-m c = omega (arith, c .before .before .before .before .before .before .before .before .before .pre .0 .few, c .before .before .before .before .before .before .loop-test .taken)
+add-m c =
+    let at-loop-test = c .before .before .before .before .before .before in
+    omega (arith, at-loop-test .before .before .before .pre .0 .few, at-loop-test .loop-test .taken)
 
 loop-less : tie.Need-loop-less Inv-loop μ-loop
 loop-less c = omega (arith, c .before .before .before .before .before .before .loop-test .taken)
 
 loop-again : tie.Need-loop-again Inv-loop μ-loop
-loop-again c = word-put (c .before .before .before .before .word-of .result) (c .before .before .before .before .before .before .before .loop .inv) (c .before .before .before .before .before .before .loop-test .taken) (c .before .before .put-bytes .ensures) (c .before .before .before .before .word-of .ensures) (c .before .before .before .before .before .entry .ensures)
+loop-again c =
+    let at-word-of = c .before .before .before .before in
+    word-put (at-word-of .word-of .result) (at-word-of .before .before .before .loop .inv) (at-word-of .before .before .loop-test .taken)
+    (c .before .before .put-bytes .ensures) (at-word-of .word-of .ensures) (at-word-of .before .entry .ensures)
 
 same-length : tie.Need-same-length Inv-loop μ-loop
 same-length c = c .before .loop .inv .long

@@ -55,8 +55,10 @@ put-words-requires c κs =
     let fits = size-put .before .before in
     let walked = fits .before in
     let start = walked .before .before .before .before .before in
-    let p = nodeIn (now (start .args .kinds)) (now (start .args .words)) in
-    (all-listed p (numbered p (start .args .root ∷ [])) _ _ _ (walked .number-all .ensures), omega (arith, kinds-put .put-kinds .kept .1 .1 .1 .1 .1 .1 .0, size-put .put-bytes .kept .0, fits .if1 .left))
+    let p = nodeIn (now (start .args .kinds)) (now (start .args .words)) in (
+      all-listed p (numbered p (start .args .root ∷ [])) _ _ _ (walked .number-all .ensures),
+      omega (arith, kinds-put .put-kinds .kept .1 .1 .1 .1 .1 .1 .0, size-put .put-bytes .kept .0, fits .if1 .left),
+    )
 
 same-length : tie.Need-same-length
 same-length c = search needs
@@ -69,7 +71,8 @@ returns-2 c =
     let fits = size-put .before .before in
     let walked = fits .before in
     let start = walked .before .before .before .before .before in
-    is-written (now (start .args .kinds)) (now (start .args .words)) (start .args .root) (walked .number-all .ensures) (now (start .args .out)) (fits .if1 .left) (size-put .put-bytes .ensures) (kinds-put .put-kinds .ensures) (words-put .put-words .ensures)
+    is-written (now (start .args .kinds)) (now (start .args .words)) (start .args .root) (walked .number-all .ensures) (now (start .args .out))
+    (fits .if1 .left) (size-put .put-bytes .ensures) (kinds-put .put-kinds .ensures) (words-put .put-words .ensures)
 
 pub write-file-spec : {M : Type 1} → statement M
 write-file-spec =

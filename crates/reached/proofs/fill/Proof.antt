@@ -25,22 +25,29 @@ node-reaches-requires : tie.Need-node-reaches-requires Inv-loop μ-loop
 node-reaches-requires c κs = omega (arith, c .before .before .loop-test .taken, c .before .before .before .before .pre .1)
 
 cast-found : tie.Need-cast-found Inv-loop μ-loop
-cast-found c = omega (arith, c .before .before .before .loop-test .taken, c .before .before .before .before .before .pre .1)
+cast-found c =
+    let start = c .before .before .before .before .before in
+    omega (arith, c .before .before .before .loop-test .taken, start .pre .1)
 
 element-write-found : tie.Need-element-write-found Inv-loop μ-loop
-element-write-found c = omega (arith, c .before .before .before .loop-test .taken, c .before .before .before .before .before .pre .1)
+element-write-found c =
+    let start = c .before .before .before .before .before in
+    omega (arith, c .before .before .before .loop-test .taken, start .pre .1)
 
 add-i : tie.Need-add-i Inv-loop μ-loop
-add-i c = omega (arith, c .before .before .before .loop-test .taken, c .before .before .before .before .before .pre .1)
+add-i c =
+    let start = c .before .before .before .before .before in
+    omega (arith, c .before .before .before .loop-test .taken, start .pre .1)
 
 loop-less : tie.Need-loop-less Inv-loop μ-loop
 loop-less c = omega (arith, c .before .before .before .loop-test .taken)
 
 loop-again : tie.Need-loop-again Inv-loop μ-loop
 loop-again c =
+    let start = c .before .before .before .before .before in
     let turn = c .before .before .before .loop-test .taken in
     let inv = c .before .before .before .before .loop .inv in
-    (omega (arith, turn), one-more-found _ (inv .1) _ (omega (arith, turn, c .before .before .before .before .before .pre .1)) (c .before .node-at .ensures) (c .node-reaches .ensures))
+    (omega (arith, turn), one-more-found _ (inv .1) _ (omega (arith, turn, start .pre .1)) (c .before .node-at .ensures) (c .node-reaches .ensures))
 
 returns : tie.Need-returns Inv-loop μ-loop
 returns c =

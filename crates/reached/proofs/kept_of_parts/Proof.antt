@@ -24,7 +24,9 @@ kept-requires-2 : tie.Need-kept-requires-2
 kept-requires-2 c κs = search needs
 
 returns : tie.Need-returns
-returns c = of-first _ (c .before .before .before .before .before .parts-of .ensures) (c .before .before .before .a2 .given .1) (c .before .kept2 .ensures) (c .if1 .taken)
+returns c =
+    let at-parts-of = c .before .before .before .before .before in
+    of-first _ (at-parts-of .parts-of .ensures) (c .before .before .before .a2 .given .1) (c .before .kept2 .ensures) (c .if1 .taken)
 
 kept-requires-3 : tie.Need-kept-requires-3
 kept-requires-3 c κs = search needs
@@ -36,7 +38,9 @@ returns-3 : tie.Need-returns-3
 returns-3 c = of-one _ (c .before .before .before .before .parts-of .ensures) (c .before .before .a .given .1) (c .kept .ensures)
 
 returns-4 : tie.Need-returns-4
-returns-4 c = of-second _ (c .before .before .before .before .before .before .parts-of .ensures) (c .before .before .before .before .a2 .given .1) (c .before .before .kept2 .ensures) (c .before .if1 .left) (c .kept3 .ensures)
+returns-4 c =
+    let at-a2 = c .before .before .before .before in
+    of-second _ (at-a2 .before .before .parts-of .ensures) (at-a2 .a2 .given .1) (c .before .before .kept2 .ensures) (c .before .if1 .left) (c .kept3 .ensures)
 
 pub kept-of-parts-spec : {M : Type 1} → statement M
 kept-of-parts-spec =

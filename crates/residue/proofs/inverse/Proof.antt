@@ -52,9 +52,10 @@ loop-again c =
 
 returns : tie.Need-returns Inv-loop μ-loop
 returns c =
-    let last = c .before .before .loop in
     let start = c .before .before .before in
-    euclid-inverts (start .args .m) (start .args .d) (last .r0) (last .r1) (last .t0) (last .t1) (start .pre .0 .least) (omega arith) (c .if1 .taken) (last .inv)
+    let last = c .before .before .loop in
+    euclid-inverts (start .args .m) (start .args .d) (last .r0) (last .r1) (last .t0) (last .t1) (start .pre .0 .least) (omega arith) (c .if1 .taken)
+    (last .inv)
 
 returns-2 : tie.Need-returns-2 Inv-loop μ-loop
 returns-2 c =

@@ -22,7 +22,9 @@ print-part-requires : tie.Need-print-part-requires Inv-loop μ-loop
 print-part-requires c κs = search needs
 
 same-length : tie.Need-same-length Inv-loop μ-loop
-same-length c = c .before .before .before .print-part .kept .1 .1 .1 .1 .1 .0 ∙ c .before .before .before .before .before .before .loop .inv
+same-length c =
+    let at-loop = c .before .before .before .before .before .before in
+    c .before .before .before .print-part .kept .1 .1 .1 .1 .1 .0 ∙ at-loop .loop .inv
 
 returns : tie.Need-returns Inv-loop μ-loop
 returns c = search needs
@@ -34,7 +36,9 @@ loop-less : tie.Need-loop-less Inv-loop μ-loop
 loop-less c = omega (arith, c .before .before .before .before .before .loop-test .taken)
 
 loop-again : tie.Need-loop-again Inv-loop μ-loop
-loop-again c = c .before .before .before .print-part .kept .1 .1 .1 .1 .1 .0 ∙ c .before .before .before .before .before .before .loop .inv
+loop-again c =
+    let at-loop = c .before .before .before .before .before .before in
+    c .before .before .before .print-part .kept .1 .1 .1 .1 .1 .0 ∙ at-loop .loop .inv
 
 same-length-2 : tie.Need-same-length-2 Inv-loop μ-loop
 same-length-2 c = c .before .loop .inv

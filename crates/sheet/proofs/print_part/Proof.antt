@@ -18,7 +18,12 @@ slice-reshare-prefix-write-all : tie.Need-slice-reshare-prefix-write-all
 slice-reshare-prefix-write-all c =
     let a = c .before .before .before .before .before .args in
     let called = c .before .before .piece in
-    omega (arith, called .ensures .long, called .kept .1 .1 .1 .1 .1 .0, put-fits (a .page) (a .kinds .now) (a .words .now) (a .line) (a .part) (length (a .out .now)))
+    omega (
+      arith,
+      called .ensures .long,
+      called .kept .1 .1 .1 .1 .1 .0,
+      put-fits (a .page) (a .kinds .now) (a .words .now) (a .line) (a .part) (length (a .out .now)),
+    )
 
 slice-aggregate-write-all : tie.Need-slice-aggregate-write-all
 slice-aggregate-write-all c = sym (length-take-le _ _ (slice-reshare-prefix-write-all (c .before)))

@@ -17,7 +17,9 @@ lit-in-requires : tie.Need-lit-in-requires
 lit-in-requires c κs = search needs
 
 returns : tie.Need-returns
-returns c kept = called kept (literal-made _ (c .before .fold .ensures ∙ ap folded (toZ-ofZ w64 (c .before .before .before .before .args .z) (c .before .before .before .before .fits .z))) (c .lit-in .ensures))
+returns c kept =
+    let start = c .before .before .before .before in
+    called kept (literal-made _ (c .before .fold .ensures ∙ ap folded (toZ-ofZ w64 (start .args .z) (start .fits .z))) (c .lit-in .ensures))
 
 pub lit-rule-spec : {M : Type 1} → statement M
 lit-rule-spec = tie.close (tie.spec fold-requires lit-in-requires returns)

@@ -23,7 +23,9 @@ enum-told c = search needs
 
 returns : tie.Need-returns
 returns c kept =
-    stopped (c .before .before .pow-in .last .0) (c .before .before .pow-in .last .1 .0) kept _ _ _ _ (c .enum-told .given .1) (called kept (to-the _ _ (c .before .before .before .one-less .ensures) (c .before .before .pow-in .ensures)))
+    let at-pow-in = c .before .before in
+    stopped (at-pow-in .pow-in .last .0) (at-pow-in .pow-in .last .1 .0) kept _ _ _ _ (c .enum-told .given .1)
+    (called kept (to-the _ _ (at-pow-in .before .one-less .ensures) (at-pow-in .pow-in .ensures)))
 
 cast-lit-rule : tie.Need-cast-lit-rule
 cast-lit-rule c = search needs
@@ -39,8 +41,14 @@ enum-told-2 c = search needs
 
 returns-2 : tie.Need-returns-2
 returns-2 c kept =
-    onward (c .before .before .before .before .before .before .before .before .pow-in .last .0) (c .before .before .before .before .before .before .before .before .pow-in .last .1 .0) kept _ (c .before .before .before .before .before .before .power .given .1) (called kept (to-the _ _ (c .before .before .before .before .before .before .before .before .before .one-less .ensures) (c .before .before .before .before .before .before .before .before .pow-in .ensures)))
-    (stopped (c .before .before .lit-rule .last .0) (c .before .before .lit-rule .last .1 .0) kept _ _ _ _ (c .enum-told2 .given .1) (of-number _ (toZ-ofZ w64 (pos (c .before .before .before .before .before .before .before .before .before .before .before .before .args .exp)) (exponent-fits (c .before .before .before .before .before .before .before .before .before .before .before .before .args .exp) (c .before .before .before .before .before .before .before .before .before .before .before .before .fits .exp))) (c .before .before .lit-rule .ensures kept)))
+    let at-lit-rule = c .before .before in
+    let at-power = at-lit-rule .before .before .before .before in
+    let at-pow-in = at-power .before .before in
+    let start = at-pow-in .before .before .before .before in
+    onward (at-pow-in .pow-in .last .0) (at-pow-in .pow-in .last .1 .0) kept _ (at-power .power .given .1)
+    (called kept (to-the _ _ (at-pow-in .before .one-less .ensures) (at-pow-in .pow-in .ensures)))
+    (stopped (at-lit-rule .lit-rule .last .0) (at-lit-rule .lit-rule .last .1 .0) kept _ _ _ _ (c .enum-told2 .given .1)
+    (of-number _ (toZ-ofZ w64 (pos (start .args .exp)) (exponent-fits (start .args .exp) (start .fits .exp))) (at-lit-rule .lit-rule .ensures kept)))
 
 mul-in-requires : tie.Need-mul-in-requires
 mul-in-requires c κs = search needs
@@ -53,19 +61,37 @@ enum-told-3 c = search needs
 
 returns-3 : tie.Need-returns-3
 returns-3 c kept =
-    onward (c .before .before .before .before .before .before .before .before .before .before .before .before .before .before .pow-in .last .0) (c .before .before .before .before .before .before .before .before .before .before .before .before .before .before .pow-in .last .1 .0) kept _ (c .before .before .before .before .before .before .before .before .before .before .before .before .power .given .1) (called kept (to-the _ _ (c .before .before .before .before .before .before .before .before .before .before .before .before .before .before .before .one-less .ensures) (c .before .before .before .before .before .before .before .before .before .before .before .before .before .before .pow-in .ensures)))
-    (onward (c .before .before .before .before .before .before .before .before .lit-rule .last .0) (c .before .before .before .before .before .before .before .before .lit-rule .last .1 .0) kept _ (c .before .before .before .before .before .before .factor .given .1) (of-number _ (toZ-ofZ w64 (pos (c .before .before .before .before .before .before .before .before .before .before .before .before .before .before .before .before .before .before .args .exp)) (exponent-fits (c .before .before .before .before .before .before .before .before .before .before .before .before .before .before .before .before .before .before .args .exp) (c .before .before .before .before .before .before .before .before .before .before .before .before .before .before .before .before .before .before .fits .exp))) (c .before .before .before .before .before .before .before .before .lit-rule .ensures kept))
-    (stopped (c .before .before .mul-in .last .0) (c .before .before .mul-in .last .1 .0) kept _ _ _ _ (c .enum-told3 .given .1) (called kept (c .before .before .mul-in .ensures))))
+    let at-mul-in = c .before .before in
+    let at-factor = at-mul-in .before .before .before .before in
+    let at-lit-rule = at-factor .before .before in
+    let at-power = at-lit-rule .before .before .before .before in
+    let at-pow-in = at-power .before .before in
+    let start = at-pow-in .before .before .before .before in
+    onward (at-pow-in .pow-in .last .0) (at-pow-in .pow-in .last .1 .0) kept _ (at-power .power .given .1)
+    (called kept (to-the _ _ (at-pow-in .before .one-less .ensures) (at-pow-in .pow-in .ensures)))
+    (onward (at-lit-rule .lit-rule .last .0) (at-lit-rule .lit-rule .last .1 .0) kept _ (at-factor .factor .given .1)
+    (of-number _ (toZ-ofZ w64 (pos (start .args .exp)) (exponent-fits (start .args .exp) (start .fits .exp))) (at-lit-rule .lit-rule .ensures kept))
+    (stopped (at-mul-in .mul-in .last .0) (at-mul-in .mul-in .last .1 .0) kept _ _ _ _ (c .enum-told3 .given .1)
+    (called kept (at-mul-in .mul-in .ensures))))
 
 mul-in-requires-2 : tie.Need-mul-in-requires-2
 mul-in-requires-2 c κs = search needs
 
 returns-4 : tie.Need-returns-4
 returns-4 c kept =
-    onward (c .before .before .before .before .before .before .before .before .before .before .before .before .before .before .before .before .before .before .pow-in .last .0) (c .before .before .before .before .before .before .before .before .before .before .before .before .before .before .before .before .before .before .pow-in .last .1 .0) kept _ (c .before .before .before .before .before .before .before .before .before .before .before .before .before .before .before .before .power .given .1) (called kept (to-the _ _ (c .before .before .before .before .before .before .before .before .before .before .before .before .before .before .before .before .before .before .before .one-less .ensures) (c .before .before .before .before .before .before .before .before .before .before .before .before .before .before .before .before .before .before .pow-in .ensures)))
-    (onward (c .before .before .before .before .before .before .before .before .before .before .before .before .lit-rule .last .0) (c .before .before .before .before .before .before .before .before .before .before .before .before .lit-rule .last .1 .0) kept _ (c .before .before .before .before .before .before .before .before .before .before .factor .given .1) (of-number _ (toZ-ofZ w64 (pos (c .before .before .before .before .before .before .before .before .before .before .before .before .before .before .before .before .before .before .before .before .before .before .args .exp)) (exponent-fits (c .before .before .before .before .before .before .before .before .before .before .before .before .before .before .before .before .before .before .before .before .before .before .args .exp) (c .before .before .before .before .before .before .before .before .before .before .before .before .before .before .before .before .before .before .before .before .before .before .fits .exp))) (c .before .before .before .before .before .before .before .before .before .before .before .before .lit-rule .ensures kept))
-    (onward (c .before .before .before .before .before .before .mul-in .last .0) (c .before .before .before .before .before .before .mul-in .last .1 .0) kept _ (c .before .before .before .before .inner .given .1) (called kept (c .before .before .before .before .before .before .mul-in .ensures))
-    (called kept (c .mul-in2 .ensures))))
+    let at-inner = c .before .before .before .before in
+    let at-mul-in = at-inner .before .before in
+    let at-factor = at-mul-in .before .before .before .before in
+    let at-lit-rule = at-factor .before .before in
+    let at-power = at-lit-rule .before .before .before .before in
+    let at-pow-in = at-power .before .before in
+    let start = at-pow-in .before .before .before .before in
+    onward (at-pow-in .pow-in .last .0) (at-pow-in .pow-in .last .1 .0) kept _ (at-power .power .given .1)
+    (called kept (to-the _ _ (at-pow-in .before .one-less .ensures) (at-pow-in .pow-in .ensures)))
+    (onward (at-lit-rule .lit-rule .last .0) (at-lit-rule .lit-rule .last .1 .0) kept _ (at-factor .factor .given .1)
+    (of-number _ (toZ-ofZ w64 (pos (start .args .exp)) (exponent-fits (start .args .exp) (start .fits .exp))) (at-lit-rule .lit-rule .ensures kept))
+    (onward (at-mul-in .mul-in .last .0) (at-mul-in .mul-in .last .1 .0) kept _ (at-inner .inner .given .1)
+    (called kept (at-mul-in .mul-in .ensures)) (called kept (c .mul-in2 .ensures))))
 
 pub power-rule-spec : {M : Type 1} → statement M
 power-rule-spec =

@@ -16,7 +16,8 @@ enum-told c = search needs
 
 returns : tie.Need-returns
 returns c kept =
-    stopped (c .before .before .mul-in .last .0) (c .before .before .mul-in .last .1 .0) kept _ _ _ _ (c .enum-told .given .1) (called kept (c .before .before .mul-in .ensures))
+    let at-mul-in = c .before .before in
+    stopped (at-mul-in .mul-in .last .0) (at-mul-in .mul-in .last .1 .0) kept _ _ _ _ (c .enum-told .given .1) (called kept (at-mul-in .mul-in .ensures))
 
 mul-in-requires-2 : tie.Need-mul-in-requires-2
 mul-in-requires-2 c κs = search needs
@@ -29,16 +30,24 @@ enum-told-2 c = search needs
 
 returns-2 : tie.Need-returns-2
 returns-2 c kept =
-    onward (c .before .before .before .before .before .before .before .before .mul-in .last .0) (c .before .before .before .before .before .before .before .before .mul-in .last .1 .0) kept _ (c .before .before .before .before .before .before .first .given .1) (called kept (c .before .before .before .before .before .before .before .before .mul-in .ensures))
-    (stopped (c .before .before .mul-in2 .last .0) (c .before .before .mul-in2 .last .1 .0) kept _ _ _ _ (c .enum-told2 .given .1) (called kept (c .before .before .mul-in2 .ensures)))
+    let at-mul-in2 = c .before .before in
+    let at-first = at-mul-in2 .before .before .before .before in
+    let at-mul-in = at-first .before .before in
+    onward (at-mul-in .mul-in .last .0) (at-mul-in .mul-in .last .1 .0) kept _ (at-first .first .given .1) (called kept (at-mul-in .mul-in .ensures))
+    (stopped (at-mul-in2 .mul-in2 .last .0) (at-mul-in2 .mul-in2 .last .1 .0) kept _ _ _ _ (c .enum-told2 .given .1)
+    (called kept (at-mul-in2 .mul-in2 .ensures)))
 
 add-in-requires : tie.Need-add-in-requires
 add-in-requires c κs = search needs
 
 returns-3 : tie.Need-returns-3
 returns-3 c kept =
-    onward (c .before .before .before .before .before .before .before .before .before .before .before .before .mul-in .last .0) (c .before .before .before .before .before .before .before .before .before .before .before .before .mul-in .last .1 .0) kept _ (c .before .before .before .before .before .before .before .before .before .before .first .given .1) (called kept (c .before .before .before .before .before .before .before .before .before .before .before .before .mul-in .ensures))
-    (onward (c .before .before .before .before .before .before .mul-in2 .last .0) (c .before .before .before .before .before .before .mul-in2 .last .1 .0) kept _ (c .before .before .before .before .second .given .1) (called kept (c .before .before .before .before .before .before .mul-in2 .ensures))
+    let at-second = c .before .before .before .before in
+    let at-mul-in2 = at-second .before .before in
+    let at-first = at-mul-in2 .before .before .before .before in
+    let at-mul-in = at-first .before .before in
+    onward (at-mul-in .mul-in .last .0) (at-mul-in .mul-in .last .1 .0) kept _ (at-first .first .given .1) (called kept (at-mul-in .mul-in .ensures))
+    (onward (at-mul-in2 .mul-in2 .last .0) (at-mul-in2 .mul-in2 .last .1 .0) kept _ (at-second .second .given .1) (called kept (at-mul-in2 .mul-in2 .ensures))
     (called kept (c .add-in .ensures)))
 
 pub product-rule-spec : {M : Type 1} → statement M

@@ -13,7 +13,9 @@ walk-at-requires c κs = omega arith
 
 returns : tie.Need-returns
 unfolding derive
-returns c = whole (deriveAt (c .before .before .before .before .before .args .var)) _ (resultsOf (c .walk-at .last .1 .1 .0)) (c .before .before .before .before .before .args .root) (c .walk-at .ensures)
+returns c =
+    let start = c .before .before .before .before .before in
+    whole (deriveAt (start .args .var)) _ (resultsOf (c .walk-at .last .1 .1 .0)) (start .args .root) (c .walk-at .ensures)
 
 returns-2 : tie.Need-returns-2
 unfolding derive

@@ -22,9 +22,12 @@ same-length-2 c = search needs
 
 returns : tie.Need-returns
 returns c =
-    let z = c .before .before .before .before .before .before .before .before .before .before .before .args .value in
-    let e : toZ w64 (ofZ w64 z) ≡ z = toZ-ofZ w64 z (c .before .before .before .before .before .before .before .before .before .before .before .fits .value) in
-    rw (c .before .before .before .before .before .before .before .before .is-literal .ensures, e) at (c .before .before .before .before .on-leaf .ensures)
+    let at-on-leaf = c .before .before .before .before in
+    let at-is-literal = at-on-leaf .before .before .before .before in
+    let start = at-is-literal .before .before .before in
+    let z = start .args .value in
+    let e : toZ w64 (ofZ w64 z) ≡ z = toZ-ofZ w64 z (start .fits .value) in
+    rw (at-is-literal .is-literal .ensures, e) at (at-on-leaf .on-leaf .ensures)
 
 pub lit-spec : {M : Type 1} → statement M
 lit-spec =

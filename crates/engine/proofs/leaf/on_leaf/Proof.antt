@@ -38,7 +38,8 @@ returns-2 c =
     let in-pool = c .before in
     let start = in-pool .before .before .before .before .before .before .before .before .before in
     let a = start .args in
-    demanded (in-pool .before .take-in .ensures) (not-false _ (in-pool .if1 .left)) Node Refused limit (leafWork (a .allowed) (a .refusal) (a .node)) (rw (not-true (a .allowed) (c .if2 .taken)))
+    demanded (in-pool .before .take-in .ensures) (not-false _ (in-pool .if1 .left)) Node Refused limit (leafWork (a .allowed) (a .refusal) (a .node))
+    (rw (not-true (a .allowed) (c .if2 .taken)))
 
 cast-room-between : tie.Need-cast-room-between
 cast-room-between c =
@@ -83,7 +84,8 @@ returns-3 c =
     let pool-taken = not-false _ (in-pool .if1 .left) in
     let a = start .args in
     worked taken pool-taken Node Refused limit (leafWork (a .allowed) (a .refusal) (a .node)) (done .finish .ensures)
-    (on-lent taken pool-taken (append (a .node)) (room .room-between .ensures) (work .append .ensures) ∙ met (a .refusal) (not-false (a .allowed) (allowed .if2 .left)))
+    (on-lent taken pool-taken (append (a .node)) (room .room-between .ensures) (work .append .ensures) ∙ met (a .refusal)
+    (not-false (a .allowed) (allowed .if2 .left)))
 
 pub on-leaf-spec : {M : Type 1} → statement M
 on-leaf-spec =

@@ -30,9 +30,11 @@ same-length-2 c = search needs
 
 returns : tie.Need-returns
 returns c =
-    let v = c .before .before .before .before .before .before .before .before .before .before .before .before .args .number in
-    let known : leb v greatestVariable ≡ true = sym (c .before .before .before .before .before .before .before .before .before .is-variable .ensures) ∙ c .before .before .before .before .before .before .before .before .if1 .taken in
-    rw known (c .before .before .before .before .on-leaf .ensures)
+    let at-on-leaf = c .before .before .before .before in
+    let at-if1 = at-on-leaf .before .before .before .before in
+    let v = at-if1 .before .before .before .before .args .number in
+    let known : leb v greatestVariable ≡ true = sym (at-if1 .before .is-variable .ensures) ∙ at-if1 .if1 .taken in
+    rw known (at-on-leaf .on-leaf .ensures)
 
 on-leaf-requires-2 : tie.Need-on-leaf-requires-2
 on-leaf-requires-2 c κs = search needs
@@ -45,9 +47,11 @@ same-length-4 c = search needs
 
 returns-2 : tie.Need-returns-2
 returns-2 c =
-    let v = c .before .before .before .before .before .before .before .before .before .before .before .before .args .number in
-    let known : leb v greatestVariable ≡ false = sym (c .before .before .before .before .before .before .before .before .before .is-variable .ensures) ∙ c .before .before .before .before .before .before .before .before .if1 .left in
-    rw known (c .before .before .before .before .on-leaf2 .ensures)
+    let at-on-leaf2 = c .before .before .before .before in
+    let at-if1 = at-on-leaf2 .before .before .before .before in
+    let v = at-if1 .before .before .before .before .args .number in
+    let known : leb v greatestVariable ≡ false = sym (at-if1 .before .is-variable .ensures) ∙ at-if1 .if1 .left in
+    rw known (at-on-leaf2 .on-leaf2 .ensures)
 
 pub var-spec : {M : Type 1} → statement M
 var-spec =

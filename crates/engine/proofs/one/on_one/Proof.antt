@@ -43,7 +43,8 @@ returns-2 c =
     let in-pool = c .before .before in
     let start = in-pool .before .before .before .before .before .before .before .before .before in
     let a = start .args in
-    demanded (in-pool .before .take-in .ensures) (not-false _ (in-pool .if1 .left)) Node Refused limit (onOne (a .op) (a .arg)) (rw (test-fails (c .before .one-given .ensures) (c .if2 .taken)))
+    demanded (in-pool .before .take-in .ensures) (not-false _ (in-pool .if1 .left)) Node Refused limit (onOne (a .op) (a .arg))
+    (rw (test-fails (c .before .one-given .ensures) (c .if2 .taken)))
 
 cast-room-between : tie.Need-cast-room-between
 cast-room-between c =
@@ -75,7 +76,8 @@ finish-requires c κs =
     let taken = in-pool .before .take-in .ensures in
     let pool-taken = not-false _ (in-pool .if1 .left) in
     let a = start .args in
-    may-finish taken pool-taken limit (one-grows (a .op) (a .arg)) (on-lent taken pool-taken (oneWork (a .op) (a .arg)) (room .room-between .ensures) (work .one-in .ensures))
+    may-finish taken pool-taken limit (one-grows (a .op) (a .arg))
+    (on-lent taken pool-taken (oneWork (a .op) (a .arg)) (room .room-between .ensures) (work .one-in .ensures))
 
 same-length-5 : tie.Need-same-length-5
 same-length-5 c = search needs
@@ -95,7 +97,8 @@ returns-3 c =
     let pool-taken = not-false _ (in-pool .if1 .left) in
     let a = start .args in
     worked taken pool-taken Node Refused limit (onOne (a .op) (a .arg)) (done .finish .ensures)
-    (on-lent taken pool-taken (oneWork (a .op) (a .arg)) (room .room-between .ensures) (work .one-in .ensures) ∙ met unknownNode (test-holds (given .before .one-given .ensures) (given .if2 .left)))
+    (on-lent taken pool-taken (oneWork (a .op) (a .arg)) (room .room-between .ensures) (work .one-in .ensures) ∙ met unknownNode
+    (test-holds (given .before .one-given .ensures) (given .if2 .left)))
 
 pub on-one-spec : {M : Type 1} → statement M
 on-one-spec =

@@ -43,7 +43,8 @@ returns-2 c =
     let in-pool = c .before .before in
     let start = in-pool .before .before .before .before .before .before .before .before .before in
     let a = start .args in
-    demanded (in-pool .before .take-in .ensures) (not-false _ (in-pool .if1 .left)) Node Refused limit (onTwo (a .op) (a .lhs) (a .rhs)) (rw (test-fails (c .before .both-given .ensures) (c .if2 .taken)))
+    demanded (in-pool .before .take-in .ensures) (not-false _ (in-pool .if1 .left)) Node Refused limit (onTwo (a .op) (a .lhs) (a .rhs))
+    (rw (test-fails (c .before .both-given .ensures) (c .if2 .taken)))
 
 cast-room-between : tie.Need-cast-room-between
 cast-room-between c =
@@ -82,7 +83,8 @@ finish-requires c κs =
     let taken = in-pool .before .take-in .ensures in
     let pool-taken = not-false _ (in-pool .if1 .left) in
     let a = start .args in
-    may-finish taken pool-taken limit (two-grows (a .op) (a .lhs) (a .rhs)) (on-lent taken pool-taken (twoWork (a .op) (a .lhs) (a .rhs)) (room .room-between .ensures) (work .two-in .ensures))
+    may-finish taken pool-taken limit (two-grows (a .op) (a .lhs) (a .rhs))
+    (on-lent taken pool-taken (twoWork (a .op) (a .lhs) (a .rhs)) (room .room-between .ensures) (work .two-in .ensures))
 
 same-length-5 : tie.Need-same-length-5
 same-length-5 c = search needs
@@ -102,7 +104,8 @@ returns-3 c =
     let pool-taken = not-false _ (in-pool .if1 .left) in
     let a = start .args in
     worked taken pool-taken Node Refused limit (onTwo (a .op) (a .lhs) (a .rhs)) (done .finish .ensures)
-    (on-lent taken pool-taken (twoWork (a .op) (a .lhs) (a .rhs)) (room .room-between .ensures) (work .two-in .ensures) ∙ met unknownNode (test-holds (given .before .both-given .ensures) (given .if2 .left)))
+    (on-lent taken pool-taken (twoWork (a .op) (a .lhs) (a .rhs)) (room .room-between .ensures) (work .two-in .ensures) ∙ met unknownNode
+    (test-holds (given .before .both-given .ensures) (given .if2 .left)))
 
 pub on-two-spec : {M : Type 1} → statement M
 on-two-spec =

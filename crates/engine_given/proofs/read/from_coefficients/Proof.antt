@@ -18,16 +18,26 @@ refused-requires : tie.Need-refused-requires
 refused-requires c κs = search needs
 
 returns : tie.Need-returns
-returns c = rw (c .refused .ensures) (refused-of (c .before .before .before .before .before .args .kinds .now) (c .before .before .before .before .before .args .words .now) (c .before .before .before .before .before .args .count) (c .before .before .before .before .before .args .s) (c .before .before .refusal-of .ensures) (c .before .if1 .taken))
+returns c =
+    let start = c .before .before .before .before .before in
+    rw (c .refused .ensures)
+    (refused-of (start .args .kinds .now) (start .args .words .now) (start .args .count) (start .args .s) (c .before .before .refusal-of .ensures)
+    (c .before .if1 .taken))
 
 expansion-of-requires : tie.Need-expansion-of-requires
-expansion-of-requires c κs = usable-of (c .before .before .before .before .args .kinds .now) (c .before .before .before .before .args .words .now) (c .before .before .before .before .args .count) (c .before .before .before .before .args .s) (c .before .refusal-of .ensures) (c .if1 .left) (long (c .before .before .before .before))
+expansion-of-requires c κs =
+    let start = c .before .before .before .before in
+    usable-of (start .args .kinds .now) (start .args .words .now) (start .args .count) (start .args .s) (c .before .refusal-of .ensures)
+    (c .if1 .left) (long start)
 
 series-of-requires : tie.Need-series-of-requires
 series-of-requires c κs = search needs
 
 returns-2 : tie.Need-returns-2
-returns-2 c = expansion-of (c .before .before .before .before .before .before .args .kinds .now) (c .before .before .before .before .before .before .args .words .now) (c .before .before .before .before .before .before .args .count) (c .before .before .before .before .before .before .args .s) (c .before .before .before .refusal-of .ensures) (c .before .before .if1 .left) (c .series-of .ensures) (c .before .expansion-of .ensures)
+returns-2 c =
+    let start = c .before .before .before .before .before .before in
+    expansion-of (start .args .kinds .now) (start .args .words .now) (start .args .count) (start .args .s)
+    (c .before .before .before .refusal-of .ensures) (c .before .before .if1 .left) (c .series-of .ensures) (c .before .expansion-of .ensures)
 
 pub from-coefficients-spec : {M : Type 1} → statement M
 from-coefficients-spec =

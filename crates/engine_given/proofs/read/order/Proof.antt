@@ -15,10 +15,15 @@ refusal-of-requires : tie.Need-refusal-of-requires
 refusal-of-requires c κs = search needs
 
 returns : tie.Need-returns
-returns c = is-refused (c .before .before .before .before .args .kinds .now) (c .before .before .before .before .args .words .now) (c .before .before .before .before .args .count) (c .before .before .before .before .args .s) (c .before .refusal-of .ensures) (c .if1 .taken)
+returns c =
+    let start = c .before .before .before .before in
+    is-refused (start .args .kinds .now) (start .args .words .now) (start .args .count) (start .args .s) (c .before .refusal-of .ensures) (c .if1 .taken)
 
 returns-2 : tie.Need-returns-2
-returns-2 c = is-counted (c .before .before .before .before .args .kinds .now) (c .before .before .before .before .args .words .now) (c .before .before .before .before .args .count) (c .before .before .before .before .args .s) (c .before .refusal-of .ensures) (c .if1 .left) (long (c .before .before .before .before))
+returns-2 c =
+    let start = c .before .before .before .before in
+    is-counted (start .args .kinds .now) (start .args .words .now) (start .args .count) (start .args .s) (c .before .refusal-of .ensures)
+    (c .if1 .left) (long start)
 
 pub order-spec : {M : Type 1} → statement M
 order-spec = tie.close (tie.spec refusal-of-requires returns returns-2)

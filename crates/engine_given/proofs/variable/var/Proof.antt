@@ -29,9 +29,11 @@ same-length-2 c = search needs
 
 returns : tie.Need-returns
 returns c =
-    let start = c .before .before .before .before .before .before .before .before .before .before in
+    let at-take-in = c .before .before in
+    let start = at-take-in .before .before .before .before .before .before .before .before in
     let a = start .args in
-    rw (c .refused .ensures) (broken (c .before .before .take-in .ensures) accepted refusedOutcome limit (varCall (a .x) (a .order)) (not-true _ (c .before .if1 .taken)))
+    rw (c .refused .ensures)
+    (broken (at-take-in .take-in .ensures) accepted refusedOutcome limit (varCall (a .x) (a .order)) (not-true _ (c .before .if1 .taken)))
 
 one-given-requires : tie.Need-one-given-requires
 one-given-requires c κs = search needs
@@ -51,7 +53,8 @@ returns-2 c =
     let start = in-pool .before .before .before .before .before .before .before .before .before in
     let a = start .args in
     rw (c .refused2 .ensures)
-    (demanded (in-pool .before .take-in .ensures) (not-false _ (in-pool .if1 .left)) accepted refusedOutcome limit (varCall (a .x) (a .order)) (rw (test-fails (c .before .before .one-given .ensures) (c .before .if2 .taken))))
+    (demanded (in-pool .before .take-in .ensures) (not-false _ (in-pool .if1 .left)) accepted refusedOutcome limit (varCall (a .x) (a .order))
+    (rw (test-fails (c .before .before .one-given .ensures) (c .before .if2 .taken))))
 
 refused-requires-3 : tie.Need-refused-requires-3
 refused-requires-3 c κs = search needs
@@ -70,7 +73,8 @@ returns-3 c =
     let a = start .args in
     let below = test-holds (given .before .one-given .ensures) (given .if2 .left) in
     rw (c .refused3 .ensures)
-    (demanded (in-pool .before .take-in .ensures) (not-false _ (in-pool .if1 .left)) accepted refusedOutcome limit (varCall (a .x) (a .order)) (rw (below, le-ltb (a .order) terms (c .before .if3 .taken))))
+    (demanded (in-pool .before .take-in .ensures) (not-false _ (in-pool .if1 .left)) accepted refusedOutcome limit (varCall (a .x) (a .order))
+    (rw (below, le-ltb (a .order) terms (c .before .if3 .taken))))
 
 cast-room-between : tie.Need-cast-room-between
 cast-room-between c =
@@ -106,7 +110,8 @@ finish-requires c κs =
     let pool-taken = not-false _ (in-pool .if1 .left) in
     let a = start .args in
     let result = work .var-in .ensures in
-    let asked = may-finish taken pool-taken limit (var-grows (a .x) (a .order)) (on-lent taken pool-taken (var (a .x) (a .order)) (room .room-between .ensures) (result .is)) in
+    let asked = may-finish taken pool-taken limit (var-grows (a .x) (a .order))
+    (on-lent taken pool-taken (var (a .x) (a .order)) (room .room-between .ensures) (result .is)) in
     (asked .0, (asked .1, result .tidy))
 
 same-length-7 : tie.Need-same-length-7
@@ -129,7 +134,8 @@ returns-4 c =
     let a = start .args in
     let below = test-holds (given .before .one-given .ensures) (given .if2 .left) in
     let is = on-lent taken pool-taken (var (a .x) (a .order)) (room .room-between .ensures) (work .var-in .ensures .is) in
-    worked taken pool-taken accepted refusedOutcome limit (varCall (a .x) (a .order)) (done .finish .ensures) (is ∙ met wrongOrder (lt-ltb (a .order) terms (ordered .if3 .left)) ∙ met unknownNode below)
+    worked taken pool-taken accepted refusedOutcome limit (varCall (a .x) (a .order)) (done .finish .ensures)
+    (is ∙ met wrongOrder (lt-ltb (a .order) terms (ordered .if3 .left)) ∙ met unknownNode below)
 
 pub var-spec : {M : Type 1} → statement M
 var-spec =

@@ -11,13 +11,19 @@ has-length-requires : tie.Need-has-length-requires
 has-length-requires c κs = search needs
 
 returns : tie.Need-returns
-returns c = left-fails (c .before .before .args .s) (c .before .before .args .t) (c .before .before .args .op) (sym (c .before .has-length .ensures) ∙ not-true _ (c .if1 .taken))
+returns c =
+    let start = c .before .before in
+    left-fails (start .args .s) (start .args .t) (start .args .op) (sym (c .before .has-length .ensures) ∙ not-true _ (c .if1 .taken))
 
 has-length-requires-2 : tie.Need-has-length-requires-2
 has-length-requires-2 c κs = search needs
 
 returns-2 : tie.Need-returns-2
-returns-2 c = right-fails (c .before .before .before .before .args .s) (c .before .before .before .before .args .t) (c .before .before .before .before .args .op) (sym (c .before .before .before .has-length .ensures) ∙ not-false _ (c .before .before .if1 .left)) (sym (c .before .has-length2 .ensures) ∙ not-true _ (c .if2 .taken))
+returns-2 c =
+    let start = c .before .before .before .before in
+    right-fails (start .args .s) (start .args .t) (start .args .op)
+    (sym (c .before .before .before .has-length .ensures) ∙ not-false _ (c .before .before .if1 .left))
+    (sym (c .before .has-length2 .ensures) ∙ not-true _ (c .if2 .taken))
 
 enum-told : tie.Need-enum-told
 enum-told c = search needs
@@ -41,22 +47,58 @@ as-long-requires : tie.Need-as-long-requires
 as-long-requires c κs = search needs
 
 returns-3 : tie.Need-returns-3
-returns-3 c = rw (c .enum-told .given .1, sym (c .before .before .before .before .before .has-length .ensures) ∙ not-false _ (c .before .before .before .before .if1 .left), sym (c .before .before .before .has-length2 .ensures) ∙ not-false _ (c .before .before .if2 .left)) refl
+returns-3 c =
+    let at-if1 = c .before .before .before .before in
+    rw (
+      c .enum-told .given .1,
+      sym (at-if1 .before .has-length .ensures) ∙ not-false _ (at-if1 .if1 .left),
+      sym (c .before .before .before .has-length2 .ensures) ∙ not-false _ (c .before .before .if2 .left),
+    ) refl
 
 returns-4 : tie.Need-returns-4
-returns-4 c = rw (c .enum-told2 .given .1, sym (c .before .before .before .before .before .has-length .ensures) ∙ not-false _ (c .before .before .before .before .if1 .left), sym (c .before .before .before .has-length2 .ensures) ∙ not-false _ (c .before .before .if2 .left)) refl
+returns-4 c =
+    let at-if1 = c .before .before .before .before in
+    rw (
+      c .enum-told2 .given .1,
+      sym (at-if1 .before .has-length .ensures) ∙ not-false _ (at-if1 .if1 .left),
+      sym (c .before .before .before .has-length2 .ensures) ∙ not-false _ (c .before .before .if2 .left),
+    ) refl
 
 returns-5 : tie.Need-returns-5
-returns-5 c = rw (c .enum-told3 .given .1, sym (c .before .before .before .before .before .has-length .ensures) ∙ not-false _ (c .before .before .before .before .if1 .left), sym (c .before .before .before .has-length2 .ensures) ∙ not-false _ (c .before .before .if2 .left)) refl
+returns-5 c =
+    let at-if1 = c .before .before .before .before in
+    rw (
+      c .enum-told3 .given .1,
+      sym (at-if1 .before .has-length .ensures) ∙ not-false _ (at-if1 .if1 .left),
+      sym (c .before .before .before .has-length2 .ensures) ∙ not-false _ (c .before .before .if2 .left),
+    ) refl
 
 returns-6 : tie.Need-returns-6
-returns-6 c = rw (c .enum-told4 .given .1, sym (c .before .before .before .before .before .has-length .ensures) ∙ not-false _ (c .before .before .before .before .if1 .left), sym (c .before .before .before .has-length2 .ensures) ∙ not-false _ (c .before .before .if2 .left)) refl
+returns-6 c =
+    let at-if1 = c .before .before .before .before in
+    rw (
+      c .enum-told4 .given .1,
+      sym (at-if1 .before .has-length .ensures) ∙ not-false _ (at-if1 .if1 .left),
+      sym (c .before .before .before .has-length2 .ensures) ∙ not-false _ (c .before .before .if2 .left),
+    ) refl
 
 returns-7 : tie.Need-returns-7
-returns-7 c = rw (c .enum-told5 .given .1, sym (c .before .before .before .before .before .has-length .ensures) ∙ not-false _ (c .before .before .before .before .if1 .left), sym (c .before .before .before .has-length2 .ensures) ∙ not-false _ (c .before .before .if2 .left)) refl
+returns-7 c =
+    let at-if1 = c .before .before .before .before in
+    rw (
+      c .enum-told5 .given .1,
+      sym (at-if1 .before .has-length .ensures) ∙ not-false _ (at-if1 .if1 .left),
+      sym (c .before .before .before .has-length2 .ensures) ∙ not-false _ (c .before .before .if2 .left),
+    ) refl
 
 returns-8 : tie.Need-returns-8
-returns-8 c = rw (c .before .enum-told6 .given .1, sym (c .before .before .before .before .before .before .has-length .ensures) ∙ not-false _ (c .before .before .before .before .before .if1 .left), sym (c .before .before .before .before .has-length2 .ensures) ∙ not-false _ (c .before .before .before .if2 .left)) (c .as-long .ensures)
+returns-8 c =
+    let at-has-length2 = c .before .before .before .before in
+    rw (
+      c .before .enum-told6 .given .1,
+      sym (at-has-length2 .before .before .has-length .ensures) ∙ not-false _ (at-has-length2 .before .if1 .left),
+      sym (at-has-length2 .has-length2 .ensures) ∙ not-false _ (c .before .before .before .if2 .left),
+    ) (c .as-long .ensures)
 
 pub have-lengths-spec : {M : Type 1} → statement M
 have-lengths-spec =

@@ -40,9 +40,11 @@ same-length-2 c = search needs
 
 returns : tie.Need-returns
 returns c =
-    let start = c .before .before .before .before .before .before .before .before .before .before in
+    let at-take-in = c .before .before in
+    let start = at-take-in .before .before .before .before .before .before .before .before in
     let a = start .args in
-    rw (c .refused .ensures) (broken (c .before .before .take-in .ensures) accepted refusedOutcome limit (onExpansions (a .op) (a .s) (a .t)) (not-true _ (c .before .if1 .taken)))
+    rw (c .refused .ensures)
+    (broken (at-take-in .take-in .ensures) accepted refusedOutcome limit (onExpansions (a .op) (a .s) (a .t)) (not-true _ (c .before .if1 .taken)))
 
 both-below-requires : tie.Need-both-below-requires
 both-below-requires c κs = search needs
@@ -62,7 +64,8 @@ returns-2 c =
     let start = in-pool .before .before .before .before .before .before .before .before .before in
     let a = start .args in
     rw (c .refused2 .ensures)
-    (demanded (in-pool .before .take-in .ensures) (not-false _ (in-pool .if1 .left)) accepted refusedOutcome limit (onExpansions (a .op) (a .s) (a .t)) (rw (test-fails (c .before .before .both-below .ensures) (c .before .if2 .taken))))
+    (demanded (in-pool .before .take-in .ensures) (not-false _ (in-pool .if1 .left)) accepted refusedOutcome limit
+    (onExpansions (a .op) (a .s) (a .t)) (rw (test-fails (c .before .before .both-below .ensures) (c .before .if2 .taken))))
 
 have-lengths-requires : tie.Need-have-lengths-requires
 have-lengths-requires c κs = search needs
@@ -84,7 +87,8 @@ returns-3 c =
     let a = start .args in
     let below = test-holds (nodes .before .both-below .ensures) (nodes .if2 .left) in
     rw (c .refused3 .ensures)
-    (demanded (in-pool .before .take-in .ensures) (not-false _ (in-pool .if1 .left)) accepted refusedOutcome limit (onExpansions (a .op) (a .s) (a .t)) (rw (below, test-fails (c .before .before .have-lengths .ensures) (c .before .if3 .taken))))
+    (demanded (in-pool .before .take-in .ensures) (not-false _ (in-pool .if1 .left)) accepted refusedOutcome limit
+    (onExpansions (a .op) (a .s) (a .t)) (rw (below, test-fails (c .before .before .have-lengths .ensures) (c .before .if3 .taken))))
 
 cast-room-between : tie.Need-cast-room-between
 cast-room-between c =
@@ -138,7 +142,8 @@ finish-requires c κs =
     let s = given (start .args .s) in
     let t = given (start .args .t) in
     let result = work .binary-in .ensures in
-    let is = on-lent taken pool-taken (binaryWork op s t) (room .room-between .ensures) (rw (left .expansion-of .ensures .is, right .expansion-of2 .ensures .is) at (result .is)) in
+    let is = on-lent taken pool-taken (binaryWork op s t) (room .room-between .ensures)
+    (rw (left .expansion-of .ensures .is, right .expansion-of2 .ensures .is) at (result .is)) in
     let asked = may-finish taken pool-taken limit (binary-grows op s t) is in
     (asked .0, (asked .1, result .tidy))
 
@@ -166,8 +171,10 @@ returns-4 c =
     let op = start .args .op in
     let s = start .args .s in
     let t = start .args .t in
-    let is = on-lent taken pool-taken (binaryWork op (given s) (given t)) (room .room-between .ensures) (rw (left .expansion-of .ensures .is, right .expansion-of2 .ensures .is) at (work .binary-in .ensures .is)) in
-    worked taken pool-taken accepted refusedOutcome limit (onExpansions op s t) (done .finish .ensures) (is ∙ met wrongOrder lengths ∙ met unknownNode below)
+    let is = on-lent taken pool-taken (binaryWork op (given s) (given t)) (room .room-between .ensures)
+    (rw (left .expansion-of .ensures .is, right .expansion-of2 .ensures .is) at (work .binary-in .ensures .is)) in
+    worked taken pool-taken accepted refusedOutcome limit (onExpansions op s t) (done .finish .ensures)
+    (is ∙ met wrongOrder lengths ∙ met unknownNode below)
 
 pub on-two-spec : {M : Type 1} → statement M
 on-two-spec =

@@ -18,8 +18,12 @@ made-of-requires c κs = search needs
 finish-requires : tie.Need-finish-requires
 finish-requires c κs =
     let start = c .before .before .before .before .before .before in
-    let a = start .args in
-    (start .pre .0, rw (c .before .before .before .made-of .ensures) (appended-made (a .kinds .now) (a .words .now) (a .count .now) (a .k .now) (a .w .now) (expansionOf (a .result .expansion)) (a .result .status) (start .pre .1 .0)))
+    let a = start .args in (
+      start .pre .0,
+      rw (c .before .before .before .made-of .ensures)
+          (appended-made (a .kinds .now) (a .words .now) (a .count .now) (a .k .now) (a .w .now) (expansionOf (a .result .expansion))
+          (a .result .status) (start .pre .1 .0)),
+    )
 
 enum-told : tie.Need-enum-told
 enum-told c = search needs
@@ -46,8 +50,11 @@ returns c =
     let a = status .before .before .before .args in
     let m : status .made-of .result ≡ statusMade (a .result .status) = status .made-of .ensures in
     rw (c .series-of .ensures)
-    (accepted-returned (a .kinds .now) (a .words .now) (a .count .now) (a .k .now) (a .w .now) (expansionOf (a .result .expansion)) (a .result .status)
-    (done .finish .ensures ∙ ap (λ (r : made-node.Made). leaves Node Refused (a .kinds .now) (a .words .now) (a .count .now) (made r (a .k .now) (a .w .now))) m) (c .before .enum-told .given .1))
+    (accepted-returned (a .kinds .now) (a .words .now) (a .count .now) (a .k .now) (a .w .now) (expansionOf (a .result .expansion))
+    (a .result .status)
+    (done .finish .ensures ∙ ap
+    (λ (r : made-node.Made). leaves Node Refused (a .kinds .now) (a .words .now) (a .count .now) (made r (a .k .now) (a .w .now))) m)
+    (c .before .enum-told .given .1))
 
 same-length-3 : tie.Need-same-length-3
 same-length-3 c = search needs
@@ -62,8 +69,11 @@ returns-2 c =
     let a = status .before .before .before .args in
     let m : status .made-of .result ≡ statusMade (a .result .status) = status .made-of .ensures in
     rw (c .refused .ensures)
-    (refused-returned (a .kinds .now) (a .words .now) (a .count .now) (a .k .now) (a .w .now) (expansionOf (a .result .expansion)) (a .result .status)
-    (done .finish .ensures ∙ ap (λ (r : made-node.Made). leaves Node Refused (a .kinds .now) (a .words .now) (a .count .now) (made r (a .k .now) (a .w .now))) m) (c .before .before .answer .given .1))
+    (refused-returned (a .kinds .now) (a .words .now) (a .count .now) (a .k .now) (a .w .now) (expansionOf (a .result .expansion))
+    (a .result .status)
+    (done .finish .ensures ∙ ap
+    (λ (r : made-node.Made). leaves Node Refused (a .kinds .now) (a .words .now) (a .count .now) (made r (a .k .now) (a .w .now))) m)
+    (c .before .before .answer .given .1))
 
 pub finish-spec : {M : Type 1} → statement M
 finish-spec =

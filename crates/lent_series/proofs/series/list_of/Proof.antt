@@ -45,7 +45,9 @@ cast-t16 : tie.Need-cast-t16 Inv-loop μ-loop
 cast-t16 c = omega (arith, c .before .before .pre .0 .1)
 
 returns : tie.Need-returns Inv-loop μ-loop
-returns c = all-copied (listed (c .before .before .args .t1)) (c .before .before .pre .0 .0) (c .before .before .pre .0 .1) (c .loop-test .left) (c .before .loop .inv)
+returns c =
+    let start = c .before .before in
+    all-copied (listed (start .args .t1)) (start .pre .0 .0) (start .pre .0 .1) (c .loop-test .left) (c .before .loop .inv)
 
 pub list-of-spec : {M : Type 1} → statement M
 list-of-spec =

@@ -41,26 +41,36 @@ element-copy-out-if1 c =
 
 returns : tie.Need-returns Inv-loop μ-loop
 returns c =
-    let s = c .before .before .before .before .before .args .t2 in
-    let all : c .before .before .before .before .entries-of .result ≡ entries s = c .before .before .before .before .entries-of .ensures in
-    one-is-not (c .before .before .before .before .before .args .count) (entries s) (s .coeffs) (c .before .before .before .loop .i) (omega (arith, entries-most s, long (c .before .before .before .before .before))) (omega (arith, c .before .before .loop-test .taken, all)) (c .if1 .taken)
+    let at-entries-of = c .before .before .before .before in
+    let start = at-entries-of .before in
+    let s = start .args .t2 in
+    let all : at-entries-of .entries-of .result ≡ entries s = at-entries-of .entries-of .ensures in
+    one-is-not (start .args .count) (entries s) (s .coeffs) (c .before .before .before .loop .i) (omega (arith, entries-most s, long start))
+    (omega (arith, c .before .before .loop-test .taken, all)) (c .if1 .taken)
 
 add-i : tie.Need-add-i Inv-loop μ-loop
 add-i c =
+    let start = c .before .before .before .before .before in
     let all = c .before .before .before .before .entries-of .ensures in
-    omega (arith, c .before .before .loop-test .taken, all, entries-most (c .before .before .before .before .before .args .t2))
+    omega (arith, c .before .before .loop-test .taken, all, entries-most (start .args .t2))
 
 loop-less : tie.Need-loop-less Inv-loop μ-loop
 loop-less c = omega (arith, c .before .before .loop-test .taken)
 
 loop-again : tie.Need-loop-again Inv-loop μ-loop
-loop-again c = one-more-below (c .before .before .before .before .before .args .count) (c .before .before .before .before .before .args .t2 .coeffs) (c .before .before .before .loop .i) (c .before .before .before .loop .inv) (c .if1 .left)
+loop-again c =
+    let at-loop = c .before .before .before in
+    let start = at-loop .before .before in
+    one-more-below (start .args .count) (start .args .t2 .coeffs) (at-loop .loop .i) (at-loop .loop .inv) (c .if1 .left)
 
 returns-2 : tie.Need-returns-2 Inv-loop μ-loop
 returns-2 c =
-    let s = c .before .before .before .args .t2 in
-    let all : c .before .before .entries-of .result ≡ entries s = c .before .before .entries-of .ensures in
-    all-are-below (c .before .before .before .args .count) (entries s) (s .coeffs) (omega (arith, entries-most s, long (c .before .before .before))) (λ j h. c .before .loop .inv j (omega (arith, c .loop-test .left, all, h)))
+    let at-entries-of = c .before .before in
+    let start = at-entries-of .before in
+    let s = start .args .t2 in
+    let all : at-entries-of .entries-of .result ≡ entries s = at-entries-of .entries-of .ensures in
+    all-are-below (start .args .count) (entries s) (s .coeffs) (omega (arith, entries-most s, long start))
+    (λ j h. c .before .loop .inv j (omega (arith, c .loop-test .left, all, h)))
 
 pub nodes-below-spec : {M : Type 1} → statement M
 nodes-below-spec =

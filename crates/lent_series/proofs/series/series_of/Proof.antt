@@ -50,7 +50,10 @@ loop-again c =
     one-more-copied (c .before .before .before .before .pre .long) all (c .before .loop-test .taken) (c .before .before .loop .inv)
 
 returns : tie.Need-returns Inv-loop μ-loop
-returns c = series-is (c .before .before .before .args .t1) (c .before .before .before .pre) (c .before .before .order-of .ensures) (whole-copied (c .before .before .before .pre .long) (c .loop-test .left) (c .before .loop .inv))
+returns c =
+    let start = c .before .before .before in
+    series-is (start .args .t1) (start .pre) (c .before .before .order-of .ensures)
+    (whole-copied (start .pre .long) (c .loop-test .left) (c .before .loop .inv))
 
 pub series-of-spec : {M : Type 1} → statement M
 series-of-spec =

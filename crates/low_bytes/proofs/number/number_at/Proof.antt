@@ -28,12 +28,22 @@ cast-number : tie.Need-cast-number Inv-loop μ-loop
 cast-number c = omega (arith, c .shared-slice-known .given (c .before .before .before .args .at + (c .before .before .loop .left - 1)))
 
 mul-number : tie.Need-mul-number Inv-loop μ-loop
-mul-number c = omega (arith, room-for-a-byte (c .before .before .loop .inv) (λ i. c .shared-slice-known .given i .fits) (c .before .before .before .pre .0) (c .before .loop-test .taken))
+mul-number c =
+    omega (
+      arith,
+      room-for-a-byte (c .before .before .loop .inv) (λ i. c .shared-slice-known .given i .fits) (c .before .before .before .pre .0)
+          (c .before .loop-test .taken),
+    )
 
 add-number : tie.Need-add-number Inv-loop μ-loop
 add-number c =
-    let start = c .before .before .before in
-    omega (arith, room-for-a-byte (c .before .before .loop .inv) (λ i. c .shared-slice-known .given i .fits) (start .pre .0) (c .before .loop-test .taken), c .shared-slice-known .given (start .args .at + (c .before .before .loop .left - 1)))
+    let at-loop = c .before .before in
+    let start = at-loop .before in
+    omega (
+      arith,
+      room-for-a-byte (at-loop .loop .inv) (λ i. c .shared-slice-known .given i .fits) (start .pre .0) (c .before .loop-test .taken),
+      c .shared-slice-known .given (start .args .at + (at-loop .loop .left - 1)),
+    )
 
 loop-less : tie.Need-loop-less Inv-loop μ-loop
 loop-less c = omega (arith, c .before .loop-test .taken)

@@ -25,7 +25,10 @@ put-requires : tie.Need-put-requires Inv-loop μ-loop
 put-requires c κs = stays-countable (c .before .before .before .loop .inv .1 .1)
 
 add-i : tie.Need-add-i Inv-loop μ-loop
-add-i c = omega (arith, c .before .before .before .before .before .loop-test .taken, c .before .before .before .before .before .before .before .before .before .good)
+add-i c =
+    let at-loop-test = c .before .before .before .before .before in
+    let at-good = at-loop-test .before .before .before .before in
+    omega (arith, at-loop-test .loop-test .taken, at-good .good)
 
 loop-less : tie.Need-loop-less Inv-loop μ-loop
 loop-less c = omega (arith, c .before .before .before .before .before .loop-test .taken)

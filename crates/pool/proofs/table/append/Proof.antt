@@ -40,7 +40,14 @@ unfolding append
 returns c =
     let w = c .before .before .before .before .args .room .word in
     let fits = c .before .before .if2 .taken in
-    rw (lt-ltb (lowOf w) (highOf w) (c .before .before .before .if1 .taken), lt-ltb (lowOf w) limit fits, next-after w fits, end-after w fits, c .before .kind-of .ensures, c .word-of .ensures)
+    rw (
+      lt-ltb (lowOf w) (highOf w) (c .before .before .before .if1 .taken),
+      lt-ltb (lowOf w) limit fits,
+      next-after w fits,
+      end-after w fits,
+      c .before .kind-of .ensures,
+      c .word-of .ensures,
+    )
 
 returns-2 : tie.Need-returns-2
 unfolding append

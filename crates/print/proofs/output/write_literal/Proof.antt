@@ -19,7 +19,10 @@ same-length : tie.Need-same-length
 same-length c = search needs
 
 returns : tie.Need-returns
-returns c = written-as _ _ (c .before .before .before .signed-text .ensures .text ∙ ap signedDecimal (toZ-ofZ w64 (c .before .before .before .before .before .before .args .z) (c .before .before .before .before .before .before .fits .z))) (c .before .before .write-text .ensures)
+returns c =
+    let start = c .before .before .before .before .before .before in
+    written-as _ _ (c .before .before .before .signed-text .ensures .text ∙ ap signedDecimal (toZ-ofZ w64 (start .args .z) (start .fits .z)))
+    (c .before .before .write-text .ensures)
 
 pub write-literal-spec : {M : Type 1} → statement M
 write-literal-spec =

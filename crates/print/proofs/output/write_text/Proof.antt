@@ -21,7 +21,9 @@ same-length : tie.Need-same-length
 same-length c = search needs
 
 returns : tie.Need-returns
-returns c = rest-of-text (c .before .before .before .before .before .before .before .before .args .text) (c .before .before .before .before .before .before .before .before .pre .1) (c .before .before .write .ensures)
+returns c =
+    let start = c .before .before .before .before .before .before .before .before in
+    rest-of-text (start .args .text) (start .pre .1) (c .before .before .write .ensures)
 
 pub write-text-spec : {M : Type 1} → statement M
 write-text-spec =

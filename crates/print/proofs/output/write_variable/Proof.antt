@@ -20,7 +20,8 @@ same-length c = search needs
 
 returns : tie.Need-returns
 returns c =
-    let named = ap (λ (b : ℕ). b ∷ []) (c .before .before .before .letter .ensures) ∙ a-letter (c .before .before .before .before .before .before .before .args .v) (c .before .before .before .before .before .if1 .taken) in
+    let at-if1 = c .before .before .before .before .before in
+    let named = ap (λ (b : ℕ). b ∷ []) (c .before .before .before .letter .ensures) ∙ a-letter (at-if1 .before .before .args .v) (at-if1 .if1 .taken) in
     written-as _ _ named (c .before .before .put .ensures)
 
 variable-text-requires : tie.Need-variable-text-requires

@@ -224,7 +224,9 @@ inside-joined-requires : (t : ℕ) → inside-lts.Need-joined-requires (
   power-below t,
   power.Post,
 ) (inside-at t) inside.Post
-inside-joined-requires t c κs = (omega (arith, c .before .before .before .before .before .before .before .pre .0), c .before .before .before .before .before .before .before .pre .1)
+inside-joined-requires t c κs =
+    let start = c .before .before .before .before .before .before .before in
+    (omega (arith, start .pre .0), start .pre .1)
 
 inside-enum-known-a-2 : (t : ℕ) → inside-lts.Need-enum-known-a-2 (
   node-at-reads.Asked,
@@ -272,7 +274,9 @@ inside-joined-requires-2 : (t : ℕ) → inside-lts.Need-joined-requires-2 (
   power-below t,
   power.Post,
 ) (inside-at t) inside.Post
-inside-joined-requires-2 t c κs = (omega (arith, c .before .before .before .before .before .before .before .pre .0), c .before .before .before .before .before .before .before .pre .1)
+inside-joined-requires-2 t c κs =
+    let start = c .before .before .before .before .before .before .before in
+    (omega (arith, start .pre .0), start .pre .1)
 
 inside-enum-known-a-3 : (t : ℕ) → inside-lts.Need-enum-known-a-3 (
   node-at-reads.Asked,
@@ -320,7 +324,9 @@ inside-joined-requires-3 : (t : ℕ) → inside-lts.Need-joined-requires-3 (
   power-below t,
   power.Post,
 ) (inside-at t) inside.Post
-inside-joined-requires-3 t c κs = (omega (arith, c .before .before .before .before .before .before .before .pre .0), c .before .before .before .before .before .before .before .pre .1)
+inside-joined-requires-3 t c κs =
+    let start = c .before .before .before .before .before .before .before in
+    (omega (arith, start .pre .0), start .pre .1)
 
 inside-enum-known-a-4 : (t : ℕ) → inside-lts.Need-enum-known-a-4 (
   node-at-reads.Asked,
@@ -368,7 +374,9 @@ inside-wrapped-requires : (t : ℕ) → inside-lts.Need-wrapped-requires (
   power-below t,
   power.Post,
 ) (inside-at t) inside.Post
-inside-wrapped-requires t c κs = (omega (arith, c .before .before .before .before .before .before .before .pre .0), c .before .before .before .before .before .before .before .pre .1)
+inside-wrapped-requires t c κs =
+    let start = c .before .before .before .before .before .before .before in
+    (omega (arith, start .pre .0), start .pre .1)
 
 inside-enum-known-a-5 : (t : ℕ) → inside-lts.Need-enum-known-a-5 (
   node-at-reads.Asked,
@@ -416,7 +424,9 @@ inside-wrapped-requires-2 : (t : ℕ) → inside-lts.Need-wrapped-requires-2 (
   power-below t,
   power.Post,
 ) (inside-at t) inside.Post
-inside-wrapped-requires-2 t c κs = (omega (arith, c .before .before .before .before .before .before .before .pre .0), c .before .before .before .before .before .before .before .pre .1)
+inside-wrapped-requires-2 t c κs =
+    let start = c .before .before .before .before .before .before .before in
+    (omega (arith, start .pre .0), start .pre .1)
 
 inside-enum-known-a-6 : (t : ℕ) → inside-lts.Need-enum-known-a-6 (
   node-at-reads.Asked,
@@ -448,7 +458,9 @@ inside-power-requires : (t : ℕ) → inside-lts.Need-power-requires (
   power-below t,
   power.Post,
 ) (inside-at t) inside.Post
-inside-power-requires t c κs = (omega (arith, c .before .before .before .before .before .before .pre .0), c .before .before .before .before .before .before .pre .1)
+inside-power-requires t c κs =
+    let start = c .before .before .before .before .before .before in
+    (omega (arith, start .pre .0), start .pre .1)
 
 inside-enum-told-2 : (t : ℕ) → inside-lts.Need-enum-told-2 (
   node-at-reads.Asked,
@@ -480,7 +492,9 @@ inside-returns : (t : ℕ) → inside-lts.Need-returns (
   power-below t,
   power.Post,
 ) (inside-at t) inside.Post
-inside-returns t c = for-node _ (sym (c .before .before .node-at .ensures) ∙ c .enum-told .given .1) (none-written _ _ (c .before .before .before .before .pre .1))
+inside-returns t c =
+    let start = c .before .before .before .before in
+    for-node _ (sym (c .before .before .node-at .ensures) ∙ c .enum-told .given .1) (none-written _ _ (start .pre .1))
 
 inside-same-length : (t : ℕ) → inside-lts.Need-same-length (
   node-at-reads.Asked,
@@ -512,7 +526,9 @@ inside-returns-2 : (t : ℕ) → inside-lts.Need-returns-2 (
   power-below t,
   power.Post,
 ) (inside-at t) inside.Post
-inside-returns-2 t c = for-node _ (sym (c .before .before .before .before .before .before .before .node-at .ensures) ∙ c .before .before .before .before .before .v .given .1) (c .before .before .write-variable .ensures)
+inside-returns-2 t c =
+    let at-v = c .before .before .before .before .before in
+    for-node _ (sym (at-v .before .before .node-at .ensures) ∙ at-v .v .given .1) (c .before .before .write-variable .ensures)
 
 inside-same-length-2 : (t : ℕ) → inside-lts.Need-same-length-2 (
   node-at-reads.Asked,
@@ -545,9 +561,11 @@ inside-returns-3 : (t : ℕ) → inside-lts.Need-returns-3 (
   power.Post,
 ) (inside-at t) inside.Post
 inside-returns-3 t c =
-    let z = c .before .before .before .before .before .z .given .0 .0 in
-    let e : toZ w64 (ofZ w64 z) ≡ z = toZ-ofZ w64 z (record { sfits = c .before .before .before .before .known-told2 .given .0 .1 }) in
-    for-node _ (sym (c .before .before .before .before .before .before .before .node-at .ensures) ∙ c .before .before .before .before .before .z .given .1) (rw e at (c .before .before .write-literal .ensures))
+    let at-known-told2 = c .before .before .before .before in
+    let z = at-known-told2 .before .z .given .0 .0 in
+    let e : toZ w64 (ofZ w64 z) ≡ z = toZ-ofZ w64 z (record { sfits = at-known-told2 .known-told2 .given .0 .1 }) in
+    for-node _ (sym (at-known-told2 .before .before .before .node-at .ensures) ∙ at-known-told2 .before .z .given .1)
+    (rw e at (c .before .before .write-literal .ensures))
 
 inside-same-length-3 : (t : ℕ) → inside-lts.Need-same-length-3 (
   node-at-reads.Asked,
@@ -579,7 +597,9 @@ inside-returns-4 : (t : ℕ) → inside-lts.Need-returns-4 (
   power-below t,
   power.Post,
 ) (inside-at t) inside.Post
-inside-returns-4 t c = for-node _ (sym (c .before .before .before .before .before .before .before .before .node-at .ensures) ∙ c .before .before .before .before .before .before .a .given .1) (c .before .before .joined .ensures)
+inside-returns-4 t c =
+    let at-a = c .before .before .before .before .before .before in
+    for-node _ (sym (at-a .before .before .node-at .ensures) ∙ at-a .a .given .1) (c .before .before .joined .ensures)
 
 inside-same-length-4 : (t : ℕ) → inside-lts.Need-same-length-4 (
   node-at-reads.Asked,
@@ -611,7 +631,9 @@ inside-returns-5 : (t : ℕ) → inside-lts.Need-returns-5 (
   power-below t,
   power.Post,
 ) (inside-at t) inside.Post
-inside-returns-5 t c = for-node _ (sym (c .before .before .before .before .before .before .before .before .node-at .ensures) ∙ c .before .before .before .before .before .before .a2 .given .1) (c .before .before .joined2 .ensures)
+inside-returns-5 t c =
+    let at-a2 = c .before .before .before .before .before .before in
+    for-node _ (sym (at-a2 .before .before .node-at .ensures) ∙ at-a2 .a2 .given .1) (c .before .before .joined2 .ensures)
 
 inside-same-length-5 : (t : ℕ) → inside-lts.Need-same-length-5 (
   node-at-reads.Asked,
@@ -643,7 +665,9 @@ inside-returns-6 : (t : ℕ) → inside-lts.Need-returns-6 (
   power-below t,
   power.Post,
 ) (inside-at t) inside.Post
-inside-returns-6 t c = for-node _ (sym (c .before .before .before .before .before .before .before .before .node-at .ensures) ∙ c .before .before .before .before .before .before .a3 .given .1) (c .before .before .joined3 .ensures)
+inside-returns-6 t c =
+    let at-a3 = c .before .before .before .before .before .before in
+    for-node _ (sym (at-a3 .before .before .node-at .ensures) ∙ at-a3 .a3 .given .1) (c .before .before .joined3 .ensures)
 
 inside-same-length-6 : (t : ℕ) → inside-lts.Need-same-length-6 (
   node-at-reads.Asked,
@@ -675,7 +699,9 @@ inside-returns-7 : (t : ℕ) → inside-lts.Need-returns-7 (
   power-below t,
   power.Post,
 ) (inside-at t) inside.Post
-inside-returns-7 t c = for-node _ (sym (c .before .before .before .before .before .before .before .before .node-at .ensures) ∙ c .before .before .before .before .before .before .a4 .given .1) (c .before .before .wrapped .ensures)
+inside-returns-7 t c =
+    let at-a4 = c .before .before .before .before .before .before in
+    for-node _ (sym (at-a4 .before .before .node-at .ensures) ∙ at-a4 .a4 .given .1) (c .before .before .wrapped .ensures)
 
 inside-same-length-7 : (t : ℕ) → inside-lts.Need-same-length-7 (
   node-at-reads.Asked,
@@ -707,7 +733,9 @@ inside-returns-8 : (t : ℕ) → inside-lts.Need-returns-8 (
   power-below t,
   power.Post,
 ) (inside-at t) inside.Post
-inside-returns-8 t c = for-node _ (sym (c .before .before .before .before .before .before .before .before .node-at .ensures) ∙ c .before .before .before .before .before .before .a5 .given .1) (c .before .before .wrapped2 .ensures)
+inside-returns-8 t c =
+    let at-a5 = c .before .before .before .before .before .before in
+    for-node _ (sym (at-a5 .before .before .node-at .ensures) ∙ at-a5 .a5 .given .1) (c .before .before .wrapped2 .ensures)
 
 inside-same-length-8 : (t : ℕ) → inside-lts.Need-same-length-8 (
   node-at-reads.Asked,
@@ -739,7 +767,9 @@ inside-returns-9 : (t : ℕ) → inside-lts.Need-returns-9 (
   power-below t,
   power.Post,
 ) (inside-at t) inside.Post
-inside-returns-9 t c = for-node _ (sym (c .before .before .before .before .before .before .before .node-at .ensures) ∙ c .before .before .before .before .before .a6 .given .1) (c .before .before .power .ensures)
+inside-returns-9 t c =
+    let at-a6 = c .before .before .before .before .before in
+    for-node _ (sym (at-a6 .before .before .node-at .ensures) ∙ at-a6 .a6 .given .1) (c .before .before .power .ensures)
 
 inside-returns-10 : (t : ℕ) → inside-lts.Need-returns-10 (
   node-at-reads.Asked,
@@ -755,7 +785,9 @@ inside-returns-10 : (t : ℕ) → inside-lts.Need-returns-10 (
   power-below t,
   power.Post,
 ) (inside-at t) inside.Post
-inside-returns-10 t c = for-node _ (sym (c .before .before .node-at .ensures) ∙ c .enum-told2 .given .1) (none-written _ _ (c .before .before .before .before .pre .1))
+inside-returns-10 t c =
+    let start = c .before .before .before .before in
+    for-node _ (sym (c .before .before .node-at .ensures) ∙ c .enum-told2 .given .1) (none-written _ _ (start .pre .1))
 
 joined-node-fmt-requires : (t : ℕ) → joined-lts.Need-node-fmt-requires (
   node-fmt-below t,
@@ -779,7 +811,10 @@ joined-node-fmt-requires-2 : (t : ℕ) → joined-lts.Need-node-fmt-requires-2 (
   write-reads.Asked,
   write-reads.Learnt,
 ) (joined-at t) joined.Post
-joined-node-fmt-requires-2 t c κs = (omega (arith, c .before .before .before .before .before .before .before .before .before .before .before .pre .0), stays-countable (c .before .before .before .write .ensures))
+joined-node-fmt-requires-2 t c κs =
+    let at-write = c .before .before .before in
+    let start = at-write .before .before .before .before .before .before .before .before in
+    (omega (arith, start .pre .0), stays-countable (at-write .write .ensures))
 
 joined-same-length : (t : ℕ) → joined-lts.Need-same-length (
   node-fmt-below t,
@@ -800,8 +835,10 @@ joined-returns : (t : ℕ) → joined-lts.Need-returns (
   write-reads.Learnt,
 ) (joined-at t) joined.Post
 joined-returns t c =
-    three-written (c .before .before .before .before .before .before .before .before .before .before .node-fmt .ensures)
-    (c .before .before .before .before .before .before .write .ensures)
+    let at-write = c .before .before .before .before .before .before in
+    let at-node-fmt = at-write .before .before .before .before in
+    three-written (at-node-fmt .node-fmt .ensures)
+    (at-write .write .ensures)
     (c .before .before .node-fmt2 .ensures)
 
 node-fmt-cast-i : (t : ℕ) → node-fmt-lts.Need-cast-i (
@@ -874,7 +911,9 @@ node-fmt-put-requires : (t : ℕ) → node-fmt-lts.Need-put-requires (
   inside-below t,
   inside.Post,
 ) (node-fmt-at t) node-fmt.Post
-node-fmt-put-requires t c κs = c .before .before .before .before .before .before .before .before .before .pre .1
+node-fmt-put-requires t c κs =
+    let start = c .before .before .before .before .before .before .before .before .before in
+    start .pre .1
 
 node-fmt-inside-requires : (t : ℕ) → node-fmt-lts.Need-inside-requires (
   node-at-reads.Asked,
@@ -886,7 +925,10 @@ node-fmt-inside-requires : (t : ℕ) → node-fmt-lts.Need-inside-requires (
   inside-below t,
   inside.Post,
 ) (node-fmt-at t) node-fmt.Post
-node-fmt-inside-requires t c κs = (omega (arith, c .before .before .before .before .before .before .before .before .before .before .before .before .before .pre .0, c .before .before .before .before .before .before .before .before .before .before .if1 .left), stays-countable (c .before .before .before .put .ensures))
+node-fmt-inside-requires t c κs =
+    let at-put = c .before .before .before in
+    let at-if1 = at-put .before .before .before .before .before .before .before in
+    (omega (arith, at-if1 .before .before .before .pre .0, at-if1 .if1 .left), stays-countable (at-put .put .ensures))
 
 node-fmt-put-requires-2 : (t : ℕ) → node-fmt-lts.Need-put-requires-2 (
   node-at-reads.Asked,
@@ -947,7 +989,10 @@ node-fmt-inside-requires-2 : (t : ℕ) → node-fmt-lts.Need-inside-requires-2 (
   inside-below t,
   inside.Post,
 ) (node-fmt-at t) node-fmt.Post
-node-fmt-inside-requires-2 t c κs = (omega (arith, c .before .before .before .before .before .before .before .before .before .pre .0, c .before .before .before .before .before .before .if1 .left), c .before .before .before .before .before .before .before .before .before .pre .1)
+node-fmt-inside-requires-2 t c κs =
+    let at-if1 = c .before .before .before .before .before .before in
+    let start = at-if1 .before .before .before in
+    (omega (arith, start .pre .0, at-if1 .if1 .left), start .pre .1)
 
 node-fmt-same-length-2 : (t : ℕ) → node-fmt-lts.Need-same-length-2 (
   node-at-reads.Asked,
@@ -1032,8 +1077,10 @@ power-returns : (t : ℕ) → power-lts.Need-returns (
   write-exponent-reads.Learnt,
 ) (power-at t) power.Post
 power-returns t c =
-    three-written (c .before .before .before .before .before .before .before .before .before .before .node-fmt .ensures)
-    (c .before .before .before .before .before .before .put .ensures)
+    let at-put = c .before .before .before .before .before .before in
+    let at-node-fmt = at-put .before .before .before .before in
+    three-written (at-node-fmt .node-fmt .ensures)
+    (at-put .put .ensures)
     (c .before .before .write-exponent .ensures)
 
 wrapped-write-requires : (t : ℕ) → wrapped-lts.Need-write-requires (
@@ -1054,7 +1101,9 @@ wrapped-node-fmt-requires : (t : ℕ) → wrapped-lts.Need-node-fmt-requires (
   put-reads.Asked,
   put-reads.Learnt,
 ) (wrapped-at t) wrapped.Post
-wrapped-node-fmt-requires t c κs = (omega (arith, c .before .before .before .before .before .before .before .pre .0), stays-countable (c .before .before .before .write .ensures))
+wrapped-node-fmt-requires t c κs =
+    let start = c .before .before .before .before .before .before .before in
+    (omega (arith, start .pre .0), stays-countable (c .before .before .before .write .ensures))
 
 wrapped-put-requires : (t : ℕ) → wrapped-lts.Need-put-requires (
   write-reads.Asked,
@@ -1089,8 +1138,10 @@ wrapped-returns : (t : ℕ) → wrapped-lts.Need-returns (
   put-reads.Learnt,
 ) (wrapped-at t) wrapped.Post
 wrapped-returns t c =
-    three-written (c .before .before .before .before .before .before .before .before .before .before .write .ensures)
-    (c .before .before .before .before .before .before .node-fmt .ensures)
+    let at-node-fmt = c .before .before .before .before .before .before in
+    let at-write = at-node-fmt .before .before .before .before in
+    three-written (at-write .write .ensures)
+    (at-node-fmt .node-fmt .ensures)
     (c .before .before .put .ensures)
 
 pub +inside+joined+node-fmt+power+wrapped-spec : {M : Type 1} → statement M

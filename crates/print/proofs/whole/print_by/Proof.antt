@@ -41,7 +41,10 @@ same-length-4 : tie.Need-same-length-4
 same-length-4 c = search needs
 
 returns-3 : tie.Need-returns-3
-returns-3 c = put-again (c .before .before .before .before .before .before .before .before .before .text-in .ensures) _ (c .before .before .before .before .before .before .if1 .left) (c .before .before .before .before .before .if2 .left) (c .before .before .text-in2 .ensures)
+returns-3 c =
+    let at-if2 = c .before .before .before .before .before in
+    let at-text-in = at-if2 .before .before .before .before in
+    put-again (at-text-in .text-in .ensures) _ (at-if2 .before .if1 .left) (at-if2 .if2 .left) (c .before .before .text-in2 .ensures)
 
 slice-reshare-prefix-copy : tie.Need-slice-reshare-prefix-copy
 slice-reshare-prefix-copy c = search needs
@@ -50,7 +53,10 @@ slice-aggregate-copy : tie.Need-slice-aggregate-copy
 slice-aggregate-copy c = sym (length-take-le _ _ (c .before .if3 .left))
 
 copy-requires : tie.Need-copy-requires
-copy-requires c κs = part-fits _ _ (c .before .before .before .before .before .before .before .before .before .before .before .args .out .now) (c .before .before .before .if2 .left)
+copy-requires c κs =
+    let at-if2 = c .before .before .before in
+    let start = at-if2 .before .before .before .before .before .before .before .before in
+    part-fits _ _ (start .args .out .now) (at-if2 .if2 .left)
 
 cast-result-4 : tie.Need-cast-result-4
 cast-result-4 c = search needs
@@ -62,7 +68,12 @@ same-length-6 : tie.Need-same-length-6
 same-length-6 c = search needs
 
 returns-4 : tie.Need-returns-4
-returns-4 c = put-copied (c .before .before .before .before .before .before .before .before .before .before .text-in .ensures) (c .before .before .before .before .before .before .before .before .before .before .before .before .before .before .args .out .now) (c .before .before .before .before .before .before .before .if1 .left) (c .before .before .before .before .before .before .if2 .left) (c .before .before .before .before .before .if3 .left) (c .before .before .copy .ensures .1)
+returns-4 c =
+    let at-if3 = c .before .before .before .before .before in
+    let at-text-in = at-if3 .before .before .before .before .before in
+    let start = at-text-in .before .before .before .before in
+    put-copied (at-text-in .text-in .ensures) (start .args .out .now) (at-if3 .before .before .if1 .left) (at-if3 .before .if2 .left)
+    (at-if3 .if3 .left) (c .before .before .copy .ensures .1)
 
 pub print-by-spec : {M : Type 1} → statement M
 print-by-spec =

@@ -28,13 +28,14 @@ answer-of-requires c κs = search needs
 returns : tie.Need-returns
 returns c =
     let read = c .before .before .before in
-    let made = read .read-file in
     let roomy = read .before .before .before in
     let start = roomy .before .before in
+    let made = read .read-file in
     let a = start .args in
     let no-node = c .before .enum-told .given .1 in
     refusal-answers (made .result) (made .last .1 .0) (made .last .1 .1 .0) (c .answer-of .ensures) no-node
-    (file-refused (a .file .now) (a .var) (pointOf (a .point)) (a .order) (made .result) (made .last .1 .0) (made .last .1 .1 .0) (start .pre .1) (roomy .room-between .ensures) (made .ensures) no-node)
+    (file-refused (a .file .now) (a .var) (pointOf (a .point)) (a .order) (made .result) (made .last .1 .0) (made .last .1 .1 .0) (start .pre .1)
+    (roomy .room-between .ensures) (made .ensures) no-node)
 
 expand-in-requires : tie.Need-expand-in-requires
 expand-in-requires c κs = search needs
@@ -43,12 +44,13 @@ returns-2 : tie.Need-returns-2
 returns-2 c =
     let told = c .before .before .before .before in
     let read = told .before .before in
-    let made = read .read-file in
     let roomy = read .before .before .before in
     let start = roomy .before .before in
+    let made = read .read-file in
     let a = start .args in
     answers-same (c .expand-in .ensures)
-    (file-read (a .file .now) (a .var) (pointOf (a .point)) (a .order) (made .result) (made .last .1 .0) (made .last .1 .1 .0) (start .pre .1) (roomy .room-between .ensures) (made .ensures) (told .made .given .1))
+    (file-read (a .file .now) (a .var) (pointOf (a .point)) (a .order) (made .result) (made .last .1 .0) (made .last .1 .1 .0) (start .pre .1)
+    (roomy .room-between .ensures) (made .ensures) (told .made .given .1))
 
 pub expand-file-spec : {M : Type 1} → statement M
 expand-file-spec =

@@ -17,7 +17,9 @@ two-in-requires : tie.Need-two-in-requires
 two-in-requires c κs = search needs
 
 returns-2 : tie.Need-returns-2
-returns-2 c kept = changed _ _ _ (sym (c .before .before .before .before .same-parts .ensures) ∙ c .before .before .before .if1 .left) (called kept (c .two-in .ensures))
+returns-2 c kept =
+    let at-same-parts = c .before .before .before .before in
+    changed _ _ _ (sym (at-same-parts .same-parts .ensures) ∙ c .before .before .before .if1 .left) (called kept (c .two-in .ensures))
 
 pub rebuild-two-spec : {M : Type 1} → statement M
 rebuild-two-spec = tie.close (tie.spec same-parts-requires returns two-in-requires returns-2)

@@ -13,7 +13,9 @@ walk-at-requires c κs = omega arith
 
 returns : tie.Need-returns
 unfolding substituteVar
-returns c = whole (substituteAt (c .before .before .before .before .before .args .var) (c .before .before .before .before .before .args .value)) _ (resultsOf (c .walk-at .last .1 .1 .0)) (c .before .before .before .before .before .args .root) (c .walk-at .ensures)
+returns c =
+    let start = c .before .before .before .before .before in
+    whole (substituteAt (start .args .var) (start .args .value)) _ (resultsOf (c .walk-at .last .1 .1 .0)) (start .args .root) (c .walk-at .ensures)
 
 returns-2 : tie.Need-returns-2
 unfolding substituteVar

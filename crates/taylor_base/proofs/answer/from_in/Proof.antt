@@ -20,7 +20,9 @@ lit-in-requires : tie.Need-lit-in-requires
 lit-in-requires c κs = search needs
 
 returns : tie.Need-returns
-returns c = literal-made _ (c .before .fold .ensures ∙ ap folded (toZ-ofZ w64 (pos (c .before .before .before .before .args .n)) (search needs))) (c .lit-in .ensures)
+returns c =
+    let start = c .before .before .before .before in
+    literal-made _ (c .before .fold .ensures ∙ ap folded (toZ-ofZ w64 (pos (start .args .n)) (search needs))) (c .lit-in .ensures)
 
 pub from-in-spec : {M : Type 1} → statement M
 from-in-spec = tie.close (tie.spec cast-fold fold-requires lit-in-requires returns)

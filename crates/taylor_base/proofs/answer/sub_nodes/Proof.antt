@@ -24,8 +24,9 @@ add-in-requires c κs = search needs
 
 returns-2 : tie.Need-returns-2
 returns-2 c =
-    let negative = c .before .before .before .before .before .before .neg-in in
-    onward (negative .last .0) (negative .last .1 .0) _ (c .before .before .before .before .negative .given .1) (negative .ensures) (c .add-in .ensures)
+    let at-negative = c .before .before .before .before in
+    let negative = at-negative .before .before .neg-in in
+    onward (negative .last .0) (negative .last .1 .0) _ (at-negative .negative .given .1) (negative .ensures) (c .add-in .ensures)
 
 pub sub-nodes-spec : {M : Type 1} → statement M
 sub-nodes-spec =

@@ -17,7 +17,9 @@ answer-of-requires : tie.Need-answer-of-requires
 answer-of-requires c κs = search needs
 
 returns : tie.Need-returns
-returns c = λ ks ws. refusal-lists (c .before .before .before .args .made) ks ws (c .answer-of .ensures) (c .before .enum-told .given .1) (stopped ks ws _ (c .before .enum-told .given .1) refl)
+returns c =
+    λ ks ws. refusal-lists (c .before .before .before .args .made) ks ws (c .answer-of .ensures) (c .before .enum-told .given .1)
+    (stopped ks ws _ (c .before .enum-told .given .1) refl)
 
 tidied-requires : tie.Need-tidied-requires
 tidied-requires c κs = search needs

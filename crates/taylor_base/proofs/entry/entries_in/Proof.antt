@@ -44,32 +44,52 @@ answer-of-requires c κs = search needs
 
 returns : tie.Need-returns Inv-loop μ-loop
 returns c =
+    let step-at2 = c .before .before .before .before .before .before in
+    let at-loop = step-at2 .before .before .before in
     let entry = c .before .before .before .entry-in in
     refusal-lists (entry .result) (entry .last .0) (entry .last .1 .0) (c .answer-of .ensures) (c .before .enum-told .given .1)
-    (fill-stopped (c .before .before .before .before .before .before .before .before .before .loop .inv) (entry .last .0) (entry .last .1 .0) (c .before .before .before .before .before .before .before .before .loop-test .taken) (with-those (λ u w. entryWork (c .before .before .before .before .before .before .before .before .before .before .args .rule) u w (poolOf (c .before .before .before .before .before .before .before .before .before .loop .kinds) (c .before .before .before .before .before .before .before .before .before .loop .words) (c .before .before .before .before .before .before .before .before .before .loop .left))) (c .before .before .before .before .before .before .before .at .ensures) (c .before .before .before .before .before .before .at2 .ensures) (entry .ensures)) (c .before .enum-told .given .1))
+    (fill-stopped (at-loop .loop .inv) (entry .last .0) (entry .last .1 .0) (step-at2 .before .before .loop-test .taken)
+    (with-those (λ u w. entryWork (at-loop .before .args .rule) u w (poolOf (at-loop .loop .kinds) (at-loop .loop .words) (at-loop .loop .left)))
+    (step-at2 .before .at .ensures) (step-at2 .at2 .ensures) (entry .ensures)) (c .before .enum-told .given .1))
 
 cast-coeffs : tie.Need-cast-coeffs Inv-loop μ-loop
-cast-coeffs c = omega (arith, c .before .before .before .before .before .before .before .before .loop-test .taken, c .before .before .before .before .before .before .before .before .before .before .pre .most)
+cast-coeffs c =
+    let at-loop-test = c .before .before .before .before .before .before .before .before in
+    omega (arith, at-loop-test .loop-test .taken, at-loop-test .before .before .pre .most)
 
 mul-coeffs : tie.Need-mul-coeffs Inv-loop μ-loop
-mul-coeffs c = omega (arith, c .before .before .before .before .before .before .before .before .loop-test .taken, c .before .before .before .before .before .before .before .before .before .before .pre .most)
+mul-coeffs c =
+    let at-loop-test = c .before .before .before .before .before .before .before .before in
+    omega (arith, at-loop-test .loop-test .taken, at-loop-test .before .before .pre .most)
 
 array-write-coeffs : tie.Need-array-write-coeffs Inv-loop μ-loop
-array-write-coeffs c = omega (arith, c .before .before .before .before .before .before .before .before .loop-test .taken, c .before .before .before .before .before .before .before .before .before .before .pre .most)
+array-write-coeffs c =
+    let at-loop-test = c .before .before .before .before .before .before .before .before in
+    omega (arith, at-loop-test .loop-test .taken, at-loop-test .before .before .pre .most)
 
 add-k : tie.Need-add-k Inv-loop μ-loop
-add-k c = omega (arith, c .before .before .before .before .before .before .before .before .loop-test .taken, c .before .before .before .before .before .before .before .before .before .before .pre .most)
+add-k c =
+    let at-loop-test = c .before .before .before .before .before .before .before .before in
+    omega (arith, at-loop-test .loop-test .taken, at-loop-test .before .before .pre .most)
 
 loop-less : tie.Need-loop-less Inv-loop μ-loop
-loop-less c = omega (arith, c .before .before .before .before .before .before .before .before .loop-test .taken)
+loop-less c =
+    let at-loop-test = c .before .before .before .before .before .before .before .before in
+    omega (arith, at-loop-test .loop-test .taken)
 
 loop-again : tie.Need-loop-again Inv-loop μ-loop
 loop-again c =
+    let step-at2 = c .before .before .before .before .before .before in
+    let at-loop = step-at2 .before .before .before in
     let entry = c .before .before .before .entry-in in
-    fill-onward (c .before .before .before .before .before .before .before .before .before .loop .inv) (entry .last .0) (entry .last .1 .0) (c .before .before .before .before .before .before .before .before .loop-test .taken) (with-those (λ u w. entryWork (c .before .before .before .before .before .before .before .before .before .before .args .rule) u w (poolOf (c .before .before .before .before .before .before .before .before .before .loop .kinds) (c .before .before .before .before .before .before .before .before .before .loop .words) (c .before .before .before .before .before .before .before .before .before .loop .left))) (c .before .before .before .before .before .before .before .at .ensures) (c .before .before .before .before .before .before .at2 .ensures) (entry .ensures)) (c .before .entry .given .1)
+    fill-onward (at-loop .loop .inv) (entry .last .0) (entry .last .1 .0) (step-at2 .before .before .loop-test .taken)
+    (with-those (λ u w. entryWork (at-loop .before .args .rule) u w (poolOf (at-loop .loop .kinds) (at-loop .loop .words) (at-loop .loop .left)))
+    (step-at2 .before .at .ensures) (step-at2 .at2 .ensures) (entry .ensures)) (c .before .entry .given .1)
 
 returns-2 : tie.Need-returns-2 Inv-loop μ-loop
-returns-2 c = fill-done (c .before .loop .kinds) (c .before .loop .words) (c .before .loop .left) (c .before .loop .inv) (c .loop-test .left) (c .before .before .pre .least)
+returns-2 c =
+    let at-loop = c .before in
+    fill-done (at-loop .loop .kinds) (at-loop .loop .words) (at-loop .loop .left) (at-loop .loop .inv) (c .loop-test .left) (at-loop .before .pre .least)
 
 pub entries-in-spec : {M : Type 1} → statement M
 entries-in-spec =

@@ -20,7 +20,9 @@ from-in-requires : tie.Need-from-in-requires
 from-in-requires c κs = search needs
 
 returns-2 : tie.Need-returns-2
-returns-2 c = rw (c .before .before .before .before .if1 .taken) (c .from-in .ensures ∙ coeff-behind _ (c .before .before .before .before .before .args .k) _ (c .before .before .before .if2 .left))
+returns-2 c =
+    let at-if1 = c .before .before .before .before in
+    rw (at-if1 .if1 .taken) (c .from-in .ensures ∙ coeff-behind _ (at-if1 .before .args .k) _ (c .before .before .before .if2 .left))
 
 cast-at : tie.Need-cast-at
 cast-at c = omega (arith, c .before .pre .1 .below (c .if1 .left), c .before .pre .0 .most (c .if1 .left))
@@ -29,7 +31,9 @@ at-requires : tie.Need-at-requires
 at-requires c κs = (c .before .pre .1 .below (c .if1 .left), c .before .pre .0 .most (c .if1 .left))
 
 returns-3 : tie.Need-returns-3
-returns-3 c = rw (c .before .if1 .left) (ap (λ (n : ℕ). done n (poolOf (c .before .before .args .kinds .now) (c .before .before .args .words .now) (c .before .before .args .room))) (c .at .ensures))
+returns-3 c =
+    let start = c .before .before in
+    rw (c .before .if1 .left) (ap (λ (n : ℕ). done n (poolOf (start .args .kinds .now) (start .args .words .now) (start .args .room))) (c .at .ensures))
 
 pub coeff-in-spec : {M : Type 1} → statement M
 coeff-in-spec =

@@ -23,8 +23,10 @@ answer-of-requires c κs = search needs
 
 returns : tie.Need-returns
 returns c =
+    let at-if2 = c .before .before .before .before .before .before in
     let greater = c .before .max-in in
-    rw (c .before .before .before .before .before .before .before .if1 .taken, c .before .before .before .before .before .before .if2 .taken) (constant-answers (greater .result) (greater .last .0) (greater .last .1 .0) (c .answer-of .ensures) (greater .ensures))
+    rw (at-if2 .before .if1 .taken, at-if2 .if2 .taken)
+    (constant-answers (greater .result) (greater .last .0) (greater .last .1 .0) (c .answer-of .ensures) (greater .ensures))
 
 answer-of-requires-2 : tie.Need-answer-of-requires-2
 answer-of-requires-2 c κs = search needs
@@ -36,7 +38,12 @@ answer-of-requires-3 : tie.Need-answer-of-requires-3
 answer-of-requires-3 c κs = search needs
 
 returns-3 : tie.Need-returns-3
-returns-3 c = rw (c .before .if1 .left) (refusal-answers _ _ _ (c .answer-of3 .ensures) refl (no-maximum (listOf (c .before .before .args .t4)) (expansionOf (c .before .before .args .t5)) (poolOf (c .before .before .args .kinds .now) (c .before .before .args .words .now) (c .before .before .args .room))))
+returns-3 c =
+    let start = c .before .before in
+    rw (c .before .if1 .left)
+    (refusal-answers _ _ _ (c .answer-of3 .ensures) refl
+    (no-maximum (listOf (start .args .t4)) (expansionOf (start .args .t5))
+    (poolOf (start .args .kinds .now) (start .args .words .now) (start .args .room))))
 
 pub max-in-spec : {M : Type 1} → statement M
 max-in-spec =

@@ -24,17 +24,22 @@ answer-of-requires c κs = search needs
 
 returns : tie.Need-returns
 returns c =
+    let at-if1 = c .before .before .before .before .before in
     let negative = c .before .entry-in in
-    rw (c .before .before .before .before .before .if1 .taken) (constant-answers (negative .result) (negative .last .0) (negative .last .1 .0) (c .answer-of .ensures) (negative .ensures))
+    rw (at-if1 .if1 .taken) (constant-answers (negative .result) (negative .last .0) (negative .last .1 .0) (c .answer-of .ensures) (negative .ensures))
 
 entries-in-requires : tie.Need-entries-in-requires
-entries-in-requires c κs = all-entries (c .before .before .before .args .t4) (list (c .before .before .before) (c .before .before .if1 .left))
+entries-in-requires c κs =
+    let start = c .before .before .before in
+    all-entries (start .args .t4) (list start (c .before .before .if1 .left))
 
 returns-2 : tie.Need-returns-2
 returns-2 c =
     let start = c .before .before .before .before in
     let test = c .before .before .before .if1 .left in
-    rw test (lists-answer (each-lists (start .args .t4) (list start test) neg (poolOf (start .args .kinds .now) (start .args .words .now) (start .args .room)) (c .entries-in .ensures)))
+    rw test
+    (lists-answer (each-lists (start .args .t4) (list start test) neg
+    (poolOf (start .args .kinds .now) (start .args .words .now) (start .args .room)) (c .entries-in .ensures)))
 
 pub neg-in-spec : {M : Type 1} → statement M
 neg-in-spec =

@@ -30,8 +30,10 @@ answer-of-requires c κs = search needs
 
 returns : tie.Need-returns
 returns c =
+    let at-if2 = c .before .before .before .before .before in
     let entry = c .before .entry-in in
-    rw (c .before .before .before .before .before .before .before .if1 .taken, c .before .before .before .before .before .if2 .taken) (constant-answers (entry .result) (entry .last .0) (entry .last .1 .0) (c .answer-of .ensures) (entry .ensures))
+    rw (at-if2 .before .before .if1 .taken, at-if2 .if2 .taken)
+    (constant-answers (entry .result) (entry .last .0) (entry .last .1 .0) (c .answer-of .ensures) (entry .ensures))
 
 at-requires : tie.Need-at-requires
 at-requires c κs = list-sized (c .before .before .before .before .before .pre .0) (c .before .before .if2 .left)
@@ -40,40 +42,53 @@ entry-in-requires-2 : tie.Need-entry-in-requires-2
 entry-in-requires-2 c κs = search needs
 
 with-first-requires : tie.Need-with-first-requires
-with-first-requires c κs = list-sized (c .before .before .before .before .before .before .before .pre .0) (c .before .before .before .before .if2 .left)
+with-first-requires c κs =
+    let at-if2 = c .before .before .before .before in
+    list-sized (at-if2 .before .before .before .pre .0) (at-if2 .if2 .left)
 
 returns-2 : tie.Need-returns-2
 returns-2 c =
+    let at-if2 = c .before .before .before .before .before in
+    let start = at-if2 .before .before .before in
     let entry = c .before .entry-in2 in
-    let start = c .before .before .before .before .before .before .before .before in
-    rw (c .before .before .before .before .before .before .before .if1 .taken, c .before .before .before .before .before .if2 .left)
-    (lists-answer (first-lists (start .args .t4) (lhs-list start (c .before .before .before .before .before .if2 .left)) (λ l. sub l (at (start .args .t5 .coeffs) 0)) (poolOf (start .args .kinds .now) (start .args .words .now) (start .args .room)) (entry .result) (entry .last .0) (entry .last .1 .0) (c .with-first .ensures) (c .before .before .at .ensures) (entry .ensures)))
+    rw (at-if2 .before .before .if1 .taken, at-if2 .if2 .left)
+    (lists-answer (first-lists (start .args .t4) (lhs-list start (at-if2 .if2 .left)) (λ l. sub l (at (start .args .t5 .coeffs) 0))
+    (poolOf (start .args .kinds .now) (start .args .words .now) (start .args .room)) (entry .result) (entry .last .0) (entry .last .1 .0)
+    (c .with-first .ensures) (c .before .before .at .ensures) (entry .ensures)))
 
 element-copy-out-l-2 : tie.Need-element-copy-out-l-2
 element-copy-out-l-2 c = search needs
 
 sub-from-requires : tie.Need-sub-from-requires
-sub-from-requires c κs = list-sized (c .before .before .before .before .before .pre .1) (c .before .before .before .before .if1 .left)
+sub-from-requires c κs =
+    let at-if1 = c .before .before .before .before in
+    list-sized (at-if1 .before .pre .1) (at-if1 .if1 .left)
 
 returns-3 : tie.Need-returns-3
-returns-3 c = rw (c .before .before .before .before .before .if1 .left, c .before .before .before .before .if3 .taken) (lists-answer (c .sub-from .ensures))
+returns-3 c =
+    let at-if3 = c .before .before .before .before in
+    rw (at-if3 .before .if1 .left, at-if3 .if3 .taken) (lists-answer (c .sub-from .ensures))
 
 shorter-requires : tie.Need-shorter-requires
 shorter-requires c κs = search needs
 
 entries-in-requires : tie.Need-entries-in-requires
 entries-in-requires c κs =
-    let start = c .before .before .before .before .before in
-    shorter-entries (start .args .t4) (start .args .t5) (lhs-list start (c .before .before .before .if3 .left)) (rhs-list start (c .before .before .before .before .if1 .left)) (c .shorter .ensures)
+    let at-if1 = c .before .before .before .before in
+    let start = at-if1 .before in
+    shorter-entries (start .args .t4) (start .args .t5) (lhs-list start (c .before .before .before .if3 .left)) (rhs-list start (at-if1 .if1 .left))
+    (c .shorter .ensures)
 
 returns-4 : tie.Need-returns-4
 returns-4 c =
     let found = c .before in
-    let start = found .before .before .before .before .before in
-    let lhs = lhs-list start (c .before .before .before .before .if3 .left) in
-    let rhs = rhs-list start (c .before .before .before .before .before .if1 .left) in
-    rw (c .before .before .before .before .before .if1 .left, c .before .before .before .before .if3 .left)
-    (lists-answer (two-lists (start .args .t4) (start .args .t5) lhs rhs (found .shorter .ensures) (λ u w. sub u w) (poolOf (start .args .kinds .now) (start .args .words .now) (start .args .room)) (c .entries-in .ensures)))
+    let at-if3 = found .before .before .before in
+    let start = at-if3 .before .before in
+    let lhs = lhs-list start (at-if3 .if3 .left) in
+    let rhs = rhs-list start (at-if3 .before .if1 .left) in
+    rw (at-if3 .before .if1 .left, at-if3 .if3 .left)
+    (lists-answer (two-lists (start .args .t4) (start .args .t5) lhs rhs (found .shorter .ensures) (λ u w. sub u w)
+    (poolOf (start .args .kinds .now) (start .args .words .now) (start .args .room)) (c .entries-in .ensures)))
 
 pub sub-in-spec : {M : Type 1} → statement M
 sub-in-spec =

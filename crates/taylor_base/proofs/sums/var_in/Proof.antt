@@ -22,10 +22,11 @@ answer-of-requires c κs = search needs
 
 returns : tie.Need-returns
 returns c =
+    let start = c .before .before .before .before .before .before in
     let zero = c .before .before .before .from-in in
-    lists-answer
-    (refusal-lists (zero .result) (zero .last .0) (zero .last .1 .0) (c .answer-of .ensures) (c .before .enum-told .given .1)
-    (stopped (zero .last .0) (zero .last .1 .0) (afterZero (c .before .before .before .before .before .before .args .x) (c .before .before .before .before .before .before .args .order)) (c .before .enum-told .given .1) (zero .ensures) ∙ var-is (c .before .before .before .before .before .before .args .x) (c .before .before .before .before .before .before .args .order) _))
+    lists-answer (refusal-lists (zero .result) (zero .last .0) (zero .last .1 .0) (c .answer-of .ensures) (c .before .enum-told .given .1)
+    (stopped (zero .last .0) (zero .last .1 .0) (afterZero (start .args .x) (start .args .order)) (c .before .enum-told .given .1) (zero .ensures)
+    ∙ var-is (start .args .x) (start .args .order) _))
 
 array-write-coeffs : tie.Need-array-write-coeffs
 array-write-coeffs c = search needs
@@ -35,11 +36,12 @@ tidied-requires c κs = search needs
 
 returns-2 : tie.Need-returns-2
 returns-2 c =
+    let start = c .before .before .before .before .before .before .before .before in
+    let x = start .args .x in
     let zero = c .before .before .before .before .before .from-in in
-    lists-answer
-    (lists-same (tidied-lists _ (zero .last .0) (zero .last .1 .0) (c .tidied .ensures))
-    (onward (zero .last .0) (zero .last .1 .0) (afterZero (c .before .before .before .before .before .before .before .before .args .x) (c .before .before .before .before .before .before .before .before .args .order)) (c .before .before .before .zero .given .1) (zero .ensures) (only-point (c .before .before .before .before .before .before .before .before .args .x) (c .before .before .before .before .before .before .before .before .args .order) _ _ (c .before .if1 .taken))
-    ∙ var-is (c .before .before .before .before .before .before .before .before .args .x) (c .before .before .before .before .before .before .before .before .args .order) _))
+    lists-answer (lists-same (tidied-lists _ (zero .last .0) (zero .last .1 .0) (c .tidied .ensures))
+    (onward (zero .last .0) (zero .last .1 .0) (afterZero x (start .args .order)) (c .before .before .before .zero .given .1) (zero .ensures)
+    (only-point x (start .args .order) _ _ (c .before .if1 .taken)) ∙ var-is x (start .args .order) _))
 
 from-in-requires-2 : tie.Need-from-in-requires-2
 from-in-requires-2 c κs = search needs
@@ -55,13 +57,15 @@ answer-of-requires-2 c κs = search needs
 
 returns-3 : tie.Need-returns-3
 returns-3 c =
-    let zero = c .before .before .before .before .before .before .before .before .before .before .from-in in
+    let at-if1 = c .before .before .before .before .before .before in
+    let start = at-if1 .before .before .before .before .before .before .before in
+    let x = start .args .x in
+    let zero = at-if1 .before .before .before .before .from-in in
     let one = c .before .before .before .from-in2 in
-    lists-answer
-    (refusal-lists (one .result) (one .last .0) (one .last .1 .0) (c .answer-of2 .ensures) (c .before .enum-told2 .given .1)
-    (onward (zero .last .0) (zero .last .1 .0) (afterZero (c .before .before .before .before .before .before .before .before .before .before .before .before .before .args .x) (c .before .before .before .before .before .before .before .before .before .before .before .before .before .args .order)) (c .before .before .before .before .before .before .before .before .zero .given .1) (zero .ensures)
-    (stopped (one .last .0) (one .last .1 .0) _ (c .before .enum-told2 .given .1) (one .ensures) ∙ one-behind (c .before .before .before .before .before .before .before .before .before .before .before .before .before .args .x) (c .before .before .before .before .before .before .before .before .before .before .before .before .before .args .order) _ _ (c .before .before .before .before .before .before .if1 .left) (c .before .before .before .before .before .before .before .before .before .before .before .before .before .pre))
-    ∙ var-is (c .before .before .before .before .before .before .before .before .before .before .before .before .before .args .x) (c .before .before .before .before .before .before .before .before .before .before .before .before .before .args .order) _))
+    lists-answer (refusal-lists (one .result) (one .last .0) (one .last .1 .0) (c .answer-of2 .ensures) (c .before .enum-told2 .given .1)
+    (onward (zero .last .0) (zero .last .1 .0) (afterZero x (start .args .order)) (at-if1 .before .before .zero .given .1) (zero .ensures)
+    (stopped (one .last .0) (one .last .1 .0) _ (c .before .enum-told2 .given .1) (one .ensures) ∙ one-behind x (start .args .order) _ _
+    (at-if1 .if1 .left) (start .pre)) ∙ var-is x (start .args .order) _))
 
 array-write-coeffs-2 : tie.Need-array-write-coeffs-2
 array-write-coeffs-2 c = search needs
@@ -74,13 +78,15 @@ tidied-requires-2 c κs = search needs
 
 returns-4 : tie.Need-returns-4
 returns-4 c =
-    let zero = c .before .before .before .before .before .before .before .before .before .before .before .from-in in
+    let at-if1 = c .before .before .before .before .before .before .before in
+    let start = at-if1 .before .before .before .before .before .before .before in
+    let x = start .args .x in
+    let zero = at-if1 .before .before .before .before .from-in in
     let one = c .before .before .before .before .from-in2 in
-    lists-answer
-    (lists-same (tidied-lists _ (one .last .0) (one .last .1 .0) (c .tidied2 .ensures))
-    (onward (zero .last .0) (zero .last .1 .0) (afterZero (c .before .before .before .before .before .before .before .before .before .before .before .before .before .before .args .x) (c .before .before .before .before .before .before .before .before .before .before .before .before .before .before .args .order)) (c .before .before .before .before .before .before .before .before .before .zero .given .1) (zero .ensures)
-    (onward (one .last .0) (one .last .1 .0) _ (c .before .before .one .given .1) (one .ensures) refl ∙ one-behind (c .before .before .before .before .before .before .before .before .before .before .before .before .before .before .args .x) (c .before .before .before .before .before .before .before .before .before .before .before .before .before .before .args .order) _ _ (c .before .before .before .before .before .before .before .if1 .left) (c .before .before .before .before .before .before .before .before .before .before .before .before .before .before .pre))
-    ∙ var-is (c .before .before .before .before .before .before .before .before .before .before .before .before .before .before .args .x) (c .before .before .before .before .before .before .before .before .before .before .before .before .before .before .args .order) _))
+    lists-answer (lists-same (tidied-lists _ (one .last .0) (one .last .1 .0) (c .tidied2 .ensures))
+    (onward (zero .last .0) (zero .last .1 .0) (afterZero x (start .args .order)) (at-if1 .before .before .zero .given .1) (zero .ensures)
+    (onward (one .last .0) (one .last .1 .0) _ (c .before .before .one .given .1) (one .ensures) refl ∙ one-behind x (start .args .order) _ _
+    (at-if1 .if1 .left) (start .pre)) ∙ var-is x (start .args .order) _))
 
 pub var-in-spec : {M : Type 1} → statement M
 var-in-spec =

@@ -28,18 +28,22 @@ returns c =
     (stopped (one .last .0) (one .last .1 .0) _ (c .before .enum-told .given .1) (one .ensures))
 
 tidy-of-requires : tie.Need-tidy-of-requires
-tidy-of-requires c κs = c .before .before .before .before .before .before .before .before .pre
+tidy-of-requires c κs =
+    let start = c .before .before .before .before .before .before .before .before in
+    start .pre
 
 rounds-in-requires : tie.Need-rounds-in-requires
 rounds-in-requires c κs = c .tidy-of .ensures .tidy
 
 returns-2 : tie.Need-returns-2
 returns-2 c =
-    let one = c .before .before .before .before .before .before .before .from-in in
-    let rest = poolOf (one .last .0) (one .last .1 .0) (c .before .before .before .before .before .one .given .0 .1 .0) in
+    let at-one = c .before .before .before .before .before in
+    let start = at-one .before .before .before .before .before in
+    let one = at-one .before .before .from-in in
+    let rest = poolOf (one .last .0) (one .last .1 .0) (at-one .one .given .0 .1 .0) in
     answers-same (c .rounds-in .ensures)
-    (onward (one .last .0) (one .last .1 .0) _ (c .before .before .before .before .before .one .given .1) (one .ensures)
-    (ap (λ (base : Expansion). powFrom digits (c .before .before .before .before .before .before .before .before .before .before .args .exp) (Constant (c .before .before .before .before .before .one .given .0 .0)) base rest) (c .before .tidy-of .ensures .same)))
+    (onward (one .last .0) (one .last .1 .0) _ (at-one .one .given .1) (one .ensures)
+    (ap (λ (base : Expansion). powFrom digits (start .args .exp) (Constant (at-one .one .given .0 .0)) base rest) (c .before .tidy-of .ensures .same)))
 
 pub pow-in-spec : {M : Type 1} → statement M
 pow-in-spec =

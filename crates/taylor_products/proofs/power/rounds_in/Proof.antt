@@ -24,7 +24,9 @@ sub-rounds : tie.Need-sub-rounds Inv-loop μ-loop
 sub-rounds c = leading-le digits (c .before .args .exp)
 
 loop-holds : tie.Need-loop-holds Inv-loop μ-loop
-loop-holds c = pow-starts (c .before .args .exp) (c .before .args .one) (c .before .args .base) _ (c .before .fits .exp .fits) (c .constant-of .ensures) (c .before .pre)
+loop-holds c =
+    let start = c .before in
+    pow-starts (start .args .exp) (start .args .one) (start .args .base) _ (start .fits .exp .fits) (c .constant-of .ensures) (start .pre)
 
 times-if-requires : tie.Need-times-if-requires Inv-loop μ-loop
 times-if-requires c κs = (c .before .before .before .loop .inv .res-tidy, c .before .before .before .loop .inv .square-tidy)
@@ -36,13 +38,17 @@ enum-told : tie.Need-enum-told Inv-loop μ-loop
 enum-told c = search needs
 
 returns : tie.Need-returns Inv-loop μ-loop
-returns c = product-stopped (c .before .before .before .before .before .before .loop .inv) (c .before .before .before .before .before .loop-test .taken) (c .before .before .times-if .ensures) (c .enum-told .given .1)
+returns c =
+    let at-loop-test = c .before .before .before .before .before in
+    product-stopped (at-loop-test .before .loop .inv) (at-loop-test .loop-test .taken) (c .before .before .times-if .ensures) (c .enum-told .given .1)
 
 sub-rounds-2 : tie.Need-sub-rounds-2 Inv-loop μ-loop
 sub-rounds-2 c = omega (arith, c .before .before .before .before .before .before .loop-test .taken)
 
 times-if-requires-2 : tie.Need-times-if-requires-2 Inv-loop μ-loop
-times-if-requires-2 c κs = (c .before .before .before .before .before .before .before .before .before .loop .inv .square-tidy, c .before .before .before .before .before .before .before .before .before .loop .inv .square-tidy)
+times-if-requires-2 c κs =
+    let at-loop = c .before .before .before .before .before .before .before .before .before in
+    (at-loop .loop .inv .square-tidy, at-loop .loop .inv .square-tidy)
 
 enum-known-squared : tie.Need-enum-known-squared Inv-loop μ-loop
 enum-known-squared c = search needs
@@ -51,16 +57,31 @@ enum-told-2 : tie.Need-enum-told-2 Inv-loop μ-loop
 enum-told-2 c = search needs
 
 returns-2 : tie.Need-returns-2 Inv-loop μ-loop
-returns-2 c = square-stopped (c .before .before .before .before .before .before .before .before .before .before .before .before .loop .inv) (c .before .before .before .before .before .before .before .before .before .before .before .loop-test .taken) (c .before .before .before .before .before .before .before .before .times-if .ensures) (c .before .before .before .before .before .before .multiplied .given .1) (c .before .before .times-if2 .ensures) (c .enum-told2 .given .1)
+returns-2 c =
+    let at-multiplied = c .before .before .before .before .before .before in
+    let at-loop-test = at-multiplied .before .before .before .before .before in
+    square-stopped (at-loop-test .before .loop .inv) (at-loop-test .loop-test .taken) (at-multiplied .before .before .times-if .ensures)
+    (at-multiplied .multiplied .given .1) (c .before .before .times-if2 .ensures) (c .enum-told2 .given .1)
 
 loop-less : tie.Need-loop-less Inv-loop μ-loop
-loop-less c = omega (arith, c .before .before .before .before .before .before .before .before .before .before .before .before .before .before .loop-test .taken)
+loop-less c =
+    let earlier = c .before .before .before .before .before .before .before in
+    let at-loop-test = earlier .before .before .before .before .before .before .before in
+    omega (arith, at-loop-test .loop-test .taken)
 
 loop-again : tie.Need-loop-again Inv-loop μ-loop
-loop-again c = pow-onward (c .before .before .before .before .before .before .before .before .before .before .before .before .before .before .before .loop .inv) (c .before .before .before .before .before .before .before .before .before .before .before .before .before .before .loop-test .taken) (c .before .before .before .before .before .before .before .before .before .before .before .times-if .ensures) (c .before .before .before .before .before .before .before .before .before .multiplied .given .1) (c .before .before .before .before .before .times-if2 .ensures) (c .before .before .before .squared .given .1)
+loop-again c =
+    let at-times-if2 = c .before .before .before .before .before in
+    let at-multiplied = at-times-if2 .before .before .before .before in
+    let at-loop-test = at-multiplied .before .before .before .before .before in
+    pow-onward (at-loop-test .before .loop .inv) (at-loop-test .loop-test .taken) (at-multiplied .before .before .times-if .ensures)
+    (at-multiplied .multiplied .given .1) (at-times-if2 .times-if2 .ensures) (c .before .before .before .squared .given .1)
 
 returns-3 : tie.Need-returns-3 Inv-loop μ-loop
-returns-3 c = pow-done (c .before .loop .res) (c .before .loop .left) (c .before .loop .kinds) (c .before .loop .words) (c .before .loop .inv) (c .loop-test .left)
+returns-3 c =
+    let at-loop = c .before in
+    let loop = at-loop .loop in
+    pow-done (loop .res) (loop .left) (loop .kinds) (loop .words) (loop .inv) (c .loop-test .left)
 
 pub rounds-in-spec : {M : Type 1} → statement M
 rounds-in-spec =

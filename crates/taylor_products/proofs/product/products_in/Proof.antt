@@ -51,32 +51,56 @@ answer-of-requires c κs = search needs
 
 returns : tie.Need-returns Inv-loop μ-loop
 returns c =
+    let at-loop-test = c .before .before .before .before .before .before in
+    let at-loop = at-loop-test .before in
+    let start = at-loop .before in
+    let loop = at-loop .loop in
     let sum = c .before .before .before .fold-in in
     refusal-lists (sum .result) (sum .last .0) (sum .last .1 .0) (c .answer-of .ensures) (c .before .enum-told .given .1)
-    (fill-stopped (c .before .before .before .before .before .before .before .loop .inv) (sum .last .0) (sum .last .1 .0) (c .before .before .before .before .before .before .loop-test .taken) (sum .ensures ∙ ap (λ (n : ℕ). fold (productTerm (listOf (c .before .before .before .before .before .before .before .before .args .us)) (listOf (c .before .before .before .before .before .before .before .before .args .ws)) (c .before .before .before .before .before .before .before .loop .k)) 0 n (c .before .before .before .before .before .before .before .before .args .zero) (poolOf (c .before .before .before .before .before .before .before .loop .kinds) (c .before .before .before .before .before .before .before .loop .words) (c .before .before .before .before .before .before .before .loop .left))) (add-one (c .before .before .before .before .before .before .before .loop .k))) (c .before .enum-told .given .1))
+    (fill-stopped (loop .inv) (sum .last .0) (sum .last .1 .0) (at-loop-test .loop-test .taken)
+    (sum .ensures ∙ ap
+    (λ (n : ℕ). fold (productTerm (listOf (start .args .us)) (listOf (start .args .ws)) (loop .k)) 0 n (start .args .zero)
+    (poolOf (loop .kinds) (loop .words) (loop .left))) (add-one (loop .k))) (c .before .enum-told .given .1))
 
 cast-coeffs : tie.Need-cast-coeffs Inv-loop μ-loop
-cast-coeffs c = omega (arith, c .before .before .before .before .before .before .loop-test .taken, c .before .before .before .before .before .before .before .before .pre .most)
+cast-coeffs c =
+    let at-loop-test = c .before .before .before .before .before .before in
+    omega (arith, at-loop-test .loop-test .taken, at-loop-test .before .before .pre .most)
 
 mul-coeffs : tie.Need-mul-coeffs Inv-loop μ-loop
-mul-coeffs c = omega (arith, c .before .before .before .before .before .before .loop-test .taken, c .before .before .before .before .before .before .before .before .pre .most)
+mul-coeffs c =
+    let at-loop-test = c .before .before .before .before .before .before in
+    omega (arith, at-loop-test .loop-test .taken, at-loop-test .before .before .pre .most)
 
 array-write-coeffs : tie.Need-array-write-coeffs Inv-loop μ-loop
-array-write-coeffs c = omega (arith, c .before .before .before .before .before .before .loop-test .taken, c .before .before .before .before .before .before .before .before .pre .most)
+array-write-coeffs c =
+    let at-loop-test = c .before .before .before .before .before .before in
+    omega (arith, at-loop-test .loop-test .taken, at-loop-test .before .before .pre .most)
 
 add-k : tie.Need-add-k Inv-loop μ-loop
-add-k c = omega (arith, c .before .before .before .before .before .before .loop-test .taken, c .before .before .before .before .before .before .before .before .pre .most)
+add-k c =
+    let at-loop-test = c .before .before .before .before .before .before in
+    omega (arith, at-loop-test .loop-test .taken, at-loop-test .before .before .pre .most)
 
 loop-less : tie.Need-loop-less Inv-loop μ-loop
 loop-less c = omega (arith, c .before .before .before .before .before .before .loop-test .taken)
 
 loop-again : tie.Need-loop-again Inv-loop μ-loop
 loop-again c =
+    let at-loop-test = c .before .before .before .before .before .before in
+    let at-loop = at-loop-test .before in
+    let start = at-loop .before in
+    let loop = at-loop .loop in
     let sum = c .before .before .before .fold-in in
-    fill-onward (c .before .before .before .before .before .before .before .loop .inv) (sum .last .0) (sum .last .1 .0) (c .before .before .before .before .before .before .loop-test .taken) (sum .ensures ∙ ap (λ (n : ℕ). fold (productTerm (listOf (c .before .before .before .before .before .before .before .before .args .us)) (listOf (c .before .before .before .before .before .before .before .before .args .ws)) (c .before .before .before .before .before .before .before .loop .k)) 0 n (c .before .before .before .before .before .before .before .before .args .zero) (poolOf (c .before .before .before .before .before .before .before .loop .kinds) (c .before .before .before .before .before .before .before .loop .words) (c .before .before .before .before .before .before .before .loop .left))) (add-one (c .before .before .before .before .before .before .before .loop .k))) (c .before .sum .given .1)
+    fill-onward (loop .inv) (sum .last .0) (sum .last .1 .0) (at-loop-test .loop-test .taken)
+    (sum .ensures ∙ ap
+    (λ (n : ℕ). fold (productTerm (listOf (start .args .us)) (listOf (start .args .ws)) (loop .k)) 0 n (start .args .zero)
+    (poolOf (loop .kinds) (loop .words) (loop .left))) (add-one (loop .k))) (c .before .sum .given .1)
 
 returns-2 : tie.Need-returns-2 Inv-loop μ-loop
-returns-2 c = fill-done (c .before .loop .kinds) (c .before .loop .words) (c .before .loop .left) (c .before .loop .inv) (c .loop-test .left) (c .before .before .pre .least)
+returns-2 c =
+    let at-loop = c .before in
+    fill-done (at-loop .loop .kinds) (at-loop .loop .words) (at-loop .loop .left) (at-loop .loop .inv) (c .loop-test .left) (at-loop .before .pre .least)
 
 pub products-in-spec : {M : Type 1} → statement M
 products-in-spec =

@@ -32,34 +32,47 @@ answer-of-requires c κs = search needs
 returns : tie.Need-returns
 unfolding times
 returns c =
+    let at-if2 = c .before .before .before .before .before in
     let product = c .before .mul-in in
-    rw (c .before .before .before .before .before .before .before .if1 .taken, c .before .before .before .before .before .if2 .taken) (constant-answers (product .result) (product .last .0) (product .last .1 .0) (c .answer-of .ensures) (product .ensures))
+    rw (at-if2 .before .before .if1 .taken, at-if2 .if2 .taken)
+    (constant-answers (product .result) (product .last .0) (product .last .1 .0) (c .answer-of .ensures) (product .ensures))
 
 entries-in-requires : tie.Need-entries-in-requires
-entries-in-requires c κs = all-entries (c .before .before .before .before .before .args .t5) (rhs-list (c .before .before .before .before .before) (c .before .before .if2 .left))
+entries-in-requires c κs =
+    let start = c .before .before .before .before .before in
+    all-entries (start .args .t5) (rhs-list start (c .before .before .if2 .left))
 
 returns-2 : tie.Need-returns-2
 unfolding times
 returns-2 c =
-    let start = c .before .before .before .before .before .before in
-    rw (c .before .before .before .before .before .if1 .taken, c .before .before .before .if2 .left)
-    (lists-answer (each-lists (start .args .t5) (rhs-list start (c .before .before .before .if2 .left)) (λ w. mul w (at (start .args .t4 .coeffs) 0)) (poolOf (start .args .kinds .now) (start .args .words .now) (start .args .room)) (c .entries-in .ensures)))
+    let at-if2 = c .before .before .before in
+    let start = at-if2 .before .before .before in
+    rw (at-if2 .before .before .if1 .taken, at-if2 .if2 .left)
+    (lists-answer (each-lists (start .args .t5) (rhs-list start (at-if2 .if2 .left)) (λ w. mul w (at (start .args .t4 .coeffs) 0))
+    (poolOf (start .args .kinds .now) (start .args .words .now) (start .args .room)) (c .entries-in .ensures)))
 
 element-copy-out-r-2 : tie.Need-element-copy-out-r-2
 element-copy-out-r-2 c = search needs
 
 entries-in-requires-2 : tie.Need-entries-in-requires-2
-entries-in-requires-2 c κs = all-entries (c .before .before .before .before .before .args .t4) (lhs-list (c .before .before .before .before .before) (c .before .before .before .before .if1 .left))
+entries-in-requires-2 c κs =
+    let at-if1 = c .before .before .before .before in
+    let start = at-if1 .before in
+    all-entries (start .args .t4) (lhs-list start (at-if1 .if1 .left))
 
 returns-3 : tie.Need-returns-3
 unfolding times
 returns-3 c =
-    let start = c .before .before .before .before .before .before in
-    rw (c .before .before .before .before .before .if1 .left, c .before .before .before .before .if3 .taken)
-    (lists-answer (each-lists (start .args .t4) (lhs-list start (c .before .before .before .before .before .if1 .left)) (λ u. mul u (at (start .args .t5 .coeffs) 0)) (poolOf (start .args .kinds .now) (start .args .words .now) (start .args .room)) (c .entries-in2 .ensures)))
+    let at-if3 = c .before .before .before .before in
+    let start = at-if3 .before .before in
+    rw (at-if3 .before .if1 .left, at-if3 .if3 .taken)
+    (lists-answer (each-lists (start .args .t4) (lhs-list start (at-if3 .before .if1 .left)) (λ u. mul u (at (start .args .t5 .coeffs) 0))
+    (poolOf (start .args .kinds .now) (start .args .words .now) (start .args .room)) (c .entries-in2 .ensures)))
 
 times-lists-requires : tie.Need-times-lists-requires
-times-lists-requires c κs = (list-sized (c .before .before .before .before .pre .0) (c .before .before .before .if1 .left), list-sized (c .before .before .before .before .pre .1) (c .before .before .if3 .left))
+times-lists-requires c κs =
+    let start = c .before .before .before .before in
+    (list-sized (start .pre .0) (c .before .before .before .if1 .left), list-sized (start .pre .1) (c .before .before .if3 .left))
 
 returns-4 : tie.Need-returns-4
 unfolding times

@@ -42,16 +42,21 @@ shorter-requires : tie.Need-shorter-requires
 shorter-requires c κs = search needs
 
 products-in-requires : tie.Need-products-in-requires
-products-in-requires c κs = shorter-entries (c .before .before .before .before .before .before .before .before .before .args .us) (c .before .before .before .before .before .before .before .before .before .args .ws) (us-list (c .before .before .before .before .before .before .before .before .before)) (ws-list (c .before .before .before .before .before .before .before .before .before)) (c .before .before .shorter .ensures)
+products-in-requires c κs =
+    let start = c .before .before .before .before .before .before .before .before .before in
+    shorter-entries (start .args .us) (start .args .ws) (us-list start) (ws-list start) (c .before .before .shorter .ensures)
 
 returns-2 : tie.Need-returns-2
 returns-2 c =
-    let zero = c .before .before .before .before .before .before .before .from-in in
-    let z = c .before .before .before .before .before .zero .given .0 .0 in
-    let rest = poolOf (zero .last .0) (zero .last .1 .0) (c .before .before .before .before .before .zero .given .0 .1 .0) in
+    let at-zero = c .before .before .before .before .before in
+    let start = at-zero .before .before .before .before .before in
+    let zero = at-zero .before .before .from-in in
+    let z = at-zero .zero .given .0 .0 in
+    let rest = poolOf (zero .last .0) (zero .last .1 .0) (at-zero .zero .given .0 .1 .0) in
     lists-same (c .products-in .ensures)
-    (onward (zero .last .0) (zero .last .1 .0) _ (c .before .before .before .before .before .zero .given .1) (zero .ensures)
-    (ap (λ (n : ℕ). fill (productAt (listOf (c .before .before .before .before .before .before .before .before .before .before .args .us)) (listOf (c .before .before .before .before .before .before .before .before .before .before .args .ws)) z) n [] rest) (shorter-length (c .before .before .before .before .before .before .before .before .before .before .args .us) (c .before .before .before .before .before .before .before .before .before .before .args .ws) (us-list (c .before .before .before .before .before .before .before .before .before .before)) (ws-list (c .before .before .before .before .before .before .before .before .before .before)) (c .before .before .before .shorter .ensures))))
+    (onward (zero .last .0) (zero .last .1 .0) _ (at-zero .zero .given .1) (zero .ensures)
+    (ap (λ (n : ℕ). fill (productAt (listOf (start .args .us)) (listOf (start .args .ws)) z) n [] rest)
+    (shorter-length (start .args .us) (start .args .ws) (us-list start) (ws-list start) (c .before .before .before .shorter .ensures))))
 
 pub times-lists-spec : {M : Type 1} → statement M
 times-lists-spec =

@@ -30,16 +30,22 @@ constant-of-requires : tie.Need-constant-of-requires Inv-loop μ-loop
 constant-of-requires c κs = search needs
 
 loop-holds : tie.Need-loop-holds Inv-loop μ-loop
-loop-holds c = horner-starts _ _ (c .before .args .zero) (c .before .args .outer .len) _ (c .constant-of .ensures) (coded-long (c .before .args .outer) (outer-list (c .before)))
+loop-holds c =
+    let start = c .before in
+    horner-starts _ _ (start .args .zero) (start .args .outer .len) _ (c .constant-of .ensures) (coded-long (start .args .outer) (outer-list start))
 
 sub-i : tie.Need-sub-i Inv-loop μ-loop
 sub-i c = omega (arith, c .loop-test .taken)
 
 at-requires : tie.Need-at-requires Inv-loop μ-loop
-at-requires c κs = (omega (arith, c .loop-test .taken, c .before .loop .inv .within, coded-long (c .before .before .before .args .outer) (outer-list (c .before .before .before))), c .before .before .before .pre .0 .1)
+at-requires c κs =
+    let start = c .before .before .before in
+    (omega (arith, c .loop-test .taken, c .before .loop .inv .within, coded-long (start .args .outer) (outer-list start)), start .pre .0 .1)
 
 step-in-requires : tie.Need-step-in-requires Inv-loop μ-loop
-step-in-requires c κs = (c .before .before .before .before .loop .inv .tidy, c .before .before .before .before .before .before .pre .1)
+step-in-requires c κs =
+    let at-loop = c .before .before .before .before in
+    (at-loop .loop .inv .tidy, at-loop .before .before .pre .1)
 
 enum-known-status : tie.Need-enum-known-status Inv-loop μ-loop
 enum-known-status c = search needs
@@ -48,16 +54,36 @@ enum-told : tie.Need-enum-told Inv-loop μ-loop
 enum-told c = search needs
 
 returns : tie.Need-returns Inv-loop μ-loop
-returns c = horner-stopped (c .before .before .before .before .before .before .before .loop .inv) (c .before .before .before .before .before .before .loop-test .taken) (answers-same (c .before .before .step-in .ensures) (ap (λ (n : ℕ). hornerStep (expansionOf (c .before .before .before .before .before .before .before .before .before .args .inner)) n (expansionOf (c .before .before .before .before .before .before .before .loop .res)) (poolOf (c .before .before .before .before .before .before .before .loop .kinds) (c .before .before .before .before .before .before .before .loop .words) (c .before .before .before .before .before .before .before .loop .left))) (c .before .before .before .before .before .at .ensures))) (c .enum-told .given .1)
+returns c =
+    let step-at = c .before .before .before .before .before in
+    let at-loop = step-at .before .before in
+    let loop = at-loop .loop in
+    horner-stopped (loop .inv) (step-at .before .loop-test .taken)
+    (answers-same (c .before .before .step-in .ensures)
+    (ap (λ (n : ℕ). hornerStep (expansionOf (at-loop .before .before .args .inner)) n (expansionOf (loop .res))
+    (poolOf (loop .kinds) (loop .words) (loop .left))) (step-at .at .ensures))) (c .enum-told .given .1)
 
 loop-less : tie.Need-loop-less Inv-loop μ-loop
-loop-less c = omega (arith, c .before .before .before .before .before .before .before .before .loop-test .taken)
+loop-less c =
+    let at-loop-test = c .before .before .before .before .before .before .before .before in
+    omega (arith, at-loop-test .loop-test .taken)
 
 loop-again : tie.Need-loop-again Inv-loop μ-loop
-loop-again c = horner-onward (c .before .before .before .before .before .before .before .before .before .loop .inv) (c .before .before .before .before .before .before .before .before .loop-test .taken) (answers-same (c .before .before .before .before .step-in .ensures) (ap (λ (n : ℕ). hornerStep (expansionOf (c .before .before .before .before .before .before .before .before .before .before .before .args .inner)) n (expansionOf (c .before .before .before .before .before .before .before .before .before .loop .res)) (poolOf (c .before .before .before .before .before .before .before .before .before .loop .kinds) (c .before .before .before .before .before .before .before .before .before .loop .words) (c .before .before .before .before .before .before .before .before .before .loop .left))) (c .before .before .before .before .before .before .before .at .ensures))) (c .before .before .status .given .1)
+loop-again c =
+    let at-step-in = c .before .before .before .before in
+    let at-loop-test = at-step-in .before .before .before .before in
+    let at-loop = at-loop-test .before in
+    let loop = at-loop .loop in
+    horner-onward (loop .inv) (at-loop-test .loop-test .taken)
+    (answers-same (at-step-in .step-in .ensures)
+    (ap (λ (n : ℕ). hornerStep (expansionOf (at-loop .before .before .args .inner)) n (expansionOf (loop .res))
+    (poolOf (loop .kinds) (loop .words) (loop .left))) (at-step-in .before .before .before .at .ensures))) (c .before .before .status .given .1)
 
 returns-2 : tie.Need-returns-2 Inv-loop μ-loop
-returns-2 c = horner-done (c .before .loop .res) (c .before .loop .left) (c .before .loop .kinds) (c .before .loop .words) (c .before .loop .inv) (c .loop-test .left)
+returns-2 c =
+    let at-loop = c .before in
+    let loop = at-loop .loop in
+    horner-done (loop .res) (loop .left) (loop .kinds) (loop .words) (loop .inv) (c .loop-test .left)
 
 pub horner-in-spec : {M : Type 1} → statement M
 horner-in-spec =

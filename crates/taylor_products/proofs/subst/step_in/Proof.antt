@@ -20,20 +20,28 @@ enum-told : tie.Need-enum-told
 enum-told c = search needs
 
 returns : tie.Need-returns
-returns c = answers-end (λ p. addTo p (Constant (c .before .before .before .before .before .args .c))) (c .before .before .times-in .ensures) (c .enum-told .given .1)
+returns c =
+    let start = c .before .before .before .before .before in
+    answers-end (λ p. addTo p (Constant (start .args .c))) (c .before .before .times-in .ensures) (c .enum-told .given .1)
 
 constant-of-requires : tie.Need-constant-of-requires
 constant-of-requires c κs = search needs
 
 add-in-requires : tie.Need-add-in-requires
-add-in-requires c κs = (tidy-given (c .before .before .before .before .before .before .times-in .ensures .tidy), rw (c .constant-of .ensures) (tidy-given (constant-tidy (c .before .before .before .before .before .before .before .before .before .args .c))))
+add-in-requires c κs =
+    let at-times-in = c .before .before .before .before .before .before in (
+      tidy-given (at-times-in .times-in .ensures .tidy),
+      rw (c .constant-of .ensures) (tidy-given (constant-tidy (at-times-in .before .before .before .args .c))),
+    )
 
 returns-2 : tie.Need-returns-2
 returns-2 c =
-    let product = c .before .before .before .before .before .before .before .times-in in
-    let rest = poolOf (product .last .0) (product .last .1 .0) (c .before .before .before .before .before .status .given .0 .0) in
+    let at-status = c .before .before .before .before .before in
+    let start = at-status .before .before .before .before .before in
+    let product = at-status .before .before .times-in in
+    let rest = poolOf (product .last .0) (product .last .1 .0) (at-status .status .given .0 .0) in
     answers-same (c .add-in .ensures)
-    (answers-onward (λ p. addTo p (Constant (c .before .before .before .before .before .before .before .before .before .before .args .c))) (product .ensures) (c .before .before .before .before .before .status .given .1)
+    (answers-onward (λ p. addTo p (Constant (start .args .c))) (product .ensures) (at-status .status .given .1)
     (ap (λ (e : coded.Expansion). addTo (expansionOf (product .result .expansion)) (expansionOf e) rest) (c .before .constant-of .ensures)))
 
 pub step-in-spec : {M : Type 1} → statement M

@@ -17,7 +17,9 @@ answer-of-requires : tie.Need-answer-of-requires
 answer-of-requires c κs = search needs
 
 returns : tie.Need-returns
-returns c = rw (c .before .before .if1 .taken) (constant-answers (Node (at (c .before .before .before .args .t4 .coeffs) 0) (c .before .before .before .args .room)) _ _ (c .answer-of .ensures) refl)
+returns c =
+    let start = c .before .before .before in
+    rw (c .before .before .if1 .taken) (constant-answers (Node (at (start .args .t4 .coeffs) 0) (start .args .room)) _ _ (c .answer-of .ensures) refl)
 
 from-in-requires : tie.Need-from-in-requires
 from-in-requires c κs = search needs
@@ -33,19 +35,25 @@ answer-of-requires-2 c κs = search needs
 
 returns-2 : tie.Need-returns-2
 returns-2 c =
+    let at-if1 = c .before .before .before .before .before .before in
     let zero = c .before .before .before .from-in in
-    rw (c .before .before .before .before .before .before .if1 .left)
+    rw (at-if1 .if1 .left)
     (refusal-answers (zero .result) (zero .last .0) (zero .last .1 .0) (c .answer-of2 .ensures) (c .before .enum-told .given .1)
     (stopped (zero .last .0) (zero .last .1 .0) _ (c .before .enum-told .given .1) (zero .ensures)))
 
 horner-in-requires : tie.Need-horner-in-requires
-horner-in-requires c κs = ((list-sized (c .before .before .before .before .before .before .before .before .before .pre .0) (c .before .before .before .before .before .before .before .before .if1 .left)), c .before .before .before .before .before .before .before .before .before .pre .1)
+horner-in-requires c κs =
+    let at-if1 = c .before .before .before .before .before .before .before .before in
+    let start = at-if1 .before in
+    ((list-sized (start .pre .0) (at-if1 .if1 .left)), start .pre .1)
 
 returns-3 : tie.Need-returns-3
 returns-3 c =
-    let zero = c .before .before .before .before .before .before .from-in in
-    rw (c .before .before .before .before .before .before .before .before .before .if1 .left)
-    (answers-same (c .horner-in .ensures) (onward (zero .last .0) (zero .last .1 .0) _ (c .before .before .before .before .zero .given .1) (zero .ensures) refl))
+    let at-zero = c .before .before .before .before in
+    let at-if1 = at-zero .before .before .before .before .before in
+    let zero = at-zero .before .before .from-in in
+    rw (at-if1 .if1 .left)
+    (answers-same (c .horner-in .ensures) (onward (zero .last .0) (zero .last .1 .0) _ (at-zero .zero .given .1) (zero .ensures) refl))
 
 pub subst-in-spec : {M : Type 1} → statement M
 subst-in-spec =

@@ -43,10 +43,14 @@ cast-y : tie.Need-cast-y Inv-loop μ-loop
 cast-y c = search needs
 
 mul-y : tie.Need-mul-y Inv-loop μ-loop
-mul-y c = record { fits = omega (arith, c .before .before .loop .inv .least, c .before .before .before .pre .falling, c .before .before .before .pre .falling-most) }
+mul-y c =
+    let start = c .before .before .before in
+    record { fits = omega (arith, c .before .before .loop .inv .least, start .pre .falling, start .pre .falling-most) }
 
 element-copy-out-y : tie.Need-element-copy-out-y Inv-loop μ-loop
-element-copy-out-y c = omega (arith, c .before .before .loop .inv .least, c .before .before .before .pre .falling, c .before .before .before .pre .falling-most)
+element-copy-out-y c =
+    let start = c .before .before .before in
+    omega (arith, c .before .before .loop .inv .least, start .pre .falling, start .pre .falling-most)
 
 term-in-requires : tie.Need-term-in-requires Inv-loop μ-loop
 term-in-requires c κs = search needs
@@ -59,19 +63,42 @@ enum-told c = search needs
 
 returns : tie.Need-returns Inv-loop μ-loop
 returns c =
+    let at-loop-test = c .before .before .before .before .before .before .before in
+    let at-loop = at-loop-test .before in
+    let start = at-loop .before in
+    let loop = at-loop .loop in
     let term = c .before .before .term-in in
-    fold-stopped (c .before .before .before .before .before .before .before .before .loop .inv) (c .before .before .before .before .before .before .before .loop-test .taken) (term .last .0) (term .last .1 .0) (with-those (λ x y. termWork (c .before .before .before .before .before .before .before .before .before .args .rule) x y (c .before .before .before .before .before .before .before .before .loop .j) (c .before .before .before .before .before .before .before .before .loop .sum) (poolOf (c .before .before .before .before .before .before .before .before .loop .kinds) (c .before .before .before .before .before .before .before .before .loop .words) (c .before .before .before .before .before .before .before .before .loop .left))) (sym (getD-take (c .before .before .before .before .before .before .before .before .before .args .t5 .len) (c .before .before .before .before .before .before .before .before .before .args .t5 .coeffs) (c .before .before .before .before .before .before .before .before .loop .j) 0 (omega (arith, c .before .before .before .before .before .before .before .loop-test .taken, c .before .before .before .before .before .before .before .before .before .pre .rising)))) (sym (getD-take (c .before .before .before .before .before .before .before .before .before .args .t6 .len) (c .before .before .before .before .before .before .before .before .before .args .t6 .coeffs) (c .before .before .before .before .before .before .before .before .before .args .k - c .before .before .before .before .before .before .before .before .loop .j) 0 (omega (arith, c .before .before .before .before .before .before .before .loop-test .taken, c .before .before .before .before .before .before .before .before .before .pre .within, c .before .before .before .before .before .before .before .before .before .pre .falling, c .before .before .before .before .before .before .before .before .loop .inv .least)))) (term .ensures)) _ _ (c .enum-told .given .1)
+    fold-stopped (loop .inv) (at-loop-test .loop-test .taken) (term .last .0) (term .last .1 .0)
+    (with-those (λ x y. termWork (start .args .rule) x y (loop .j) (loop .sum) (poolOf (loop .kinds) (loop .words) (loop .left)))
+    (sym (getD-take (start .args .t5 .len) (start .args .t5 .coeffs) (loop .j) 0 (omega (arith, at-loop-test .loop-test .taken, start .pre .rising))))
+    (sym (getD-take (start .args .t6 .len) (start .args .t6 .coeffs) (start .args .k - loop .j) 0
+    (omega (arith, at-loop-test .loop-test .taken, start .pre .within, start .pre .falling, loop .inv .least)))) (term .ensures)) _ _
+    (c .enum-told .given .1)
 
 add-j : tie.Need-add-j Inv-loop μ-loop
-add-j c = omega (arith, c .before .before .before .before .before .before .before .before .loop-test .taken, c .before .before .before .before .before .before .before .before .before .before .pre .within, c .before .before .before .before .before .before .before .before .before .before .pre .rising, c .before .before .before .before .before .before .before .before .before .before .pre .rising-most)
+add-j c =
+    let at-loop-test = c .before .before .before .before .before .before .before .before in
+    let start = at-loop-test .before .before in
+    omega (arith, at-loop-test .loop-test .taken, start .pre .within, start .pre .rising, start .pre .rising-most)
 
 loop-less : tie.Need-loop-less Inv-loop μ-loop
-loop-less c = omega (arith, c .before .before .before .before .before .before .before .before .loop-test .taken)
+loop-less c =
+    let at-loop-test = c .before .before .before .before .before .before .before .before in
+    omega (arith, at-loop-test .loop-test .taken)
 
 loop-again : tie.Need-loop-again Inv-loop μ-loop
 loop-again c =
+    let at-loop-test = c .before .before .before .before .before .before .before .before in
+    let at-loop = at-loop-test .before in
+    let start = at-loop .before in
+    let loop = at-loop .loop in
     let term = c .before .before .before .term-in in
-    fold-onward (c .before .before .before .before .before .before .before .before .before .loop .inv) (c .before .before .before .before .before .before .before .before .loop-test .taken) (term .last .0) (term .last .1 .0) (with-those (λ x y. termWork (c .before .before .before .before .before .before .before .before .before .before .args .rule) x y (c .before .before .before .before .before .before .before .before .before .loop .j) (c .before .before .before .before .before .before .before .before .before .loop .sum) (poolOf (c .before .before .before .before .before .before .before .before .before .loop .kinds) (c .before .before .before .before .before .before .before .before .before .loop .words) (c .before .before .before .before .before .before .before .before .before .loop .left))) (sym (getD-take (c .before .before .before .before .before .before .before .before .before .before .args .t5 .len) (c .before .before .before .before .before .before .before .before .before .before .args .t5 .coeffs) (c .before .before .before .before .before .before .before .before .before .loop .j) 0 (omega (arith, c .before .before .before .before .before .before .before .before .loop-test .taken, c .before .before .before .before .before .before .before .before .before .before .pre .rising)))) (sym (getD-take (c .before .before .before .before .before .before .before .before .before .before .args .t6 .len) (c .before .before .before .before .before .before .before .before .before .before .args .t6 .coeffs) (c .before .before .before .before .before .before .before .before .before .before .args .k - c .before .before .before .before .before .before .before .before .before .loop .j) 0 (omega (arith, c .before .before .before .before .before .before .before .before .loop-test .taken, c .before .before .before .before .before .before .before .before .before .before .pre .within, c .before .before .before .before .before .before .before .before .before .before .pre .falling, c .before .before .before .before .before .before .before .before .before .loop .inv .least)))) (term .ensures)) (c .before .term .given .1)
+    fold-onward (loop .inv) (at-loop-test .loop-test .taken) (term .last .0) (term .last .1 .0)
+    (with-those (λ x y. termWork (start .args .rule) x y (loop .j) (loop .sum) (poolOf (loop .kinds) (loop .words) (loop .left)))
+    (sym (getD-take (start .args .t5 .len) (start .args .t5 .coeffs) (loop .j) 0 (omega (arith, at-loop-test .loop-test .taken, start .pre .rising))))
+    (sym (getD-take (start .args .t6 .len) (start .args .t6 .coeffs) (start .args .k - loop .j) 0
+    (omega (arith, at-loop-test .loop-test .taken, start .pre .within, start .pre .falling, loop .inv .least)))) (term .ensures))
+    (c .before .term .given .1)
 
 returns-2 : tie.Need-returns-2 Inv-loop μ-loop
 returns-2 c = fold-done (c .before .loop .inv) (c .loop-test .left)

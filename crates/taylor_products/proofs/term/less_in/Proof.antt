@@ -24,8 +24,9 @@ sub-nodes-requires c κs = search needs
 
 returns-2 : tie.Need-returns-2
 returns-2 c =
-    let product = c .before .before .before .before .before .before .mul-in in
-    onward (product .last .0) (product .last .1 .0) _ (c .before .before .before .before .product .given .1) (product .ensures) (c .sub-nodes .ensures)
+    let at-product = c .before .before .before .before in
+    let product = at-product .before .before .mul-in in
+    onward (product .last .0) (product .last .1 .0) _ (at-product .product .given .1) (product .ensures) (c .sub-nodes .ensures)
 
 pub less-in-spec : {M : Type 1} → statement M
 less-in-spec =

@@ -24,8 +24,9 @@ add-in-requires c κs = search needs
 
 returns-2 : tie.Need-returns-2
 returns-2 c =
-    let product = c .before .before .before .before .before .before .mul-in in
-    onward (product .last .0) (product .last .1 .0) _ (c .before .before .before .before .product .given .1) (product .ensures) (c .add-in .ensures)
+    let at-product = c .before .before .before .before in
+    let product = at-product .before .before .mul-in in
+    onward (product .last .0) (product .last .1 .0) _ (at-product .product .given .1) (product .ensures) (c .add-in .ensures)
 
 pub plus-in-spec : {M : Type 1} → statement M
 plus-in-spec =

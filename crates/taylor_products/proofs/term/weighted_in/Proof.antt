@@ -30,9 +30,10 @@ enum-told-2 c = search needs
 
 returns-2 : tie.Need-returns-2
 returns-2 c =
-    let product = c .before .before .before .before .before .before .before .before .mul-in in
+    let at-product = c .before .before .before .before .before .before in
+    let product = at-product .before .before .mul-in in
     let weight = c .before .before .from-in in
-    onward (product .last .0) (product .last .1 .0) _ (c .before .before .before .before .before .before .product .given .1) (product .ensures)
+    onward (product .last .0) (product .last .1 .0) _ (at-product .product .given .1) (product .ensures)
     (handed-on (weight .last .0) (weight .last .1 .0) _ _ _ (c .enum-told2 .given .1) (weight .ensures))
 
 plus-in-requires : tie.Need-plus-in-requires
@@ -40,10 +41,12 @@ plus-in-requires c κs = search needs
 
 returns-3 : tie.Need-returns-3
 returns-3 c =
-    let product = c .before .before .before .before .before .before .before .before .before .before .before .before .mul-in in
-    let weight = c .before .before .before .before .before .before .from-in in
-    onward (product .last .0) (product .last .1 .0) _ (c .before .before .before .before .before .before .before .before .before .before .product .given .1) (product .ensures)
-    (onward (weight .last .0) (weight .last .1 .0) _ (c .before .before .before .before .weight .given .1) (weight .ensures) (c .plus-in .ensures))
+    let at-weight = c .before .before .before .before in
+    let at-product = at-weight .before .before .before .before .before .before in
+    let product = at-product .before .before .mul-in in
+    let weight = at-weight .before .before .from-in in
+    onward (product .last .0) (product .last .1 .0) _ (at-product .product .given .1) (product .ensures)
+    (onward (weight .last .0) (weight .last .1 .0) _ (at-weight .weight .given .1) (weight .ensures) (c .plus-in .ensures))
 
 pub weighted-in-spec : {M : Type 1} → statement M
 weighted-in-spec =

@@ -41,9 +41,12 @@ returns c = rw (c .before .before .before .before .rule .given .1) (c .quotient-
 
 returns-2 : tie.Need-returns-2
 returns-2 c =
-    rw (c .before .before .before .before .before .rule2 .given .1)
-    (c .quotient-at2 .ensures
-    ∙ ap (λ (u : ℕ). quotientAt (λ k. u) (listOf (c .before .before .before .before .before .before .before .args .ws)) (c .before .before .before .before .before .rule2 .given .0 .0) (listOf (c .before .before .before .before .before .before .before .args .res)) (c .before .before .before .before .before .before .before .args .k) (poolOf (c .before .before .before .before .before .before .before .args .kinds .now) (c .before .before .before .before .before .before .before .args .words .now) (c .before .before .before .before .before .before .before .args .room))) (c .before .before .before .at .ensures))
+    let at-rule2 = c .before .before .before .before .before in
+    let start = at-rule2 .before .before in
+    rw (at-rule2 .rule2 .given .1)
+    (c .quotient-at2 .ensures ∙ ap
+    (λ (u : ℕ). quotientAt (λ k. u) (listOf (start .args .ws)) (at-rule2 .rule2 .given .0 .0) (listOf (start .args .res)) (start .args .k)
+    (poolOf (start .args .kinds .now) (start .args .words .now) (start .args .room))) (c .before .before .before .at .ensures))
 
 returns-3 : tie.Need-returns-3
 returns-3 c = rw (c .before .before .before .before .rule3 .given .1) (c .exp-at .ensures)

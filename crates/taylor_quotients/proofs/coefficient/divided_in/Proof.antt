@@ -24,8 +24,9 @@ over-in-requires c κs = search needs
 
 returns-2 : tie.Need-returns-2
 returns-2 c =
-    let quotient = c .before .before .before .before .before .before .div-in in
-    onward (quotient .last .0) (quotient .last .1 .0) _ (c .before .before .before .before .quotient .given .1) (quotient .ensures)
+    let at-quotient = c .before .before .before .before in
+    let quotient = at-quotient .before .before .div-in in
+    onward (quotient .last .0) (quotient .last .1 .0) _ (at-quotient .quotient .given .1) (quotient .ensures)
     (c .over-in .ensures)
 
 pub divided-in-spec : {M : Type 1} → statement M

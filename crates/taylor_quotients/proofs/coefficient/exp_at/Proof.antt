@@ -24,8 +24,9 @@ over-in-requires c κs = search needs
 
 returns-2 : tie.Need-returns-2
 returns-2 c =
-    let sum = c .before .before .before .before .before .before .fold-in in
-    onward (sum .last .0) (sum .last .1 .0) _ (c .before .before .before .before .sum .given .1) (sum .ensures)
+    let at-sum = c .before .before .before .before in
+    let sum = at-sum .before .before .fold-in in
+    onward (sum .last .0) (sum .last .1 .0) _ (at-sum .sum .given .1) (sum .ensures)
     (c .over-in .ensures)
 
 pub exp-at-spec : {M : Type 1} → statement M

@@ -30,9 +30,10 @@ enum-told-2 c = search needs
 
 returns-2 : tie.Need-returns-2
 returns-2 c =
-    let number = c .before .before .before .before .before .before .before .before .from-in in
+    let at-number = c .before .before .before .before .before .before in
+    let number = at-number .before .before .from-in in
     let product = c .before .before .mul-in in
-    onward (number .last .0) (number .last .1 .0) _ (c .before .before .before .before .before .before .number .given .1) (number .ensures)
+    onward (number .last .0) (number .last .1 .0) _ (at-number .number .given .1) (number .ensures)
     (handed-on (product .last .0) (product .last .1 .0) _ _ _ (c .enum-told2 .given .1) (product .ensures))
 
 sub-nodes-requires : tie.Need-sub-nodes-requires
@@ -46,11 +47,13 @@ enum-told-3 c = search needs
 
 returns-3 : tie.Need-returns-3
 returns-3 c =
-    let number = c .before .before .before .before .before .before .before .before .before .before .before .before .before .before .from-in in
-    let product = c .before .before .before .before .before .before .before .before .mul-in in
+    let at-product = c .before .before .before .before .before .before in
+    let at-number = at-product .before .before .before .before .before .before in
+    let number = at-number .before .before .from-in in
+    let product = at-product .before .before .mul-in in
     let difference = c .before .before .sub-nodes in
-    onward (number .last .0) (number .last .1 .0) _ (c .before .before .before .before .before .before .before .before .before .before .before .before .number .given .1) (number .ensures)
-    (onward (product .last .0) (product .last .1 .0) _ (c .before .before .before .before .before .before .product .given .1) (product .ensures)
+    onward (number .last .0) (number .last .1 .0) _ (at-number .number .given .1) (number .ensures)
+    (onward (product .last .0) (product .last .1 .0) _ (at-product .product .given .1) (product .ensures)
     (handed-on (difference .last .0) (difference .last .1 .0) _ _ _ (c .enum-told3 .given .1) (difference .ensures)))
 
 divided-in-requires : tie.Need-divided-in-requires
@@ -58,12 +61,15 @@ divided-in-requires c κs = search needs
 
 returns-4 : tie.Need-returns-4
 returns-4 c =
-    let number = c .before .before .before .before .before .before .before .before .before .before .before .before .before .before .before .before .before .before .from-in in
-    let product = c .before .before .before .before .before .before .before .before .before .before .before .before .mul-in in
-    let difference = c .before .before .before .before .before .before .sub-nodes in
-    onward (number .last .0) (number .last .1 .0) _ (c .before .before .before .before .before .before .before .before .before .before .before .before .before .before .before .before .number .given .1) (number .ensures)
-    (onward (product .last .0) (product .last .1 .0) _ (c .before .before .before .before .before .before .before .before .before .before .product .given .1) (product .ensures)
-    (onward (difference .last .0) (difference .last .1 .0) _ (c .before .before .before .before .difference .given .1) (difference .ensures)
+    let at-difference = c .before .before .before .before in
+    let at-product = at-difference .before .before .before .before .before .before in
+    let at-number = at-product .before .before .before .before .before .before in
+    let number = at-number .before .before .from-in in
+    let product = at-product .before .before .mul-in in
+    let difference = at-difference .before .before .sub-nodes in
+    onward (number .last .0) (number .last .1 .0) _ (at-number .number .given .1) (number .ensures)
+    (onward (product .last .0) (product .last .1 .0) _ (at-product .product .given .1) (product .ensures)
+    (onward (difference .last .0) (difference .last .1 .0) _ (at-difference .difference .given .1) (difference .ensures)
     (c .divided-in .ensures)))
 
 pub less-in-spec : {M : Type 1} → statement M

@@ -35,9 +35,14 @@ less-in-requires c κs = search needs
 
 returns-2 : tie.Need-returns-2
 returns-2 c =
-    let sum = c .before .before .before .before .before .before .before .before .fold-in in
-    onward (sum .last .0) (sum .last .1 .0) _ (c .before .before .before .before .before .before .sum .given .1) (sum .ensures)
-    (with-those (λ x u. lessWork x u (c .before .before .before .before .before .before .before .before .before .before .before .args .k) (c .before .before .before .before .before .before .sum .given .0 .0) (poolOf (sum .last .0) (sum .last .1 .0) (c .before .before .before .before .before .before .sum .given .0 .1 .0))) (c .before .before .before .before .at .ensures) (c .before .before .before .at2 .ensures) (c .less-in .ensures))
+    let step-at = c .before .before .before .before in
+    let at-sum = step-at .before .before in
+    let start = at-sum .before .before .before .before .before in
+    let sum = at-sum .before .before .fold-in in
+    onward (sum .last .0) (sum .last .1 .0) _ (at-sum .sum .given .1) (sum .ensures)
+    (with-those
+    (λ x u. lessWork x u (start .args .k) (at-sum .sum .given .0 .0) (poolOf (sum .last .0) (sum .last .1 .0) (at-sum .sum .given .0 .1 .0)))
+    (step-at .at .ensures) (c .before .before .before .at2 .ensures) (c .less-in .ensures))
 
 pub log-at-spec : {M : Type 1} → statement M
 log-at-spec =

@@ -24,8 +24,9 @@ div-in-requires c κs = search needs
 
 returns-2 : tie.Need-returns-2
 returns-2 c =
-    let number = c .before .before .before .before .before .before .from-in in
-    onward (number .last .0) (number .last .1 .0) _ (c .before .before .before .before .number .given .1) (number .ensures)
+    let at-number = c .before .before .before .before in
+    let number = at-number .before .before .from-in in
+    onward (number .last .0) (number .last .1 .0) _ (at-number .number .given .1) (number .ensures)
     (c .div-in .ensures)
 
 pub over-in-spec : {M : Type 1} → statement M

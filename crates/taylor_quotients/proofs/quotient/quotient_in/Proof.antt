@@ -31,8 +31,10 @@ answer-of-requires c κs = search needs
 
 returns : tie.Need-returns
 returns c =
+    let at-if2 = c .before .before .before .before .before in
     let made = c .before .div-in in
-    rw (c .before .before .before .before .before .before .before .if1 .taken, c .before .before .before .before .before .if2 .taken) (constant-answers (made .result) (made .last .0) (made .last .1 .0) (c .answer-of .ensures) (made .ensures))
+    rw (at-if2 .before .before .if1 .taken, at-if2 .if2 .taken)
+    (constant-answers (made .result) (made .last .0) (made .last .1 .0) (c .answer-of .ensures) (made .ensures))
 
 recurrence-in-requires : tie.Need-recurrence-in-requires
 recurrence-in-requires c κs =
@@ -41,30 +43,41 @@ recurrence-in-requires c κs =
 
 returns-2 : tie.Need-returns-2
 returns-2 c =
+    let at-if1 = c .before .before .before .before .before in
+    let start = at-if1 .before in
     let test = c .before .before .before .if2 .left in
-    let start = c .before .before .before .before .before .before in
-    rw (c .before .before .before .before .before .if1 .taken, test) (answers-same (lists-answer (c .recurrence-in .ensures)) (constant-over-is (start .args .t5) (rhs-list start test) (poolOf (start .args .kinds .now) (start .args .words .now) (start .args .room)) (at (start .args .t4 .coeffs) 0)))
+    rw (at-if1 .if1 .taken, test)
+    (answers-same (lists-answer (c .recurrence-in .ensures))
+    (constant-over-is (start .args .t5) (rhs-list start test) (poolOf (start .args .kinds .now) (start .args .words .now) (start .args .room))
+    (at (start .args .t4 .coeffs) 0)))
 
 element-copy-out-r-2 : tie.Need-element-copy-out-r-2
 element-copy-out-r-2 c = search needs
 
 entries-in-requires : tie.Need-entries-in-requires
-entries-in-requires c κs = all-entries (c .before .before .before .before .before .args .t4) (lhs-list (c .before .before .before .before .before) (c .before .before .before .before .if1 .left))
+entries-in-requires c κs =
+    let at-if1 = c .before .before .before .before in
+    let start = at-if1 .before in
+    all-entries (start .args .t4) (lhs-list start (at-if1 .if1 .left))
 
 returns-3 : tie.Need-returns-3
 returns-3 c =
-    let test = c .before .before .before .before .before .if1 .left in
-    let start = c .before .before .before .before .before .before in
-    rw (test, c .before .before .before .before .if3 .taken)
-    (lists-answer (each-lists (start .args .t4) (lhs-list start test) (λ u. div u (at (start .args .t5 .coeffs) 0)) (poolOf (start .args .kinds .now) (start .args .words .now) (start .args .room)) (c .entries-in .ensures)))
+    let at-if3 = c .before .before .before .before in
+    let start = at-if3 .before .before in
+    let test = at-if3 .before .if1 .left in
+    rw (test, at-if3 .if3 .taken)
+    (lists-answer (each-lists (start .args .t4) (lhs-list start test) (λ u. div u (at (start .args .t5 .coeffs) 0))
+    (poolOf (start .args .kinds .now) (start .args .words .now) (start .args .room)) (c .entries-in .ensures)))
 
 shorter-requires : tie.Need-shorter-requires
 shorter-requires c κs = search needs
 
 recurrence-in-requires-2 : tie.Need-recurrence-in-requires-2
 recurrence-in-requires-2 c κs =
-    let start = c .before .before .before .before .before in
-    shorter-entries (start .args .t4) (start .args .t5) (lhs-list start (c .before .before .before .before .if1 .left)) (rhs-list start (c .before .before .before .if3 .left)) (c .shorter .ensures)
+    let at-if1 = c .before .before .before .before in
+    let start = at-if1 .before in
+    shorter-entries (start .args .t4) (start .args .t5) (lhs-list start (at-if1 .if1 .left)) (rhs-list start (c .before .before .before .if3 .left))
+    (c .shorter .ensures)
 
 returns-4 : tie.Need-returns-4
 returns-4 c =
@@ -73,7 +86,8 @@ returns-4 c =
     let rhs = c .before .before .before .before .if3 .left in
     rw (lhs, rhs)
     (answers-same (lists-answer (c .recurrence-in2 .ensures))
-    (list-over-is (start .args .t4) (start .args .t5) (lhs-list start lhs) (rhs-list start rhs) (c .before .shorter .ensures) (poolOf (start .args .kinds .now) (start .args .words .now) (start .args .room))))
+    (list-over-is (start .args .t4) (start .args .t5) (lhs-list start lhs) (rhs-list start rhs) (c .before .shorter .ensures)
+    (poolOf (start .args .kinds .now) (start .args .words .now) (start .args .room))))
 
 pub quotient-in-spec : {M : Type 1} → statement M
 quotient-in-spec =

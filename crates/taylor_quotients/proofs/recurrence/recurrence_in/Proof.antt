@@ -49,13 +49,17 @@ answer-of-requires-2 c κs = search needs
 
 returns-2 : tie.Need-returns-2
 returns-2 c =
-    let factor = c .before .before .before .scale-for in
-    let came = c .before .before .before .before .before .before .before .before in
-    let none = came .before .before .from-in in
+    let step-at = c .before .before .before .before .before .before in
+    let came = step-at .before .before in
     let start = came .before .before .before .before .before in
+    let factor = c .before .before .before .scale-for in
+    let none = came .before .before .from-in in
     refusal-lists (factor .result) (factor .last .0) (factor .last .1 .0) (c .answer-of2 .ensures) (c .before .enum-told2 .given .1)
     (onward (none .last .0) (none .last .1 .0) _ (came .none .given .1) (none .ensures)
-    (stopped (factor .last .0) (factor .last .1 .0) _ (c .before .enum-told2 .given .1) (factor .ensures ∙ ap (λ (w : ℕ). scaleFor (start .args .op) w (came .none .given .0 .0) (poolOf (none .last .0) (none .last .1 .0) (came .none .given .0 .1 .0))) (c .before .before .before .before .before .before .at .ensures))))
+    (stopped (factor .last .0) (factor .last .1 .0) _ (c .before .enum-told2 .given .1)
+    (factor .ensures ∙ ap
+    (λ (w : ℕ). scaleFor (start .args .op) w (came .none .given .0 .0) (poolOf (none .last .0) (none .last .1 .0) (came .none .given .0 .1 .0)))
+    (step-at .at .ensures))))
 
 at-requires-2 : tie.Need-at-requires-2
 at-requires-2 c κs = search needs
@@ -74,37 +78,59 @@ answer-of-requires-3 c κs = search needs
 
 returns-3 : tie.Need-returns-3
 returns-3 c =
-    let first = c .before .before .before .first-of in
-    let scaled = c .before .before .before .before .before .before .before .before in
-    let factor = scaled .before .before .scale-for in
-    let came = scaled .before .before .before .before .before .before .before in
-    let none = came .before .before .from-in in
+    let step-at2 = c .before .before .before .before .before .before in
+    let scaled = step-at2 .before .before in
+    let step-at = scaled .before .before .before .before .before in
+    let came = step-at .before .before in
     let start = came .before .before .before .before .before in
+    let first = c .before .before .before .first-of in
+    let factor = scaled .before .before .scale-for in
+    let none = came .before .before .from-in in
     refusal-lists (first .result) (first .last .0) (first .last .1 .0) (c .answer-of3 .ensures) (c .before .enum-told3 .given .1)
     (onward (none .last .0) (none .last .1 .0) _ (came .none .given .1) (none .ensures)
-    (onward (factor .last .0) (factor .last .1 .0) _ (scaled .factor .given .1) (factor .ensures ∙ ap (λ (w : ℕ). scaleFor (start .args .op) w (came .none .given .0 .0) (poolOf (none .last .0) (none .last .1 .0) (came .none .given .0 .1 .0))) (scaled .before .before .before .before .before .at .ensures))
-    (stopped (first .last .0) (first .last .1 .0) _ (c .before .enum-told3 .given .1) (first .ensures ∙ ap (λ (u : ℕ). firstOf (start .args .op) u (scaled .factor .given .0 .0) (poolOf (factor .last .0) (factor .last .1 .0) (scaled .factor .given .0 .1 .0))) (c .before .before .before .before .before .before .at2 .ensures)))))
+    (onward (factor .last .0) (factor .last .1 .0) _ (scaled .factor .given .1)
+    (factor .ensures ∙ ap
+    (λ (w : ℕ). scaleFor (start .args .op) w (came .none .given .0 .0) (poolOf (none .last .0) (none .last .1 .0) (came .none .given .0 .1 .0)))
+    (step-at .at .ensures))
+    (stopped (first .last .0) (first .last .1 .0) _ (c .before .enum-told3 .given .1)
+    (first .ensures ∙ ap
+    (λ (u : ℕ). firstOf (start .args .op) u (scaled .factor .given .0 .0)
+    (poolOf (factor .last .0) (factor .last .1 .0) (scaled .factor .given .0 .1 .0))) (step-at2 .at2 .ensures)))))
 
 rule-of-requires : tie.Need-rule-of-requires
 rule-of-requires c κs = search needs
 
 rest-in-requires : tie.Need-rest-in-requires
-rest-in-requires c κs = c .before .before .before .before .before .before .before .before .before .before .before .before .before .before .before .before .before .before .before .before .before .before .before .pre
+rest-in-requires c κs =
+    let earlier = c .before .before .before .before .before .before .before in
+    let earlier2 = earlier .before .before .before .before .before .before .before .before in
+    let start = earlier2 .before .before .before .before .before .before .before .before in
+    start .pre
 
 returns-4 : tie.Need-returns-4
 returns-4 c =
     let made = c .before .before .before .before .before in
-    let first = made .before .before .first-of in
-    let scaled = made .before .before .before .before .before .before .before in
-    let factor = scaled .before .before .scale-for in
-    let came = scaled .before .before .before .before .before .before .before in
-    let none = came .before .before .from-in in
+    let step-at2 = made .before .before .before .before .before in
+    let scaled = step-at2 .before .before in
+    let step-at = scaled .before .before .before .before .before in
+    let came = step-at .before .before in
     let start = came .before .before .before .before .before in
+    let first = made .before .before .first-of in
+    let factor = scaled .before .before .scale-for in
+    let none = came .before .before .from-in in
     lists-same (c .rest-in .ensures)
     (onward (none .last .0) (none .last .1 .0) _ (came .none .given .1) (none .ensures)
-    (onward (factor .last .0) (factor .last .1 .0) _ (scaled .factor .given .1) (factor .ensures ∙ ap (λ (w : ℕ). scaleFor (start .args .op) w (came .none .given .0 .0) (poolOf (none .last .0) (none .last .1 .0) (came .none .given .0 .1 .0))) (scaled .before .before .before .before .before .at .ensures))
-    (onward (first .last .0) (first .last .1 .0) _ (made .start .given .1) (first .ensures ∙ ap (λ (u : ℕ). firstOf (start .args .op) u (scaled .factor .given .0 .0) (poolOf (factor .last .0) (factor .last .1 .0) (scaled .factor .given .0 .1 .0))) (made .before .before .before .before .before .at2 .ensures))
-    (ap (λ (r : Recurrence). fill (coefficientWork r (listOf (start .args .us)) (listOf (start .args .ws))) (start .args .n - 1) (made .start .given .0 .0 ∷ []) (poolOf (first .last .0) (first .last .1 .0) (made .start .given .0 .1 .0))) (c .before .before .before .rule-of .ensures)))))
+    (onward (factor .last .0) (factor .last .1 .0) _ (scaled .factor .given .1)
+    (factor .ensures ∙ ap
+    (λ (w : ℕ). scaleFor (start .args .op) w (came .none .given .0 .0) (poolOf (none .last .0) (none .last .1 .0) (came .none .given .0 .1 .0)))
+    (step-at .at .ensures))
+    (onward (first .last .0) (first .last .1 .0) _ (made .start .given .1)
+    (first .ensures ∙ ap
+    (λ (u : ℕ). firstOf (start .args .op) u (scaled .factor .given .0 .0)
+    (poolOf (factor .last .0) (factor .last .1 .0) (scaled .factor .given .0 .1 .0))) (step-at2 .at2 .ensures))
+    (ap (λ (r : Recurrence). fill (coefficientWork r (listOf (start .args .us)) (listOf (start .args .ws))) (start .args .n - 1)
+    (made .start .given .0 .0 ∷ []) (poolOf (first .last .0) (first .last .1 .0) (made .start .given .0 .1 .0)))
+    (c .before .before .before .rule-of .ensures)))))
 
 pub recurrence-in-spec : {M : Type 1} → statement M
 recurrence-in-spec =

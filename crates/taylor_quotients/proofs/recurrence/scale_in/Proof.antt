@@ -24,8 +24,9 @@ div-in-requires c κs = search needs
 
 returns-2 : tie.Need-returns-2
 returns-2 c =
-    let one = c .before .before .before .before .before .before .from-in in
-    onward (one .last .0) (one .last .1 .0) _ (c .before .before .before .before .one .given .1) (one .ensures)
+    let at-one = c .before .before .before .before in
+    let one = at-one .before .before .from-in in
+    onward (one .last .0) (one .last .1 .0) _ (at-one .one .given .1) (one .ensures)
     (c .div-in .ensures)
 
 pub scale-in-spec : {M : Type 1} → statement M
