@@ -5,6 +5,7 @@ use mathlib.Core.Bool.{Bool, true, false}
 use mathlib.Core.List.{List, [], _∷_}
 use Prim.Native.Nat.{ℕ, _-_, _<_, _≤_}
 use native.Mathlib.Omega.{arith}
+use Rattle.refusals.specs.Demand.{demand}
 use Rattle.refusals.specs.Refusals.{wrongLength, wrongEntry, wrongSequence}
 use Rattle.pool.specs.Nodes.{mayStandAt}
 use Rattle.pool.specs.Pool.{limit, Pool, Out, Run, refused, bind, nodeIn, each}
@@ -13,7 +14,7 @@ use Rattle.shape.specs.File.{sizeOf, entryIn, entryOf, areNodes, areInOrder, is
 use Rattle.shape.specs.Demand.{Below}
 use Rattle.shape.proofs.Entries.{only}
 use Rattle.shape.proofs.Reading.{Passes, sized-facts}
-use Rattle.node_read.specs.Reads.{acceptedSize, Entered, orRefused, testFile, FileTested}
+use Rattle.node_read.specs.Reads.{acceptedSize, Entered, testFile, FileTested}
 use Rattle.node_read.specs.declared.Tested.{Tested}
 use Rattle.node_read.specs.declared.Tested.the-variants.{Entries, Refused}
 use Rattle.node_read.proofs.Sizes.{wrong-size, sized-where-some, size-is}
@@ -78,7 +79,7 @@ unfolding readFile testFile afterTest
 read-is bs P = go (isSized bs) (areNodes bs) (isInOrder bs)
   where
     go : (s n o : Bool)
-        → afterTest (orRefused s wrongLength (orRefused n wrongEntry (orRefused o wrongSequence (Entries (sizeOf bs))))) (entryOf bs) P
+        → afterTest (demand Refused s wrongLength (demand Refused n wrongEntry (demand Refused o wrongSequence (Entries (sizeOf bs))))) (entryOf bs) P
         ≡ bind (passes s wrongLength P) (λ i P. bind (passes n wrongEntry P) (λ j P. bind (passes o wrongSequence P) (λ k. appendShifted (sizeOf bs) (entryOf bs))))
     go true true true = refl
     go true true false = refl
@@ -91,7 +92,7 @@ unfolding testFile
 right-where-told {bs} {n} e = go (isSized bs) (areNodes bs) (isInOrder bs) refl refl refl e
   where
     go : (s a o : Bool) → isSized bs ≡ s → areNodes bs ≡ a → isInOrder bs ≡ o
-        → Entries n ≡ orRefused s wrongLength (orRefused a wrongEntry (orRefused o wrongSequence (Entries (sizeOf bs)))) → Passes bs × (n ≡ sizeOf bs)
+        → Entries n ≡ demand Refused s wrongLength (demand Refused a wrongEntry (demand Refused o wrongSequence (Entries (sizeOf bs)))) → Passes bs × (n ≡ sizeOf bs)
     go true true true s a o e = (record { sized = s; nodes = a; ordered = o }, cc)
     go true true false s a o e = absurd (not-both e)
     go true false o s a _ e = absurd (not-both e)

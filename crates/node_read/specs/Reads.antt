@@ -5,6 +5,7 @@ use mathlib.Core.Bool.{Bool, true, false}
 use mathlib.Core.List.{List}
 use Prim.Native.Nat.{ℕ, _+_, _*_, _<_, _≤_}
 use lib.ListN.{length, getD}
+use Rattle.refusals.specs.Demand.{demand}
 use Rattle.refusals.specs.Refusals.{wrongLength, wrongEntry, wrongSequence}
 use Rattle.pool.specs.Nodes.{parts, mayStandAt}
 use Rattle.pool.specs.Pool.{limit, nodeIn, each}
@@ -39,14 +40,9 @@ pub record Entered (r : Bool) (first n : ℕ) (bs k w : List ℕ) : Type 0 where
   pub copied : r ≡ true → nodeIn k w ≡ entryIn first n bs
   pub falls : r ≡ true → Falls (nodeIn k w)
 
--- a test that has to pass: else the refusal k
-abbrev pub orRefused : Bool → ℕ → Tested → Tested
-orRefused true k then = then
-orRefused false k then = Refused k
-
 -- 7, 8 and 9, "smallest number first": how many entries the file has, or the refusal
 unfoldable pub testFile : List ℕ → Tested
-testFile bs = orRefused (isSized bs) wrongLength (orRefused (areNodes bs) wrongEntry (orRefused (isInOrder bs) wrongSequence (Entries (sizeOf bs))))
+testFile bs = demand Refused (isSized bs) wrongLength (demand Refused (areNodes bs) wrongEntry (demand Refused (isInOrder bs) wrongSequence (Entries (sizeOf bs))))
 
 -- the answer is that test; where the file passes, the tables k and w have its entries, and each part is below its node
 pub record FileTested (r : Tested) (bs k w : List ℕ) : Type 0 where
