@@ -16,7 +16,8 @@ use Rattle.pool.specs.Nodes.{kindOf}
 use Rattle.pool.specs.Parts.{partsIn}
 use Rattle.pool.specs.Reaches.{some, reachesAt, reaches}
 use Rattle.pool.specs.declared.node.Node.{Node}
-use Rattle.pool.specs.declared.node.Node.the-variants.{Empty}
+use Rattle.pool.specs.declared.node.Node.the-variants.{Empty, Variable, Lit, Add, Mul, Div, Exp, Log, Pow}
+use Rattle.pool.specs.declared.node.Node.the-variants as node
 use Rattle.pool.specs.declared.parts.Parts.{Parts}
 use Rattle.pool.specs.declared.parts.Parts.the-variants.{None, One, Two}
 use Rattle.pool.proofs.Folds.{visits, same-under}
@@ -40,6 +41,22 @@ first-decides x y r e t = rw (← e, t)
 
 pub second-decides : (x y r s : Bool) → r ≡ x → r ≡ false → s ≡ y → s ≡ (x || y)
 second-decides x y r s e f g = rw (← e, f, g)
+
+-- a leaf meets no test, and has no parts
+pub leaf-reaches-nothing : (test : Test) (down : ℕ → Bool) (n : Node) → kindOf n < 3 → false ≡ reachesAt (testOf test) down n
+leaf-reaches-nothing Max down Empty h = refl
+leaf-reaches-nothing Max down (Variable v) h = refl
+leaf-reaches-nothing Max down (Lit z) h = refl
+leaf-reaches-nothing ExpOrLog down Empty h = refl
+leaf-reaches-nothing ExpOrLog down (Variable v) h = refl
+leaf-reaches-nothing ExpOrLog down (Lit z) h = refl
+leaf-reaches-nothing test down (Add a b) h = absurd (omega arith)
+leaf-reaches-nothing test down (Mul a b) h = absurd (omega arith)
+leaf-reaches-nothing test down (Div a b) h = absurd (omega arith)
+leaf-reaches-nothing test down (Exp a) h = absurd (omega arith)
+leaf-reaches-nothing test down (Log a) h = absurd (omega arith)
+leaf-reaches-nothing test down (Pow a e) h = absurd (omega arith)
+leaf-reaches-nothing test down (node.Max a b) h = absurd (omega arith)
 
 -- what is found at the parts that were told is found at the node's parts
 module _ (down : ℕ → Bool) {p : Parts} {its : List ℕ} (told : partsIn p ≡ its) where

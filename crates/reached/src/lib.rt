@@ -16,7 +16,9 @@ pub enum Test {
     ExpOrLog,
 }
 
-// The kinds that are looked for, by document 01's table.
+// The first kind with parts, and those that are looked for, by document 01's table.
+const ADD: u8 = 3;
+
 const EXP: u8 = 6;
 
 const LOG: u8 = 7;
@@ -67,11 +69,14 @@ fn kept_of_parts(found: &[bool; LIMIT], i: u32, node: Node) -> bool
     }
 }
 
-// Whether a node meets the test or one of its parts reaches one that does.
+// Whether a node meets the test or one of its parts reaches one that does. A leaf does neither, and is told apart first: it is the most frequent kind.
 fn node_reaches(found: &[bool; LIMIT], i: u32, test: Test, node: Node) -> bool
     requires { ⌜ i ≤ limit ⌝ }
     ensures { λ r. ⌜ r ≡ reachesAt (testOf test) (keptBelow (now (found .entry)) i) node ⌝ }
 {
+    if pool::kind_of(node) < ADD {
+        return false;
+    }
     if meets(test, node) {
         return true;
     }
