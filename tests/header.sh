@@ -80,7 +80,7 @@ ORDER_MAX - - taylor greatestOrder
 TERMS taylor_base TERMS - -
 VALUES_MAX engine_values VALUES_MAX engine_values mostValues
 MODULUS residue MODULUS_MAX residue fixedModulus
-TEXT_MAX print TEXT_MAX walks longestText
+TEXT_MAX low_bytes TEXT_MAX low_bytes longestText
 FILE_MAX - - - -
 CONSTANT lent_series ENDLESS taylor endless
 LIMITS
