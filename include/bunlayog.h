@@ -26,11 +26,11 @@
  * Stack in bytes, as measured (docs/MEASUREMENTS.md has more figures, and the worst pool for each):
  *   check, taylor_order, taylor_from_coefficients       1,024
  *   lit, var and the constructors                      81,880
- *   the other operations on expansions                 85,640
+ *   the other operations on expansions                 86,616
  *   write, read                                       368,784
  *   substitute_var, derive, evaluate, evaluate_residue,
  *   print                                           1,478,280
- *   taylor_coeffs, taylor_coeffs_at                 1,764,024
+ *   taylor_coeffs, taylor_coeffs_at                 1,764,040
  *
  * The archive is for x86-64 Linux. It calls memcpy and memset and nothing else, and has no data that can be written.
  */
