@@ -1,2 +1,3 @@
 pub mod Variable
 pub mod Read
+pub mod First

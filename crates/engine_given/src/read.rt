@@ -1,6 +1,7 @@
 // What is only read of an expansion.
 ghost use mathlib.Core.Path.{_≡_};
-ghost use Rattle.engine_given.specs.Read.{countOf, coefficientsOf, firstRefusal};
+ghost use Rattle.engine_given.specs.Read.{countOf, coefficientsOf};
+ghost use Rattle.engine_given.specs.First.{firstRefusal};
 use lent_series::Outcome;
 use lent_series::Series;
 
@@ -10,7 +11,7 @@ pub enum Counted {
     Refused(u32),
 }
 
-// The first of 1, 2 and 5 that holds, or 0.
+// The first of 1, 2 and 5 that is met, or 0.
 fn refusal_of(kinds: &[u8], words: &[u64], count: u64, s: Series) -> u32
     ensures { λ r. ⌜ r ≡ firstRefusal (now (kinds .entry)) (now (words .entry)) count s ⌝ }
 {

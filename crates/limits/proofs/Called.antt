@@ -1,10 +1,10 @@
 -- What a call answers on a pool that keeps the rules: what its work gives, since 1 is passed.
 -- Assumes nothing.
 use mathlib.Core.Path.{_≡_, _∙_}
-use mathlib.Core.Bool.{true, false, not, cond}
+use mathlib.Core.Bool.{true, false, not}
 use mathlib.Core.List.{List, [], _∷_}
 use Prim.Native.Nat.{ℕ}
-use lib.Dec.{eqb, leb}
+use lib.Dec.{leb}
 use lib.Ieee.{Float}
 use lib.ListN.{length}
 use Rattle.refusals.specs.Refusals.{unknownNode, wrongOrder, wrongValues, maxReached, noRoom}
@@ -22,9 +22,8 @@ use Rattle.shape.specs.File.{writtenFile}
 use Rattle.lent.specs.Call.{leaves, lentPool, demand}
 use Rattle.lent.specs.declared.Answer.the-variants as answered
 use Rattle.lent_series.specs.declared.series.Series.{Series}
-use Rattle.lent_series.specs.Series.{nodesOf, lengthOk}
+use Rattle.lent_series.specs.Series.{nodesOf, lengthOk, given}
 use Rattle.lent_series.specs.Call.{accepted, refusedOutcome}
-use Rattle.engine_given.specs.Read as operations
 use Rattle.engine_values.specs.Values.{mostValues, evaluateCall, areResidues, evaluateResidueCall}
 use Rattle.lent.specs.Writing.{Put, unwritten, writes}
 use Rattle.engine_print.specs.Printing.{textFits, printCall}
@@ -40,11 +39,8 @@ worked work ks ws n = nodeGiven (leaves answered.Node answered.Refused ks ws n (
 abbrev pub expansionWorked : Work Expansion → List ℕ → List ℕ → ℕ → Answer
 expansionWorked work ks ws n = orderGiven (leaves accepted refusedOutcome ks ws n (work (lentPool ks ws n)) .answer)
 
-abbrev pub refusalOfList : Series → ℕ → ℕ
-refusalOfList s n = cond (allBelow n (nodesOf s)) (cond (lengthOk s) 0 wrongOrder) unknownNode
-
 abbrev pub listWorked : Series → ℕ → Answer
-listWorked s n = orderGiven (operations.expansionOr (eqb (refusalOfList s n) 0) (refusalOfList s n) s)
+listWorked s n = orderGiven (demand refusedOutcome (allBelow n (nodesOf s)) unknownNode (demand refusedOutcome (lengthOk s) wrongOrder (accepted (given s))))
 
 abbrev pub valueWorked : List Float → ℕ → List ℕ → List ℕ → ℕ → Answer
 valueWorked values root ks ws n =

@@ -1,4 +1,4 @@
--- Whether a node that meets a test is reached: the root, or one that a part of a reached node is.
+-- Whether a node that meets a test is reached; reached are "the root and each part of a reachable node".
 -- Assumes nothing.
 use mathlib.Core.Bool.{Bool, false, _||_}
 use mathlib.Core.List.{List, [], _∷_}
@@ -8,7 +8,7 @@ use Rattle.pool.specs.declared.node.Node.{Node}
 use Rattle.pool.specs.Nodes.{kindOf, parts}
 use Rattle.pool.specs.Fold.{foldNodes}
 
--- one of some parts, by what `down` says of each
+-- whether `down` holds of one of these parts
 abbrev pub some : (ℕ → Bool) → List ℕ → Bool
 some down [] = false
 some down (a ∷ more) = down a || some down more

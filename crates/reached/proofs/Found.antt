@@ -2,7 +2,7 @@
 -- Assumes nothing.
 use mathlib.Core.Path.{_≡_, refl, sym, ap, _∙_}
 use mathlib.Core.Bool.{Bool, true, false, _||_}
-use mathlib.Core.List.{List}
+use mathlib.Core.List.{List, []}
 use Prim.Native.Nat.{ℕ, _+_, _<_, _≤_}
 use native.Mathlib.Omega.{arith}
 use native.Mathlib.Decide.{ℕ-discrete}
@@ -12,7 +12,7 @@ use lib.Seq.{getD-set-same, getD-set-other}
 use borrow.Author.Tests.{lt-ltb, le-ltb, ne-eqb}
 use Rattle.pool.specs.Pool.{limit, nodeIn}
 use Rattle.pool.specs.Fold.{under}
-use Rattle.pool.specs.Nodes.{kindOf}
+use Rattle.pool.specs.Nodes.{kindOf, parts}
 use Rattle.pool.specs.Parts.{partsIn}
 use Rattle.pool.specs.Reaches.{some, reachesAt, reaches}
 use Rattle.pool.specs.declared.node.Node.{Node}
@@ -42,21 +42,21 @@ first-decides x y r e t = rw (← e, t)
 pub second-decides : (x y r s : Bool) → r ≡ x → r ≡ false → s ≡ y → s ≡ (x || y)
 second-decides x y r s e f g = rw (← e, f, g)
 
--- a leaf meets no test, and has no parts
-pub leaf-reaches-nothing : (test : Test) (down : ℕ → Bool) (n : Node) → kindOf n < 3 → false ≡ reachesAt (testOf test) down n
-leaf-reaches-nothing Max down Empty h = refl
-leaf-reaches-nothing Max down (Variable v) h = refl
-leaf-reaches-nothing Max down (Lit z) h = refl
-leaf-reaches-nothing ExpOrLog down Empty h = refl
-leaf-reaches-nothing ExpOrLog down (Variable v) h = refl
-leaf-reaches-nothing ExpOrLog down (Lit z) h = refl
-leaf-reaches-nothing test down (Add a b) h = absurd (omega arith)
-leaf-reaches-nothing test down (Mul a b) h = absurd (omega arith)
-leaf-reaches-nothing test down (Div a b) h = absurd (omega arith)
-leaf-reaches-nothing test down (Exp a) h = absurd (omega arith)
-leaf-reaches-nothing test down (Log a) h = absurd (omega arith)
-leaf-reaches-nothing test down (Pow a e) h = absurd (omega arith)
-leaf-reaches-nothing test down (node.Max a b) h = absurd (omega arith)
+-- a leaf has no parts
+leaf-parts : (n : Node) → kindOf n < 3 → parts n ≡ []
+leaf-parts Empty h = refl
+leaf-parts (Variable v) h = refl
+leaf-parts (Lit z) h = refl
+leaf-parts (Add a b) h = absurd (omega arith)
+leaf-parts (Mul a b) h = absurd (omega arith)
+leaf-parts (Div a b) h = absurd (omega arith)
+leaf-parts (Exp a) h = absurd (omega arith)
+leaf-parts (Log a) h = absurd (omega arith)
+leaf-parts (Pow a e) h = absurd (omega arith)
+leaf-parts (node.Max a b) h = absurd (omega arith)
+
+pub leaf-decides : (down : ℕ → Bool) (n : Node) → kindOf n < 3 → false ≡ some down (parts n)
+leaf-decides down n h = rw (leaf-parts n h)
 
 -- what is found at the parts that were told is found at the node's parts
 module _ (down : ℕ → Bool) {p : Parts} {its : List ℕ} (told : partsIn p ≡ its) where

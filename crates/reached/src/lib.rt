@@ -69,16 +69,16 @@ fn kept_of_parts(found: &[bool; LIMIT], i: u32, node: Node) -> bool
     }
 }
 
-// Whether a node meets the test or one of its parts reaches one that does. A leaf does neither, and is told apart first: it is the most frequent kind.
+// Whether a node meets the test or one of its parts reaches one that does. A leaf has no parts, and is told apart by one comparison: many nodes are leaves.
 fn node_reaches(found: &[bool; LIMIT], i: u32, test: Test, node: Node) -> bool
     requires { ⌜ i ≤ limit ⌝ }
     ensures { λ r. ⌜ r ≡ reachesAt (testOf test) (keptBelow (now (found .entry)) i) node ⌝ }
 {
-    if pool::kind_of(node) < ADD {
-        return false;
-    }
     if meets(test, node) {
         return true;
+    }
+    if pool::kind_of(node) < ADD {
+        return false;
     }
     kept_of_parts(found, i, node)
 }

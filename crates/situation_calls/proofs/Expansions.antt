@@ -1,11 +1,11 @@
 -- The calls on expansions: checks in their order, then the work, whose numbers the crate situations has; and the number 0 stands beside an expansion only.
 -- Assumes nothing.
 use mathlib.Core.Path.{_≡_, refl}
-use mathlib.Core.Bool.{Bool, true, false, _&&_, cond}
+use mathlib.Core.Bool.{Bool, true, false, _&&_}
 use mathlib.Core.List.{List, [], _∷_, _++_}
 use Prim.Native.Nat.{ℕ, zero, suc, _^_, _<_}
 use native.Mathlib.Omega.{arith}
-use lib.Dec.{eqb, leb, ltb}
+use lib.Dec.{leb, ltb}
 use lib.IntN.{ℤ}
 use lib.ListN.{getD}
 use Rattle.refusals.specs.Refusals.{brokenPool, unknownNode, unknownVariable, notLiteral, wrongOrder}
@@ -14,7 +14,7 @@ use Rattle.pool.specs.Nodes.{allBelow, greatestVariable}
 use Rattle.pool.specs.Pool.{Pool, isPool, done, refused}
 use Rattle.shape.specs.Demand.{KeepsRules}
 use Rattle.taylor.specs.Work.{Result, Work}
-use Rattle.taylor.specs.Expansion.{Expansion, var, coeff, derivative, negate, exponential, logarithm, power, addTo, subFrom, times, quotient, maximum, subst}
+use Rattle.taylor.specs.Expansion.{Expansion, order, var, coeff, derivative, negate, exponential, logarithm, power, addTo, subFrom, times, quotient, maximum, subst}
 use Rattle.taylor.specs.Expand.{Point, none, point, expand}
 use Rattle.taylor_base.specs.Answers.{terms}
 use Rattle.lent.specs.Call.{leaves, lentPool, demand, onPool}
@@ -23,7 +23,8 @@ use Rattle.lent_series.specs.Series.{nodesOf, lengthOk, given}
 use Rattle.lent_series.specs.Call.{accepted, refusedOutcome, seriesOnPool, givenSeries, givenTwo}
 use Rattle.engine_index.specs.Indices.{hasIndex, givenIndex}
 use Rattle.engine_given.specs.Variable.{varCall}
-use Rattle.engine_given.specs.Read.{counted, countOf, expansionOr, coefficientsOf}
+use Rattle.engine_given.specs.Read.{countOf, coefficientsOf}
+use Rattle.engine_given.specs.declared.read.Counted.the-variants as counted
 use Rattle.engine_pairs.specs.Pairs.{agree}
 use Rattle.engine_expand.specs.Expressions.{expandWork}
 use Rattle.situations.specs.Refusal.{Among, ofResult}
@@ -74,13 +75,10 @@ module _ (ks ws : List ℕ) (n : ℕ) (fit : (i : ℕ) → getD ws i 0 < 2 ^ 64)
   two-call s t fits work h = three-checks (allBelow n (nodesOf s) && allBelow n (nodesOf t)) fits work h
 
   -- what is only read
-  abbrev first : Bool → Bool → Bool → ℕ
-  first p b l = cond p (cond b (cond l 0 wrongOrder) unknownNode) brokenPool
-
   order-answers : (s : Series) → ByTable table.of-order (oneTested ks ws n s (lengthOk s)) (ofCounted (countOf ks ws n s))
   order-answers s = go (isPool ks ws n) (allBelow n (nodesOf s)) (lengthOk s)
     where
-      go : (p b l : Bool) → ByTable table.of-order (p ∷ b ∷ l ∷ []) (ofCounted (counted (eqb (first p b l) 0) (first p b l) s))
+      go : (p b l : Bool) → ByTable table.of-order (p ∷ b ∷ l ∷ []) (ofCounted (demand counted.Refused p brokenPool (demand counted.Refused b unknownNode (demand counted.Refused l wrongOrder (counted.Count (order (given s)))))))
       go true true true = passing 1 (passing 2 (passing 5 (working tt)))
       go true true false = passing 1 (passing 2 (failing 5))
       go true false l = passing 1 (failing 2)
@@ -89,7 +87,7 @@ module _ (ks ws : List ℕ) (n : ℕ) (fit : (i : ℕ) → getD ws i 0 < 2 ^ 64)
   read-answers : (s : Series) → ExpansionByTable table.of-from-coefficients (oneTested ks ws n s (lengthOk s)) (coefficientsOf ks ws n s)
   read-answers s = go (isPool ks ws n) (allBelow n (nodesOf s)) (lengthOk s)
     where
-      go : (p b l : Bool) → ExpansionByTable table.of-from-coefficients (p ∷ b ∷ l ∷ []) (expansionOr (eqb (first p b l) 0) (first p b l) s)
+      go : (p b l : Bool) → ExpansionByTable table.of-from-coefficients (p ∷ b ∷ l ∷ []) (demand refusedOutcome p brokenPool (demand refusedOutcome b unknownNode (demand refusedOutcome l wrongOrder (accepted (given s)))))
       go true true true = record { by-table = passing 1 (passing 2 (passing 5 (working tt))); zero-accepts = λ z. (given s, refl) }
       go true true false = record { by-table = passing 1 (passing 2 (failing 5)); zero-accepts = λ z. absurd (omega arith) }
       go true false l = record { by-table = passing 1 (failing 2); zero-accepts = λ z. absurd (omega arith) }

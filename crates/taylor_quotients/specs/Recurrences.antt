@@ -52,7 +52,7 @@ pub record Next (us res : coded.Expansion) (k : ℕ) : Type 0 where
   pub most : us .len ≤ terms
   pub so-far : res .len ≡ k
 
--- scale = one / ws[0] of a quotient by ws; any number else
+-- scale = one / ws[0] of a quotient by ws; else the zero, which is not used
 abbrev pub scaleFor : Operation → ℕ → ℕ → Work ℕ
 scaleFor (ConstantOver c) w z = scaleOf w
 scaleFor ListOver w z = scaleOf w
