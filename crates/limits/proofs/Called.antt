@@ -26,7 +26,8 @@ use Rattle.lent_series.specs.Series.{nodesOf, lengthOk, given}
 use Rattle.lent_series.specs.Call.{accepted, refusedOutcome}
 use Rattle.engine_values.specs.Values.{mostValues, evaluateCall, areResidues, evaluateResidueCall}
 use Rattle.lent.specs.Writing.{Put, unwritten, writes}
-use Rattle.engine_print.specs.Printing.{textFits, printCall}
+use Rattle.low_bytes.specs.Output.{textFits}
+use Rattle.engine_print.specs.Printing.{printCall}
 use Rattle.engine_file.specs.Write.{fileOver, writeCall}
 use Rattle.limits.specs.Lent.{Entry, Lent, lent, kindsOf, wordsOf}
 use Rattle.limits.specs.Calls.{Answer, refuses, nodeGiven, called, orderGiven, expanded, listed, bitsGiven, evaluated, residueGiven, evaluatedByResidues, output, printed, lengthWritten, written, bytesIn, text, file}

@@ -22,7 +22,7 @@ use Rattle.walks.specs.Print.{textOf}
 use Rattle.lent.specs.Call.{demand}
 use Rattle.lent.specs.declared.Written.the-variants.{Length}
 use Rattle.lent.specs.Writing.{put, unwritten, writes}
-use Rattle.engine_print.specs.Printing.{textFits}
+use Rattle.low_bytes.specs.Output.{textFits}
 use Rattle.limits.specs.Lent.{lent, kindsOf, wordsOf, text65535, text65536}
 use Rattle.limits.specs.Calls.{Answer, gives, refuses, output, lengthWritten, printed}
 use Rattle.limits_texts.specs.Outputs.{Outputs}

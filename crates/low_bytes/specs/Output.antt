@@ -1,14 +1,20 @@
 -- A text written to an output from a position on, byte after byte, and cut off past the longest one.
 -- Assumes nothing.
 use mathlib.Core.Path.{_≡_}
+use mathlib.Core.Bool.{Bool, _&&_}
 use mathlib.Core.List.{List}
 use Prim.Native.Nat.{ℕ, _+_, _≤_, min}
+use lib.Dec.{leb}
 use lib.ListN.{length}
 use lib.Seq.{sets}
 
 -- 19. "a text has more than 65,535 bytes"
 abbrev pub longestText : ℕ
 longestText = 65535
+
+-- not 19. "The lent output is too short, or a text has more than 65,535 bytes."
+abbrev pub textFits : List ℕ → List ℕ → Bool
+textFits text out = leb (length text) longestText && leb (length text) (length out)
 
 -- where counting stops: a text of this many bytes or more is too long
 abbrev pub pastLongest : ℕ

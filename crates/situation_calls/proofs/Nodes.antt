@@ -33,7 +33,8 @@ use Rattle.lent.specs.Call.{demand, leaves, lentPool, onPool, givenNodes, given
 use Rattle.lent.specs.declared.Answer.the-variants as answer
 use Rattle.engine_values.specs.Values.{mostValues, areResidues, evaluateCall, evaluateResidueCall}
 use Rattle.lent.specs.Writing.{Put, unwritten, writes}
-use Rattle.engine_print.specs.Printing.{textFits, printCall}
+use Rattle.low_bytes.specs.Output.{textFits}
+use Rattle.engine_print.specs.Printing.{printCall}
 use Rattle.engine_file.specs.Write.{writeCall}
 use Rattle.situations.specs.Refusal.{Among, ofOut, ofValued, ofDivided}
 use Rattle.situations.proofs.Steps.{Refusing, _>>=_, append-refuses}
