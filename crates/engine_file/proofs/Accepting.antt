@@ -1,14 +1,12 @@
 -- An accepted call of writing: its root was given, its file fits, and the file is what it has written, whatever the output's length and earlier contents.
 -- Assumes nothing.
-use mathlib.Core.Path.{_≡_, refl, ap, _∙_, subst⁻¹}
+use mathlib.Core.Path.{_≡_, refl, ap, _∙_}
 use mathlib.Core.Logic.{_↔_}
-use mathlib.Core.Bool.{Bool, true, false}
 use mathlib.Core.List.{List, [], _∷_}
 use Prim.Native.Nat.{ℕ, _+_, _*_, _<_, _≤_}
 use native.Mathlib.Omega.{arith}
 use lib.Dec.{leb}
-use lib.ListN.{length, drop}
-use lib.Seq.{take-append-seam}
+use lib.ListN.{length}
 use borrow.Author.Tests.{leb-true, le-leb, lt-ltb}
 use Rattle.refusals.specs.Refusals.{brokenPool, unknownNode, noRoom}
 use Rattle.pool.specs.Nodes.{allBelow}
@@ -19,21 +17,10 @@ use Rattle.shape.proofs.Pools.{rules-of}
 use Rattle.shape.proofs.Demand3.{length-of-a-file, size-of-a-file}
 use Rattle.lent.proofs.Finishing.{one-is-below}
 use Rattle.lent.specs.Call.{demand}
-use Rattle.lent.specs.Writing.{Put, unwritten, writes}
+use Rattle.lent.specs.Writing.{Put, unwritten, writes, Accepted, bytesWritten}
+use Rattle.lent.proofs.Writing.{passed, bytes-are-there}
 use Rattle.engine_file.specs.Write.{fileOver, writeCall}
-use Rattle.engine_file.specs.Outcome.{writtenFrom, fileIn, Accepted}
-use Rattle.lent.specs.declared.Written.{Written}
-use Rattle.lent.specs.declared.Written.the-variants.{Length, Refused}
-
-IsLength : Written → Type 0
-IsLength (Length n) = Unit {0}
-IsLength (Refused k) = ⊥
-
--- an accepted call has passed each test
-passed : (old : List ℕ) (t : Bool) (k : ℕ) (then : Put) → Accepted (demand (unwritten old) t k then) → (t ≡ true) × (demand (unwritten old) t k then ≡ then) × Accepted then
-unfolding IsLength
-passed old true k then a = (refl, refl, a)
-passed old false k then (m, e) = absurd (subst⁻¹ IsLength e tt)
+use Rattle.engine_file.specs.Outcome.{writtenFrom}
 
 module _ (P : Pool) (r : ℕ) (old : List ℕ) where
   abbrev file : List ℕ
@@ -56,8 +43,8 @@ module _ (P : Pool) (r : ℕ) (old : List ℕ) where
       let (room, last, a₃) = passed old (leb (length file) (length old)) noRoom written a₂ in
       record { given = one-is-below (P .count) r known; fits = leb-true (length file) (length old) room; is = whole ∙ rest ∙ last }
 
-  pub file-is-there : Accepted (writtenFrom P r old) → fileIn (writtenFrom P r old) ≡ fileFrom P r
-  file-is-there a = ap fileIn (accepted-writes a .is) ∙ take-append-seam file (drop (length file) old)
+  pub file-is-there : Accepted (writtenFrom P r old) → bytesWritten (writtenFrom P r old) ≡ fileFrom P r
+  file-is-there a = ap bytesWritten (accepted-writes a .is) ∙ bytes-are-there file old
 
   module _ (k : KeepsRules P) (l : r < P .count) where
     fits-accepted : length file ≤ length old → Accepted (writtenFrom P r old)

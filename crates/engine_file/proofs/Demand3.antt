@@ -14,13 +14,14 @@ use Rattle.shape.proofs.Demand3.{same-file-for-one-shape, accepts-node-files, a
 use Rattle.lent.specs.Call.{leaves}
 use Rattle.lent.specs.declared.Answer.{Answer}
 use Rattle.lent.specs.declared.Answer.the-variants.{Node, Refused}
-use Rattle.engine_file.specs.Outcome.{writtenFrom, fileIn, Accepted, readInto, poolReturned, Gives}
+use Rattle.lent.specs.Writing.{Accepted, bytesWritten}
+use Rattle.engine_file.specs.Outcome.{writtenFrom, readInto, poolReturned, Gives}
 use Rattle.engine_file.proofs.Accepting.{accepted-writes, file-is-there, accepted-where-the-file-fits}
 
 -- (a) "the written node files are equal byte for byte exactly when the expressions have one shape": of any two accepted calls, whatever their outputs' lengths and earlier contents
 pub same-bytes-written-for-one-shape :
     (P Q : Pool) → KeepsRules P → KeepsRules Q → (r s : ℕ) (old other : List ℕ) → Accepted (writtenFrom P r old) → Accepted (writtenFrom Q s other)
-    → (fileIn (writtenFrom P r old) ≡ fileIn (writtenFrom Q s other)) ↔ SameShape P r Q s
+    → (bytesWritten (writtenFrom P r old) ≡ bytesWritten (writtenFrom Q s other)) ↔ SameShape P r Q s
 same-bytes-written-for-one-shape P Q k m r s old other a b =
     let both = same-file-for-one-shape P Q k m r s (accepted-writes P r old a .given) (accepted-writes Q s other b .given) in
     let f = file-is-there P r old a in
@@ -66,7 +67,7 @@ reading-leaves-the-rules bs are P k whole i given =
     subst⁻¹ (Leaves bs P i) (returned-pool-is P k whole bs e (after .end-kept)) after
 
 module _ (bs : List ℕ) (are : AreBytes bs) (P : Pool) (k : KeepsRules P) (whole : P .end ≡ limit) (i : ℕ) (given : Gives (readInto P bs) i) (old : List ℕ) where
-  pub written-again-the-same : Accepted (writtenFrom (poolReturned (readInto P bs)) i old) → fileIn (writtenFrom (poolReturned (readInto P bs)) i old) ≡ bs
+  pub written-again-the-same : Accepted (writtenFrom (poolReturned (readInto P bs)) i old) → bytesWritten (writtenFrom (poolReturned (readInto P bs)) i old) ≡ bs
   written-again-the-same a = file-is-there (poolReturned (readInto P bs)) i old a ∙ reading-leaves-the-rules bs are P k whole i given .same-bytes
 
   pub written-again-where-it-fits : Accepted (writtenFrom (poolReturned (readInto P bs)) i old) ↔ (length bs ≤ length old)
@@ -78,8 +79,8 @@ module _ (bs : List ℕ) (are : AreBytes bs) (P : Pool) (k : KeepsRules P) (whol
 
 -- "A node file reads back to the expression it came from": what an accepted `write` has written, `read` accepts into any pool with room, and the shape is the same
 pub written-reads-back :
-    (P Q : Pool) → KeepsRules P → KeepsRules Q → (r : ℕ) → Q .end ≡ limit → (old : List ℕ) → Accepted (writtenFrom P r old) → HasRoom (sizeOf (fileIn (writtenFrom P r old))) Q
-    → (s : ℕ) × Gives (readInto Q (fileIn (writtenFrom P r old))) s × SameShape P r (poolReturned (readInto Q (fileIn (writtenFrom P r old)))) s
+    (P Q : Pool) → KeepsRules P → KeepsRules Q → (r : ℕ) → Q .end ≡ limit → (old : List ℕ) → Accepted (writtenFrom P r old) → HasRoom (sizeOf (bytesWritten (writtenFrom P r old))) Q
+    → (s : ℕ) × Gives (readInto Q (bytesWritten (writtenFrom P r old))) s × SameShape P r (poolReturned (readInto Q (bytesWritten (writtenFrom P r old)))) s
 written-reads-back P Q k m r whole old a room =
     let there = file-is-there P r old a in
     let (s, R, e, shape, after) = reads-back P Q k m r (accepted-writes P r old a .given) (subst (λ bs. HasRoom (sizeOf bs) Q) there room) in

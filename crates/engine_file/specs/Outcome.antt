@@ -1,9 +1,8 @@
--- What demand 3 says of the calls speaks of these: the file that a call of writing has written, and the pool that a call of reading returns.
+-- What demand 3 says of the calls speaks of these: a call of writing from a root of a pool, and the pool that a call of reading returns.
 -- Assumes nothing.
 use mathlib.Core.Path.{_≡_}
-use mathlib.Core.List.{List, []}
+use mathlib.Core.List.{List}
 use Prim.Native.Nat.{ℕ}
-use lib.ListN.{take}
 use Rattle.pool.specs.Pool.{Pool}
 use Rattle.shape.specs.File.{readFile}
 use Rattle.lent.specs.Call.{Returned, lentPool, onPool}
@@ -11,24 +10,10 @@ use Rattle.lent.specs.declared.Answer.{Answer}
 use Rattle.lent.specs.declared.Answer.the-variants.{Node}
 use Rattle.engine_file.specs.Write.{writeCall}
 use Rattle.lent.specs.Writing.{Put}
-use Rattle.lent.specs.declared.Written.{Written}
-use Rattle.lent.specs.declared.Written.the-variants.{Length, Refused}
 
 -- writing from a root of a lent pool
 abbrev pub writtenFrom : Pool → ℕ → List ℕ → Put
 writtenFrom P root old = writeCall (P .kinds) (P .words) (P .count) root old
-
--- the bytes of the file in the output, none after a refusal
-abbrev pub bytesIn : Written → List ℕ → List ℕ
-bytesIn (Length m) out = take m out
-bytesIn (Refused k) out = []
-
-abbrev pub fileIn : Put → List ℕ
-fileIn o = bytesIn (o .answer) (o .out)
-
--- the call is accepted, with a length
-abbrev pub Accepted : Put → Type 0
-Accepted o = (m : ℕ) × (o .answer ≡ Length m)
 
 -- reading into a lent pool, that is full at the limit
 abbrev pub readInto : Pool → List ℕ → Returned Answer

@@ -4,3 +4,4 @@ pub mod Tested
 pub mod Taken
 pub mod Finishing
 pub mod Calling
+pub mod Writing

@@ -9,7 +9,8 @@ use Rattle.shape.specs.Order.{entries}
 use Rattle.shape.specs.File.{fileOf}
 use Rattle.shape.specs.Demand.{KeepsRules}
 use Rattle.engine_file.specs.Write.{fileOver, writeCall}
-use Rattle.engine_file.specs.Outcome.{writtenFrom, fileIn, Accepted}
+use Rattle.lent.specs.Writing.{Accepted, bytesWritten}
+use Rattle.engine_file.specs.Outcome.{writtenFrom}
 use Rattle.engine_file.proofs.Accepting.{accepted-writes, file-is-there}
 use Rattle.writing.specs.Numbering.{Numbers}
 use Rattle.writing.proofs.Numbering.{file-of-the-numbering}
@@ -19,5 +20,5 @@ module _ (P : Pool) (k : KeepsRules P) (r : ℕ) (old : List ℕ) {o : List ℕ}
   unfolding writeCall
   write-leaves-the-numbering l = rw (k .rules, lt-ltb r (P .count) l) (ap (fileOver old) (file-of-the-numbering P k r l n))
 
-  pub accepted-writes-the-numbering : Accepted (writtenFrom P r old) → fileIn (writtenFrom P r old) ≡ fileOf (entries (nodeAt P) o)
+  pub accepted-writes-the-numbering : Accepted (writtenFrom P r old) → bytesWritten (writtenFrom P r old) ≡ fileOf (entries (nodeAt P) o)
   accepted-writes-the-numbering a = file-is-there P r old a ∙ file-of-the-numbering P k r (accepted-writes P r old a .given) n
