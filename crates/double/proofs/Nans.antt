@@ -1,10 +1,11 @@
 -- NaNs: a double differs from itself exactly where it is one, and there is one pattern of bits for it.
 -- Assumes nothing.
-use mathlib.Core.Path.{_≡_, refl, _∙_, sym}
+use mathlib.Core.Path.{_≡_, refl, _∙_, sym, ap}
 use mathlib.Core.Bool.{true, false, not}
-use Prim.Native.Nat.{_*_}
+use Prim.Native.Nat.{ℕ, _*_}
 use lib.Dec.{T}
-use lib.Ieee.{Float, nan, inf, fin, binary64, up, down, ne, lt, isNan, toBits}
+use lib.Ieee.{Float, nan, inf, fin, binary64, up, down, ne, lt, div, isNan, nanBits, ofBits, toBits}
+use lib.Ieee.Bits.{nanBits-is}
 use borrow.Author.Tests.{eq-eqb}
 use Rattle.double.specs.Double.{maxOf}
 
@@ -16,14 +17,24 @@ differs-if-nan (inf false) = refl
 differs-if-nan (fin true m e) = rw (eq-eqb (m * up e * down e) (m * up e * down e) refl)
 differs-if-nan (fin false m e) = rw (eq-eqb (m * up e * down e) (m * up e * down e) refl)
 
-pub bits-of-nan : (x : Float) → ne x x ≡ true → toBits binary64 nan ≡ toBits binary64 x
+-- there is one NaN
+nan-is : (x : Float) → isNan x ≡ true → nan ≡ x
 unfolding isNan
-bits-of-nan x t = go x (sym (differs-if-nan x) ∙ t)
-  where
-    go : (x : Float) → isNan x ≡ true → toBits binary64 nan ≡ toBits binary64 x
-    go nan t = refl
-    go (inf s) t = let z : false ≡ true = t in cc
-    go (fin s m e) t = let z : false ≡ true = t in cc
+nan-is nan t = refl
+nan-is (inf s) t = let z : false ≡ true = t in cc
+nan-is (fin s m e) t = let z : false ≡ true = t in cc
+
+pub bits-of-nan : (x : Float) → ne x x ≡ true → toBits binary64 nan ≡ toBits binary64 x
+bits-of-nan x t = ap (toBits binary64) (nan-is x (sym (differs-if-nan x) ∙ t))
+
+-- 0/0, where 0 is written by its bits
+no-quotient : nan ≡ div binary64 (ofBits binary64 0) (ofBits binary64 0)
+unfolding div ofBits
+no-quotient = refl
+
+-- every pattern of a NaN means what 0/0 is
+pub nan-of-bits : (b : ℕ) → nanBits binary64 b ≡ true → div binary64 (ofBits binary64 0) (ofBits binary64 0) ≡ ofBits binary64 b
+nan-of-bits b t = sym no-quotient ∙ nan-is (ofBits binary64 b) (sym (nanBits-is binary64 b) ∙ t)
 
 pub no-nan : (x : Float) → ne x x ≡ false → T (not (isNan x))
 no-nan x t = rw (sym (differs-if-nan x) ∙ t) tt

@@ -1,6 +1,6 @@
 // Doubles by document 01's rules: each operation rounds once, in a fixed order.
 ghost use mathlib.Core.Path.{_≡_};
-ghost use lib.Ieee.{binary64, add, mul, div, toBits};
+ghost use lib.Ieee.{binary64, add, mul, div, toBits, nanBits, ofBits};
 ghost use Rattle.double.specs.Double.{doubleOf, powOf, maxOf};
 
 // What an evaluation gives: a double, or the refusal number of document 01.
@@ -78,4 +78,30 @@ pub fn bits(x: f64) -> u64
         return 0x7ff8_0000_0000_0000;
     }
     f64::to_bits(x)
+}
+
+// The weight of the sign, the weight of the exponent's field, and that field of an infinity or a NaN.
+const SIGN: u64 = 0x8000_0000_0000_0000;
+
+const EXPONENT: u64 = 0x10_0000_0000_0000;
+
+const ONES: u64 = 2047;
+
+fn is_nan(bits: u64) -> bool
+    ensures { λ r. ⌜ r ≡ nanBits binary64 bits ⌝ }
+{
+    if bits % SIGN / EXPONENT == ONES {
+        return bits % EXPONENT != 0;
+    }
+    false
+}
+
+// The double of 64 bits. Every pattern of a NaN gives the one NaN.
+pub fn of_bits(bits: u64) -> f64
+    ensures { λ r. ⌜ r ≡ ofBits binary64 bits ⌝ }
+{
+    if is_nan(bits) {
+        return quotient(0.0, 0.0);
+    }
+    f64::from_bits(bits)
 }

@@ -1,10 +1,8 @@
 // A list of numbers in a text, and whether two tables are equal: what the program `replay` reads and compares with.
-mod doubles;
 mod numbers;
 mod same;
 mod tables;
 
-pub use doubles::double_of;
 pub use numbers::at_end;
 pub use numbers::next;
 pub use same::same_bytes;

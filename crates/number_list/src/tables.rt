@@ -1,5 +1,4 @@
 // Tables whose entries are the next numbers of a text. What finds no place in the table is passed over.
-use crate::doubles::double_of;
 use crate::numbers::next;
 
 // No table of a list is longer.
@@ -79,7 +78,7 @@ fn set_double(out: &mut [f64], i: usize, double: f64) {
 pub fn next_doubles(text: &[u8], at: &mut usize, n: usize, out: &mut [f64]) {
     let mut i = 0;
     while i < n {
-        set_double(out, i, double_of(next(text, at)));
+        set_double(out, i, double::of_bits(next(text, at)));
         i += 1;
     }
 }

@@ -3,7 +3,6 @@ use crate::got::Got;
 use crate::got::UNLISTED;
 use crate::got::of_refusal;
 use double::Valued;
-use number_list::double_of;
 use number_list::half_of;
 use number_list::length_of;
 use number_list::next;
@@ -90,7 +89,7 @@ fn evaluate_residue(text: &[u8], at: &mut usize, k: &[u8], w: &[u64], count: u64
 fn evaluate_alike(text: &[u8], at: &mut usize, k: &[u8], w: &[u64], count: u64) -> Got {
     let root = next(text, at);
     let length = length_of(next(text, at));
-    let value = double_of(next(text, at));
+    let value = double::of_bits(next(text, at));
     let table = [value; ALIKE_MAX];
     of_valued(with_doubles(k, w, count, root, &table, length))
 }

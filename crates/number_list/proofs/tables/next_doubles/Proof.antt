@@ -20,8 +20,8 @@ loop-holds c = refl
 next-requires : tie.Need-next-requires Inv-loop μ-loop
 next-requires c κs = tt
 
-double-of-requires : tie.Need-double-of-requires Inv-loop μ-loop
-double-of-requires c κs = tt
+of-bits-requires : tie.Need-of-bits-requires Inv-loop μ-loop
+of-bits-requires c κs = tt
 
 set-double-requires : tie.Need-set-double-requires Inv-loop μ-loop
 set-double-requires c κs = tt
@@ -49,7 +49,7 @@ next-doubles-spec =
     μ-loop
     loop-holds
     next-requires
-    double-of-requires
+    of-bits-requires
     set-double-requires
     add-i
     loop-less

@@ -1,9 +1,9 @@
--- `number_list::doubles::is_nan` meets its contract: the exponent's field is all ones, and the digits' field is not 0.
+-- `double::is_nan` meets its contract: the exponent's field is all ones, and the digits' field is not 0.
 -- Assumes nothing.
 use lib.Ieee.{nanBits}
 use borrow.Author.Tests.{eq-eqb, ne-eqb}
-use Rattle.number_list.proofs.doubles.is_nan.Statement.{statement}
-use Rattle.number_list.proofs.doubles.is_nan.Tie as tie
+use Rattle.double.proofs.is_nan.Statement.{statement}
+use Rattle.double.proofs.is_nan.Tie as tie
 
 returns : tie.Need-returns
 unfolding nanBits

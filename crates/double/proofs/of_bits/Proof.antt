@@ -1,12 +1,12 @@
--- `number_list::doubles::double_of` meets its contract: the pattern of a NaN is sorted out first.
+-- `double::of_bits` meets its contract: the pattern of a NaN is sorted out first, and 0/0 is the NaN that it means.
 -- Assumes nothing.
 use mathlib.Core.Path.{sym, _∙_, subst}
 use mathlib.Core.Bool.{Bool, not}
 use lib.Dec.{T}
 use borrow.Author.Needs.{needs}
-use Rattle.number_list.proofs.Equal.{true-is-not-false}
-use Rattle.number_list.proofs.doubles.double_of.Statement.{statement}
-use Rattle.number_list.proofs.doubles.double_of.Tie as tie
+use Rattle.double.proofs.Nans.{nan-of-bits}
+use Rattle.double.proofs.of_bits.Statement.{statement}
+use Rattle.double.proofs.of_bits.Tie as tie
 
 is-nan-requires : tie.Need-is-nan-requires
 is-nan-requires c κs = search needs
@@ -15,7 +15,7 @@ quotient-requires : tie.Need-quotient-requires
 quotient-requires c κs = search needs
 
 returns : tie.Need-returns
-returns c = λ no. true-is-not-false (sym (c .before .if1 .taken) ∙ c .before .before .is-nan .ensures ∙ no)
+returns c = c .quotient .ensures ∙ nan-of-bits _ (sym (c .before .before .is-nan .ensures) ∙ c .before .if1 .taken)
 
 float-from-bits-result : tie.Need-float-from-bits-result
 float-from-bits-result c = subst (λ (t : Bool). T (not t)) (sym (c .if1 .left) ∙ c .before .is-nan .ensures) tt
@@ -23,6 +23,6 @@ float-from-bits-result c = subst (λ (t : Bool). T (not t)) (sym (c .if1 .left) 
 returns-2 : tie.Need-returns-2
 returns-2 c = search needs
 
-pub double-of-spec : {M : Type 1} → statement M
-double-of-spec =
+pub of-bits-spec : {M : Type 1} → statement M
+of-bits-spec =
     tie.close (tie.spec is-nan-requires quotient-requires returns float-from-bits-result returns-2)
