@@ -38,17 +38,17 @@ not-below b h = rw (lt-leb 48 b h)
 not-above : (b : ℕ) → 57 < b → isDigit b ≡ false
 not-above b h = rw (le-leb 48 b (omega arith), lt-leb b 57 h)
 
--- the digits before i gave n, and those from i on go on from it
-pub record Reading (bytes : List ℕ) (n i : ℕ) : Type 0 where
+-- from a number on, the digits before i gave n, and those from i on go on from it
+pub record Reading (before : ℕ) (bytes : List ℕ) (n i : ℕ) : Type 0 where
   pub within : i ≤ length bytes
   pub small : n ≤ cutAt
-  pub gives : cutNumber (digitsFrom n (drop i bytes)) ≡ cutNumber (digitsFrom 0 bytes)
+  pub gives : cutNumber (digitsFrom n (drop i bytes)) ≡ cutNumber (digitsFrom before bytes)
 
-pub starts : (bytes : List ℕ) → Reading bytes 0 0
-starts bytes = record { within = omega arith; small = omega arith; gives = refl }
+pub starts : (before : ℕ) (bytes : List ℕ) → before ≤ cutAt → Reading before bytes before 0
+starts before bytes h = record { within = omega arith; small = h; gives = refl }
 
-module _ (bytes : List ℕ) (n i : ℕ) (r : Reading bytes n i) where
-  next : (h : i < length bytes) (t : Bool) → isDigit (getD bytes i 0) ≡ t → cutNumber (when t (digitsFrom (10 * n + (getD bytes i 0 - 48)) (drop (i + 1) bytes))) ≡ cutNumber (digitsFrom 0 bytes)
+module _ (before : ℕ) (bytes : List ℕ) (n i : ℕ) (r : Reading before bytes n i) where
+  next : (h : i < length bytes) (t : Bool) → isDigit (getD bytes i 0) ≡ t → cutNumber (when t (digitsFrom (10 * n + (getD bytes i 0 - 48)) (drop (i + 1) bytes))) ≡ cutNumber (digitsFrom before bytes)
   unfolding digitsFrom
   next h t e =
       ap (λ (s : Bool). cutNumber (when s (digitsFrom (10 * n + (getD bytes i 0 - 48)) (drop (i + 1) bytes)))) (sym e)
@@ -56,7 +56,7 @@ module _ (bytes : List ℕ) (n i : ℕ) (r : Reading bytes n i) where
       ∙ ap (λ (l : List ℕ). cutNumber (digitsFrom n l)) (sym (drop-cons bytes i 0 h))
       ∙ r .gives
 
-  pub turn : i < length bytes → 48 ≤ getD bytes i 0 → getD bytes i 0 ≤ 57 → Reading bytes (cut (10 * n + (getD bytes i 0 - 48))) (i + 1)
+  pub turn : i < length bytes → 48 ≤ getD bytes i 0 → getD bytes i 0 ≤ 57 → Reading before bytes (cut (10 * n + (getD bytes i 0 - 48))) (i + 1)
   turn h low high =
       record {
         within = omega arith;
@@ -66,13 +66,13 @@ module _ (bytes : List ℕ) (n i : ℕ) (r : Reading bytes n i) where
             ∙ next h true (digit-between (getD bytes i 0) low high);
       }
 
-  pub low : i < length bytes → getD bytes i 0 < 48 → None ≡ cutNumber (digitsFrom 0 bytes)
+  pub low : i < length bytes → getD bytes i 0 < 48 → None ≡ cutNumber (digitsFrom before bytes)
   low h k = next h false (not-below (getD bytes i 0) k)
 
-  pub high : i < length bytes → 57 < getD bytes i 0 → None ≡ cutNumber (digitsFrom 0 bytes)
+  pub high : i < length bytes → 57 < getD bytes i 0 → None ≡ cutNumber (digitsFrom before bytes)
   high h k = next h false (not-above (getD bytes i 0) k)
 
-  pub ends : length bytes ≤ i → Value n ≡ cutNumber (digitsFrom 0 bytes)
+  pub ends : length bytes ≤ i → Value n ≡ cutNumber (digitsFrom before bytes)
   unfolding digitsFrom
   ends h =
       ap Value (sym (cut-below n (r .small)))

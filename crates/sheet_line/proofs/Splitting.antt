@@ -11,7 +11,7 @@ use lib.ListN.{length, getD, take, drop, length-drop, drop-of-length-le}
 use lib.Seq.{drop-cons, take-all}
 use borrow.Author.Tests.{eq-eqb, ne-eqb}
 use Rattle.sheet_text.specs.Line.{fields, joined}
-use Rattle.sheet_line.specs.Split.{contentLength, firstSpace, split}
+use Rattle.sheet_line.specs.Split.{contentLength, firstAt, firstSpace, split}
 
 -- the content
 pub content-within : (bytes : List ℕ) → contentLength bytes ≤ length bytes
@@ -62,44 +62,44 @@ with-line-end bytes some h = ended bytes (length bytes - 1) (omega arith) h
 pub without-line-end : (bytes : List ℕ) → (length bytes ≡ 0 → ⊥) → (getD bytes (length bytes - 1) 0 ≡ 10 → ⊥) → length bytes ≡ contentLength bytes
 without-line-end bytes some h = let e : suc (length bytes - 1) ≡ length bytes = omega arith in sym e ∙ unended bytes (length bytes - 1) e h
 
--- the first space, from i on
-pub record Seeking (bytes : List ℕ) (i : ℕ) : Type 0 where
+-- the first byte that is the one wanted, from i on
+pub record Seeking (wanted : ℕ) (bytes : List ℕ) (i : ℕ) : Type 0 where
   pub within : i ≤ length bytes
-  pub first : i + firstSpace (drop i bytes) ≡ firstSpace bytes
+  pub first : i + firstAt wanted (drop i bytes) ≡ firstAt wanted bytes
 
-pub starts : (bytes : List ℕ) → Seeking bytes 0
-starts bytes = record { within = omega arith; first = omega arith }
+pub starts : (wanted : ℕ) (bytes : List ℕ) → Seeking wanted bytes 0
+starts wanted bytes = record { within = omega arith; first = omega arith }
 
-module _ (bytes : List ℕ) (i : ℕ) (s : Seeking bytes i) where
-  here : i < length bytes → i + firstSpace (getD bytes i 0 ∷ drop (i + 1) bytes) ≡ firstSpace bytes
+module _ (wanted : ℕ) (bytes : List ℕ) (i : ℕ) (s : Seeking wanted bytes i) where
+  here : i < length bytes → i + firstAt wanted (getD bytes i 0 ∷ drop (i + 1) bytes) ≡ firstAt wanted bytes
   here h =
-      ap (λ (j : ℕ). i + firstSpace (getD bytes i 0 ∷ drop j bytes)) (add-one i)
-      ∙ ap (λ (l : List ℕ). i + firstSpace l) (sym (drop-cons bytes i 0 h))
+      ap (λ (j : ℕ). i + firstAt wanted (getD bytes i 0 ∷ drop j bytes)) (add-one i)
+      ∙ ap (λ (l : List ℕ). i + firstAt wanted l) (sym (drop-cons bytes i 0 h))
       ∙ s .first
 
-  pub found : i < length bytes → getD bytes i 0 ≡ 32 → i ≡ firstSpace bytes
-  unfolding firstSpace
+  pub found : i < length bytes → getD bytes i 0 ≡ wanted → i ≡ firstAt wanted bytes
+  unfolding firstAt
   found h e =
-      let p : i + cond (eqb (getD bytes i 0) 32) 0 (suc (firstSpace (drop (i + 1) bytes))) ≡ firstSpace bytes = here h in
-      let q : i + 0 ≡ firstSpace bytes = rw (eq-eqb (getD bytes i 0) 32 e) at p in
+      let p : i + cond (eqb (getD bytes i 0) wanted) 0 (suc (firstAt wanted (drop (i + 1) bytes))) ≡ firstAt wanted bytes = here h in
+      let q : i + 0 ≡ firstAt wanted bytes = rw (eq-eqb (getD bytes i 0) wanted e) at p in
       omega arith
 
-  pub turn : i < length bytes → (getD bytes i 0 ≡ 32 → ⊥) → Seeking bytes (i + 1)
-  unfolding firstSpace
+  pub turn : i < length bytes → (getD bytes i 0 ≡ wanted → ⊥) → Seeking wanted bytes (i + 1)
+  unfolding firstAt
   turn h e =
-      let p : i + cond (eqb (getD bytes i 0) 32) 0 (suc (firstSpace (drop (i + 1) bytes))) ≡ firstSpace bytes = here h in
-      let q : i + suc (firstSpace (drop (i + 1) bytes)) ≡ firstSpace bytes = rw (ne-eqb (getD bytes i 0) 32 e) at p in
+      let p : i + cond (eqb (getD bytes i 0) wanted) 0 (suc (firstAt wanted (drop (i + 1) bytes))) ≡ firstAt wanted bytes = here h in
+      let q : i + suc (firstAt wanted (drop (i + 1) bytes)) ≡ firstAt wanted bytes = rw (ne-eqb (getD bytes i 0) wanted e) at p in
       record { within = omega arith; first = omega arith }
 
-  pub none : length bytes ≤ i → i ≡ firstSpace bytes
-  unfolding firstSpace
+  pub none : length bytes ≤ i → i ≡ firstAt wanted bytes
+  unfolding firstAt
   none h =
-      let p : i + firstSpace [] ≡ firstSpace bytes = ap (λ (l : List ℕ). i + firstSpace l) (sym (drop-of-length-le bytes h)) ∙ s .first in
+      let p : i + firstAt wanted [] ≡ firstAt wanted bytes = ap (λ (l : List ℕ). i + firstAt wanted l) (sym (drop-of-length-le bytes h)) ∙ s .first in
       omega arith
 
 -- what a split is
 no-space : (bytes : List ℕ) → length bytes ≤ firstSpace bytes → split bytes ≡ bytes ∷ []
-unfolding split firstSpace
+unfolding split firstAt
 no-space [] h = refl
 no-space (b ∷ bs) h = go (eqb b 32) (no-space bs) h
   where
@@ -111,7 +111,7 @@ pub one-field : (bytes : List ℕ) {end : ℕ} → end ≡ firstSpace bytes → 
 one-field bytes e h = no-space bytes (omega arith)
 
 split-at-first : (bytes : List ℕ) → firstSpace bytes < length bytes → split bytes ≡ take (firstSpace bytes) bytes ∷ split (drop (suc (firstSpace bytes)) bytes)
-unfolding split firstSpace
+unfolding split firstAt
 split-at-first [] h = absurd (omega arith)
 split-at-first (b ∷ bs) h = go (eqb b 32) (split-at-first bs) h
   where

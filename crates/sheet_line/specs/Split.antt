@@ -12,10 +12,13 @@ contentLength [] = 0
 contentLength (b ∷ []) = cond (eqb b 10) 0 1
 contentLength (b ∷ c ∷ bs) = suc (contentLength (c ∷ bs))
 
--- the index of the first space, or the length
-unfoldable pub firstSpace : List ℕ → ℕ
-firstSpace [] = 0
-firstSpace (b ∷ bs) = cond (eqb b 32) 0 (suc (firstSpace bs))
+-- the index of the first byte that is the one wanted, or the length
+unfoldable pub firstAt : ℕ → List ℕ → ℕ
+firstAt wanted [] = 0
+firstAt wanted (b ∷ bs) = cond (eqb b wanted) 0 (suc (firstAt wanted bs))
+
+abbrev pub firstSpace : List ℕ → ℕ
+firstSpace bytes = firstAt 32 bytes
 
 -- what stands between single spaces
 unfoldable pub split : List ℕ → List (List ℕ)

@@ -2,8 +2,9 @@
 ghost use mathlib.Core.Path.{_≡_};
 ghost use mathlib.Core.List.{[], _∷_};
 ghost use Rattle.sheet_text.specs.Line.{digitsFrom, decimalOf, pointOf, lineOf, parse};
-ghost use Rattle.sheet_line.specs.Cut.{cut, cutNumber, cutWhole, cutLine};
-ghost use Rattle.sheet_line.specs.Split.{contentLength, firstSpace, split};
+ghost use Prim.Native.Nat.{_≤_};
+ghost use Rattle.sheet_line.specs.Cut.{cutAt, cut, cutNumber, cutWhole, cutLine};
+ghost use Rattle.sheet_line.specs.Split.{contentLength, firstAt, split};
 
 // One more than the greatest literal: numbers of the line are cut off here, which no test of them can tell.
 const CUT: u64 = 0x20_0000_0000_0000;
@@ -24,7 +25,7 @@ pub enum Line {
 }
 
 // A number that was read, or none.
-enum Number {
+pub enum Number {
     None,
     Value(u64),
 }
@@ -44,11 +45,12 @@ fn cut_off(n: u64) -> u64
     CUT
 }
 
-// The value of digits, cut off with each of them: where a number is past the cut, so is every number that goes on from it.
-fn digits(bytes: &[u8]) -> Number
-    ensures { λ r. ⌜ r ≡ cutNumber (digitsFrom 0 (now (bytes .entry))) ⌝ }
+// The value of digits after those that gave a number, cut off with each of them: where a number is past the cut, so is every number that goes on from it.
+pub fn digits(before: u64, bytes: &[u8]) -> Number
+    requires { ⌜ before ≤ cutAt ⌝ }
+    ensures { λ r. ⌜ r ≡ cutNumber (digitsFrom before (now (bytes .entry))) ⌝ }
 {
-    let mut n: u64 = 0;
+    let mut n = before;
     let mut i = 0;
     while i < bytes.len() {
         let byte = bytes[i];
@@ -72,12 +74,12 @@ fn decimal(bytes: &[u8]) -> Number
         return Number::None;
     }
     if bytes.len() == 1 {
-        return digits(bytes);
+        return digits(0, bytes);
     }
     if bytes[0] == b'0' {
         return Number::None;
     }
-    digits(bytes)
+    digits(0, bytes)
 }
 
 // A minus stands only before a nonzero number.
@@ -102,13 +104,13 @@ fn point(bytes: &[u8]) -> Whole
     Whole::Value(n as i64)
 }
 
-// The index of the first space, or the length where there is none.
-fn space(bytes: &[u8]) -> usize
-    ensures { λ r. ⌜ r ≡ firstSpace (now (bytes .entry)) ⌝ }
+// The index of the first byte that is the one wanted, or the length where there is none.
+pub fn find(bytes: &[u8], wanted: u8) -> usize
+    ensures { λ r. ⌜ r ≡ firstAt wanted (now (bytes .entry)) ⌝ }
 {
     let mut i = 0;
     while i < bytes.len() {
-        if bytes[i] == b' ' {
+        if bytes[i] == wanted {
             return i;
         }
         i += 1;
@@ -117,7 +119,7 @@ fn space(bytes: &[u8]) -> usize
 }
 
 // The length without a line end that is the last byte.
-fn content(bytes: &[u8]) -> usize
+pub fn content(bytes: &[u8]) -> usize
     ensures { λ r. ⌜ r ≡ contentLength (now (bytes .entry)) ⌝ }
 {
     let length = bytes.len();
@@ -169,7 +171,7 @@ fn three_fields(var: &[u8], order: &[u8], place: &[u8]) -> Line
 fn after_order(var: &[u8], order: &[u8], rest: &[u8]) -> Line
     ensures { λ r. ⌜ r ≡ cutLine (lineOf (now (var .entry) ∷ now (order .entry) ∷ split (now (rest .entry)))) ⌝ }
 {
-    if space(rest) < rest.len() {
+    if find(rest, b' ') < rest.len() {
         return Line::Usage;
     }
     three_fields(var, order, rest)
@@ -178,7 +180,7 @@ fn after_order(var: &[u8], order: &[u8], rest: &[u8]) -> Line
 fn after_var(var: &[u8], rest: &[u8]) -> Line
     ensures { λ r. ⌜ r ≡ cutLine (lineOf (now (var .entry) ∷ split (now (rest .entry)))) ⌝ }
 {
-    let end = space(rest);
+    let end = find(rest, b' ');
     if end < rest.len() {
         let start = end + 1;
         return after_order(var, &rest[..end], &rest[start..]);
@@ -189,7 +191,7 @@ fn after_var(var: &[u8], rest: &[u8]) -> Line
 fn from_start(text: &[u8]) -> Line
     ensures { λ r. ⌜ r ≡ cutLine (lineOf (split (now (text .entry)))) ⌝ }
 {
-    let end = space(text);
+    let end = find(text, b' ');
     if end < text.len() {
         let start = end + 1;
         return after_var(&text[..end], &text[start..]);

@@ -12,13 +12,13 @@ use Rattle.sheet_line.proofs.Asking.{four-are-usage}
 use Rattle.sheet_line.proofs.after_order.Statement.{statement}
 use Rattle.sheet_line.proofs.after_order.Tie as tie
 
-space-requires : tie.Need-space-requires
-space-requires c κs = search needs
+find-requires : tie.Need-find-requires
+find-requires c κs = search needs
 
 returns : tie.Need-returns
 returns c =
     let args = c .before .before .before .before .before .args in
-    four-are-usage (now (args .var)) (now (args .order)) (now (args .rest)) (c .before .space .ensures) (c .if1 .taken)
+    four-are-usage (now (args .var)) (now (args .order)) (now (args .rest)) (c .before .find .ensures) (c .if1 .taken)
 
 three-fields-requires : tie.Need-three-fields-requires
 three-fields-requires c κs = search needs
@@ -28,7 +28,7 @@ returns-2 c =
     let args = c .before .before .before .before .before .before .args in
     c .three-fields .ensures
     ∙ ap (λ (l : List (List ℕ)). cutLine (lineOf (now (args .var) ∷ now (args .order) ∷ l)))
-    (sym (one-field (now (args .rest)) (c .before .before .space .ensures) (c .before .if1 .left)))
+    (sym (one-field (now (args .rest)) (c .before .before .find .ensures) (c .before .if1 .left)))
 
 pub after-order-spec : {M : Type 1} → statement M
-after-order-spec = tie.close (tie.spec space-requires returns three-fields-requires returns-2)
+after-order-spec = tie.close (tie.spec find-requires returns three-fields-requires returns-2)

@@ -13,8 +13,8 @@ use Rattle.sheet_line.proofs.Splitting.{one-field, first-field}
 use Rattle.sheet_line.proofs.after_var.Statement.{statement}
 use Rattle.sheet_line.proofs.after_var.Tie as tie
 
-space-requires : tie.Need-space-requires
-space-requires c κs = search needs
+find-requires : tie.Need-find-requires
+find-requires c κs = search needs
 
 add-start : tie.Need-add-start
 add-start c = search needs
@@ -40,7 +40,7 @@ returns c =
     let args = at-space .before .before .before .args in
     c .after-order .ensures
     ∙ ap (λ (l : List (List ℕ)). cutLine (lineOf (now (args .var) ∷ l)))
-    (sym (first-field (now (args .rest)) (at-space .space .ensures) (c .before .before .before .if1 .taken)))
+    (sym (first-field (now (args .rest)) (at-space .find .ensures) (c .before .before .before .if1 .taken)))
 
 two-fields-requires : tie.Need-two-fields-requires
 two-fields-requires c κs = search needs
@@ -50,13 +50,13 @@ returns-2 c =
     let args = c .before .before .before .before .before .args in
     c .two-fields .ensures
     ∙ ap (λ (l : List (List ℕ)). cutLine (lineOf (now (args .var) ∷ l)))
-    (sym (one-field (now (args .rest)) (c .before .before .space .ensures) (c .before .if1 .left)))
+    (sym (one-field (now (args .rest)) (c .before .before .find .ensures) (c .before .if1 .left)))
 
 pub after-var-spec : {M : Type 1} → statement M
 after-var-spec =
     tie.close
     (tie.spec
-    space-requires
+    find-requires
     add-start
     slice-aggregate-after-order
     sub-after-order

@@ -9,22 +9,22 @@ use Rattle.sheet_line.proofs.digits.Statement.{statement}
 use Rattle.sheet_line.proofs.digits.Tie as tie
 
 abbrev Inv-loop : tie.InvT-loop
-Inv-loop bytes n₀ i₀ n i = Reading bytes n i
+Inv-loop before bytes n₀ i₀ n i = Reading before bytes n i
 
 abbrev μ-loop : tie.MeasureT-loop
-μ-loop bytes n₀ i₀ n i = length bytes - i
+μ-loop before bytes n₀ i₀ n i = length bytes - i
 
 loop-holds : tie.Need-loop-holds Inv-loop μ-loop
-loop-holds c = starts (now (c .before .args .bytes))
+loop-holds c = starts (c .before .args .before) (now (c .before .args .bytes)) (c .before .pre)
 
 shared-slice-read-byte : tie.Need-shared-slice-read-byte Inv-loop μ-loop
 shared-slice-read-byte c = omega arith
 
 returns : tie.Need-returns Inv-loop μ-loop
-returns c = low _ _ _ (c .before .before .before .loop .inv) (c .before .before .loop-test .taken) (c .if1 .taken)
+returns c = low _ _ _ _ (c .before .before .before .loop .inv) (c .before .before .loop-test .taken) (c .if1 .taken)
 
 returns-2 : tie.Need-returns-2 Inv-loop μ-loop
-returns-2 c = high _ _ _ (c .before .before .before .before .loop .inv) (c .before .before .before .loop-test .taken) (c .if2 .taken)
+returns-2 c = high _ _ _ _ (c .before .before .before .before .loop .inv) (c .before .before .before .loop-test .taken) (c .if2 .taken)
 
 mul-cut-off : tie.Need-mul-cut-off Inv-loop μ-loop
 mul-cut-off c = omega (arith, c .before .before .before .before .loop .inv .small)
@@ -48,10 +48,10 @@ loop-again : tie.Need-loop-again Inv-loop μ-loop
 loop-again c =
     let at-loop-test = c .before .before .before .before in
     rw (c .cut-off .ensures)
-    (turn _ _ _ (at-loop-test .before .loop .inv) (at-loop-test .loop-test .taken) (c .before .before .if1 .left) (c .before .if2 .left))
+    (turn _ _ _ _ (at-loop-test .before .loop .inv) (at-loop-test .loop-test .taken) (c .before .before .if1 .left) (c .before .if2 .left))
 
 returns-3 : tie.Need-returns-3 Inv-loop μ-loop
-returns-3 c = ends _ _ _ (c .before .loop .inv) (c .loop-test .left)
+returns-3 c = ends _ _ _ _ (c .before .loop .inv) (c .loop-test .left)
 
 pub digits-spec : {M : Type 1} → statement M
 digits-spec =

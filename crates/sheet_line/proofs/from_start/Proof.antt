@@ -14,8 +14,8 @@ use Rattle.sheet_line.proofs.Asking.{one-is-usage}
 use Rattle.sheet_line.proofs.from_start.Statement.{statement}
 use Rattle.sheet_line.proofs.from_start.Tie as tie
 
-space-requires : tie.Need-space-requires
-space-requires c κs = search needs
+find-requires : tie.Need-find-requires
+find-requires c κs = search needs
 
 add-start : tie.Need-add-start
 add-start c = search needs
@@ -41,16 +41,16 @@ returns c =
     let args = at-space .before .before .args in
     c .after-var .ensures
     ∙ ap (λ (l : List (List ℕ)). cutLine (lineOf l))
-    (sym (first-field (now (args .text)) (at-space .space .ensures) (c .before .before .before .if1 .taken)))
+    (sym (first-field (now (args .text)) (at-space .find .ensures) (c .before .before .before .if1 .taken)))
 
 returns-2 : tie.Need-returns-2
-returns-2 c = one-is-usage (now (c .before .before .before .args .text)) (c .before .space .ensures) (c .if1 .left)
+returns-2 c = one-is-usage (now (c .before .before .before .args .text)) (c .before .find .ensures) (c .if1 .left)
 
 pub from-start-spec : {M : Type 1} → statement M
 from-start-spec =
     tie.close
     (tie.spec
-    space-requires
+    find-requires
     add-start
     slice-aggregate-after-var
     sub-after-var
