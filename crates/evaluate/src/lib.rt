@@ -10,7 +10,7 @@ use pool::LIMIT;
 use pool::Node;
 
 // A variable's entry in the table of values.
-fn value_of_variable(values: &[f64], v: u32) -> Valued
+pub fn value_of_variable(values: &[f64], v: u32) -> Valued
     ensures { λ r. ⌜ r ≡ valueOfVariable (now (values .entry)) v ⌝ }
 {
     let at = v as usize;
@@ -40,14 +40,14 @@ fn power(part: Valued, e: u32) -> Valued
 }
 
 // What is done with the values of two parts.
-enum Binary {
+pub enum Binary {
     Add,
     Mul,
     Div,
     Max,
 }
 
-fn apply(op: Binary, x: f64, y: f64) -> Valued
+pub fn apply(op: Binary, x: f64, y: f64) -> Valued
     ensures { λ r. ⌜ r ≡ applied op x y ⌝ }
 {
     match op {

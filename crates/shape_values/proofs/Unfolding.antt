@@ -22,7 +22,7 @@ use Rattle.shape_values.specs.Printing.{textUnder}
 use Rattle.shape_values.proofs.SameShape.{GoesByShape, value-by-shape, residue-by-shape, text-by-shape}
 
 -- every recursion over node numbers whose visits look only at parts
-unfolds :
+pub unfolds :
     {A : Type 0} (none : A) {node : (ℕ → A) → Node → A} (p : ℕ → Node) → GoesByShape node → Falls p → (i : ℕ) → foldNodes none node p i ≡ node (foldNodes none node p) (p i)
 unfolds none {node} p goes falls i =
     visits none node p i

@@ -1,0 +1,10 @@
+pub mod Taking
+pub mod Tested
+pub mod ByParts
+pub mod Running
+pub mod Theorems
+pub mod Accepted
+pub mod SameStrip
+pub mod Unfolding
+pub mod ExpOrLogReached
+pub mod Examples

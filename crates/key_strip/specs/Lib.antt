@@ -1,0 +1,4 @@
+pub mod Strip
+pub mod Machine
+pub mod Trees
+pub mod Reached
