@@ -1,0 +1,4 @@
+pub mod Keys
+pub mod Testing
+pub mod Held
+pub mod Running

@@ -1,0 +1,3 @@
+pub mod Strips
+pub mod Tables
+pub mod Writing
