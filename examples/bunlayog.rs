@@ -7,6 +7,8 @@ pub const LIMIT: usize = 4096;
 pub const TERMS: usize = 25;
 pub const TEXT_MAX: usize = 65535;
 pub const FILE_MAX: usize = 36868;
+pub const STRIP_MAX: usize = 65535;
+pub const PLACES_MAX: usize = 128;
 /// The length of an expansion that is a constant.
 pub const CONSTANT: u64 = u64::MAX;
 
@@ -32,6 +34,8 @@ pub mod raw {
         pub fn bunlayog_print(kinds: *const u8, kinds_len: usize, words: *const u64, words_len: usize, count: u64, root: u64, out: *mut u8, out_len: usize, written: *mut u64) -> u32;
         pub fn bunlayog_write(kinds: *const u8, kinds_len: usize, words: *const u64, words_len: usize, count: u64, root: u64, out: *mut u8, out_len: usize, written: *mut u64) -> u32;
         pub fn bunlayog_read(kinds: *mut u8, kinds_len: usize, words: *mut u64, words_len: usize, count: *mut u64, file: *const u8, file_len: usize, root: *mut u64) -> u32;
+        pub fn bunlayog_strip(kinds: *const u8, kinds_len: usize, words: *const u64, words_len: usize, count: u64, root: u64, out: *mut u8, out_len: usize, written: *mut u64) -> u32;
+        pub fn bunlayog_run_strip(strip: *const u8, strip_len: usize, values: *const f64, values_len: usize, bits: *mut u64) -> u32;
         pub fn bunlayog_taylor_var(kinds: *mut u8, kinds_len: usize, words: *mut u64, words_len: usize, count: *mut u64, x: u64, order: u64, length_out: *mut u64, coeffs_out: *mut u64) -> u32;
         pub fn bunlayog_taylor_from_coefficients(kinds: *const u8, kinds_len: usize, words: *const u64, words_len: usize, count: u64, length: u64, coeffs: *const u64, length_out: *mut u64, coeffs_out: *mut u64) -> u32;
         pub fn bunlayog_taylor_order(kinds: *const u8, kinds_len: usize, words: *const u64, words_len: usize, count: u64, length: u64, coeffs: *const u64, length_out: *mut u64) -> u32;
@@ -144,6 +148,13 @@ macro_rules! bytes {
     )*};
 }
 
+/// Runs a key strip, which needs no pool: any bytes are safe to run. Entry v of the values is the value of variable v.
+pub fn run_strip(strip: &[u8], values: &[f64]) -> Result<f64, Refused> {
+    let mut bits = 0;
+    let number = unsafe { raw::bunlayog_run_strip(strip.as_ptr(), strip.len(), values.as_ptr(), values.len(), &mut bits) };
+    accepted(number, f64::from_bits(bits))
+}
+
 impl Pool {
     /// An empty pool.
     pub fn new() -> Box<Pool> {
@@ -190,6 +201,7 @@ impl Pool {
     bytes! {
         print_bytes = bunlayog_print(TEXT_MAX);
         write = bunlayog_write(FILE_MAX);
+        strip = bunlayog_strip(STRIP_MAX);
     }
 
     /// A text is ASCII.

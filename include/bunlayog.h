@@ -25,9 +25,11 @@
  *
  * Stack in bytes, as measured (docs/MEASUREMENTS.md has more figures, and the worst pool for each):
  *   check, taylor_order, taylor_from_coefficients       1,024
+ *   run_strip                                           1,128
  *   lit, var and the constructors                      81,880
  *   the other operations on expansions                 86,616
  *   write, read                                       368,784
+ *   strip                                             516,040
  *   substitute_var, derive, evaluate, evaluate_residue,
  *   print                                           1,478,280
  *   taylor_coeffs, taylor_coeffs_at                 1,764,040
@@ -51,8 +53,8 @@ extern "C" {
 #define BUNLAYOG_VERSION_PATCH 0
 
 /* What a call answers. Behind each function below stand the refusals that it can be given: those that are checked first, and behind the
- * semicolon those of its work. 1 to 9 are checked first, smallest number first; then the work runs, and its first step to meet one of 10 to 18
- * decides; 19 comes last. bunlayog_text.h has a text for each. */
+ * semicolon those of its work. 1 to 9 and then 28 are checked first, smallest number first; then the work runs, and its first step to meet one of
+ * 10 to 18 decides; then comes 27, and 19 last. 20 to 26 are not given. bunlayog_text.h has a text for each. */
 enum bunlayog_refusal {
     BUNLAYOG_OK = 0,
     /* the pool breaks a rule, or a table has another length */
@@ -85,14 +87,18 @@ enum bunlayog_refusal {
     BUNLAYOG_TOO_DEEP = 14,
     /* a variable that is reached has no entry in the table of values */
     BUNLAYOG_NO_VALUE = 15,
-    /* evaluation comes to Exp or Log, or by residues to Max, its parts being done */
+    /* evaluation comes to Exp or Log, or by residues to Max, its parts being done, or a key strip is to be made of an expression that reaches Exp or Log */
     BUNLAYOG_NOT_EVALUATED = 16,
     /* by residues, a divisor has no inverse */
     BUNLAYOG_NO_INVERSE = 17,
     /* one more node is needed and the count is 4,096 */
     BUNLAYOG_POOL_FULL = 18,
-    /* the lent output is too short, or a text has more than 65,535 bytes */
-    BUNLAYOG_NO_ROOM = 19
+    /* the lent output is too short, or a text or key strip has more than 65,535 bytes */
+    BUNLAYOG_NO_ROOM = 19,
+    /* more than 128 places would be in use */
+    BUNLAYOG_TOO_MANY_PLACES = 27,
+    /* a code is unknown, what follows a code is cut off or breaks the table or literal range, values are missing, more than 128 places are needed, or not exactly one value is left */
+    BUNLAYOG_WRONG_STRIP = 28
 };
 
 /* The kinds of nodes, and what the word of each holds. A part is the number of an earlier node. */
@@ -122,6 +128,8 @@ enum bunlayog_kind {
 #define BUNLAYOG_MODULUS UINT32_C(2147483647)              /* a residue is below it */
 #define BUNLAYOG_TEXT_MAX 65535                            /* bytes of a text */
 #define BUNLAYOG_FILE_MAX 36868                            /* bytes of a node file: 4 + 9 * BUNLAYOG_LIMIT */
+#define BUNLAYOG_STRIP_MAX 65535                           /* bytes of a key strip that is made; one that is run may be longer */
+#define BUNLAYOG_PLACES_MAX 128                            /* places of the machine that runs a key strip */
 
 /* The length of an expansion that is a constant. */
 #define BUNLAYOG_CONSTANT UINT64_C(18446744073709551615)
@@ -192,6 +200,19 @@ BUNLAYOG_CHECKED uint32_t bunlayog_write(BUNLAYOG_POOL_READ, uint64_t root, uint
 
 /* Appends the nodes of a node file, their parts shifted by the count; *root is its root. */
 BUNLAYOG_CHECKED uint32_t bunlayog_read(BUNLAYOG_POOL, const uint8_t *file, size_t file_len, uint64_t *root); /* 1, 7, 8, 9; 18 */
+
+/* The key strip of the expression at root, for a calculator with a stack: the strip of a node's left part, that of its right part, then its own code, which
+ * is its kind; shared parts are repeated. A variable's number (16 bits), a literal (64 bits) or an exponent (32 bits) follows its code, low byte first.
+ * *written is how many bytes of the output it takes; those past it stay as they were. BUNLAYOG_STRIP_MAX bytes take every strip. 16 where an Exp or Log is
+ * reachable, which have no code; then 27 where running it would need more than BUNLAYOG_PLACES_MAX places; then 19 where it has more than
+ * BUNLAYOG_STRIP_MAX bytes or the output is too short. */
+BUNLAYOG_CHECKED uint32_t bunlayog_strip(BUNLAYOG_POOL_READ, uint64_t root, uint8_t *out, size_t out_len, uint64_t *written); /* 1, 2; 16, 19, 27 */
+
+/* Runs a key strip, of any length and from anywhere, on a machine with BUNLAYOG_PLACES_MAX places: no pool is needed. 1 pushes a variable, 2 a literal; 3, 4, 5
+ * and 9 combine the two topmost values, the lower one being the left; 8 raises the topmost. Entry v of the table is the value of variable v; *bits are the 64
+ * bits of the double that is left, any NaN as 7FF8000000000000 (hexadecimal): of a strip that bunlayog_strip made, what bunlayog_evaluate gives of the
+ * expression. 28 is for the whole strip, before any value is looked at; 15 where a variable that is pushed has no entry. */
+BUNLAYOG_CHECKED uint32_t bunlayog_run_strip(const uint8_t *strip, size_t strip_len, const double *values, size_t values_len, uint64_t *bits); /* 6, 28; 15 */
 
 /* Expansions. An expansion is a length and an array of BUNLAYOG_TERMS node numbers, coefficient 0 first. The length is how many entries its
  * list has, 1 to BUNLAYOG_TERMS, one more than its order; or it is BUNLAYOG_CONSTANT, and entry 0 is the constant's node. Entries past the end

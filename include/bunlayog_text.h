@@ -23,12 +23,16 @@ static inline const char *bunlayog_refusal_text(uint32_t number) {
         /* 13 */ "an exponent sum is above 4,294,967,295",
         /* 14 */ "a constructor would run at depth 201",
         /* 15 */ "a variable that is reached has no entry in the table of values",
-        /* 16 */ "evaluation comes to Exp or Log, or by residues to Max, its parts being done",
+        /* 16 */ "evaluation comes to Exp or Log, or by residues to Max, its parts being done, or a key strip is to be made of an expression that reaches Exp or Log",
         /* 17 */ "by residues, a divisor has no inverse",
         /* 18 */ "one more node is needed and the count is 4,096",
-        /* 19 */ "the lent output is too short, or a text has more than 65,535 bytes",
+        /* 19 */ "the lent output is too short, or a text or key strip has more than 65,535 bytes",
+        /* 20 to 26 are no answers: they read as any other number that is not given */
+        0, 0, 0, 0, 0, 0, 0,
+        /* 27 */ "more than 128 places would be in use",
+        /* 28 */ "a code is unknown, what follows a code is cut off or breaks the table or literal range, values are missing, more than 128 places are needed, or not exactly one value is left",
     };
-    return number < sizeof texts / sizeof texts[0] ? texts[number] : "no answer has this number";
+    return number < sizeof texts / sizeof texts[0] && texts[number] ? texts[number] : "no answer has this number";
 }
 
 #endif

@@ -35,16 +35,21 @@ awk '/^enum bunlayog_refusal/ { on = 1 } on && /^ *\/\*/ { said = $0; gsub(/^ *\
   on && /BUNLAYOG_[A-Z_]+ = [1-9]/ { name = $1; sub("BUNLAYOG_", "", name); number = $3; sub(",", "", number); print number, name, said } /^};/ { on = 0 }' "$header" > "$out/header"
 sed -n 's|^ */\* \([0-9]*\) \*/ "\(.*\)",$|\1 \2|p' "$text" | sed 1d > "$out/texts"
 sed -n 's/^pub const \([A-Z_]*\): u32 = \([0-9]*\);$/\2 \1/p' crates/refusals/src/lib.rt > "$out/names_in_code"
-awk '/^-- / { said = $0; sub(/^-- /, "", said); sub(/\.$/, "", said); gsub("`", "", said); gsub("×", "*", said); sub(/ above,/, ",", said) }
-  /^[a-zA-Z]+ = [0-9]+$/ { name = $1; gsub(/[A-Z]/, "_&", name); print $3, toupper(name), (said ~ /^[A-Z]/ ? tolower(substr(said, 1, 1)) substr(said, 2) : said) }' \
-  crates/refusals/specs/Refusals.antt > "$out/specs"
+# a comment may go over two lines; of a request's refusal it quotes the request, with its number first
+awk '/^-- / { line = $0; sub(/^-- /, "", line); said = said == "" ? line : said " " line; next }
+  /^[a-zA-Z]+ = [0-9]+$/ {
+    sub(/^C-[0-9]+\. "[0-9]+ (\.\. )?when /, "", kept); sub(/"$/, "", kept); sub(/\.$/, "", kept); gsub("`", "", kept); gsub("×", "*", kept); sub(/ above,/, ",", kept)
+    sub("document 01\047s", "the", kept)
+    name = $1; gsub(/[A-Z]/, "_&", name); print $3, toupper(name), (kept ~ /^[A-Z]/ ? tolower(substr(kept, 1, 1)) substr(kept, 2) : kept)
+  }
+  { if (said != "") kept = said; said = "" }' crates/refusals/specs/Refusals.antt > "$out/specs"
 sed -n 's/^| \([0-9]*\) | `\([A-Z_]*\)` | \(.*\) |$/\1 \2 \3/p' "$paper" > "$out/paper"
-same refusals 19 "$out/header" "$out/specs"
-same refusals 19 "$out/header" "$out/paper"
+same refusals 21 "$out/header" "$out/specs"
+same refusals 21 "$out/header" "$out/paper"
 cut -d ' ' -f 1,3- "$out/header" > "$out/texts_in_header"
 cut -d ' ' -f 1,2 "$out/header" > "$out/names_in_header"
-same refusals 19 "$out/texts" "$out/texts_in_header"
-same refusals 19 "$out/names_in_code" "$out/names_in_header"
+same refusals 21 "$out/texts" "$out/texts_in_header"
+same refusals 21 "$out/names_in_code" "$out/names_in_header"
 
 # ---- kinds
 sed -n 's/^ *BUNLAYOG_KIND_\([A-Z]*\) = \([0-9]*\).*/\2 \1/p' "$header" > "$out/kinds_in_header"
@@ -82,6 +87,8 @@ VALUES_MAX engine_values VALUES_MAX engine_values mostValues
 MODULUS residue MODULUS_MAX residue fixedModulus
 TEXT_MAX low_bytes TEXT_MAX low_bytes longestText
 FILE_MAX - - - -
+STRIP_MAX low_bytes TEXT_MAX low_bytes longestText
+PLACES_MAX key_strip PLACES key_strip mostPlaces
 CONSTANT lent_series ENDLESS taylor endless
 LIMITS
 [ "$(grep -c '^| `BUNLAYOG_' "$paper")" -eq "$limits" ] || wrong "$paper has limits that are not compared"
@@ -103,13 +110,13 @@ types='s/&mut \[([a-z0-9]+); TERMS\]/*mut \1/g; s/&\[([a-z0-9]+); TERMS\]/*const
 cat crates/bunlayog/src/*.rt | awk '/^pub extern "C" fn/ { on = 1 } on { printf "%s ", $0 } on && /\) -> u32/ { on = 0; print "" }' |
   sed -E 's/^pub extern "C" fn ([a-z_]*)\( */\1: /; s/,? *\) -> u32.*//; s/, +/, /g; s/([:,]) [a-z_]+: /\1 /g' | sed -E "$types" | sort > "$out/rattle"
 sed -n 's/^ *pub fn \(bunlayog_[a-z_]*\)(\(.*\)) -> u32;$/\1: \2/p' examples/bunlayog.rs | sed -E 's/([:,]) [a-z_]+: /\1 /g' | sed -E "$types" | sort > "$out/rust"
-same functions 35 "$out/c" "$out/rattle"
-same functions 35 "$out/c" "$out/rust"
+same functions 37 "$out/c" "$out/rattle"
+same functions 37 "$out/c" "$out/rust"
 cut -d : -f 1 "$out/c" > "$out/names"
 sed -n 's/^| `\(bunlayog_[a-z_]*\)` |.*/\1/p' "$paper" | sort > "$out/names_in_paper"
 nm --extern-only --defined-only "$archive" 2> /dev/null | awk 'NF == 3 && $3 ~ /^bunlayog_/ { print $3 }' | sort > "$out/names_in_archive"
-same functions 35 "$out/names" "$out/names_in_paper"
-same functions 35 "$out/names" "$out/names_in_archive"
+same functions 37 "$out/names" "$out/names_in_paper"
+same functions 37 "$out/names" "$out/names_in_archive"
 
 # ---- what the archive needs, and that it has no data that can be written
 nm "$archive" 2> /dev/null | awk 'NF == 2 && $1 == "U" { print $2 }' | sort -u > "$out/needed"
@@ -127,7 +134,7 @@ done
 # ---- the headers compile alone, twice and in two files, and an answer that is not looked at is warned of
 printf '#include "bunlayog_text.h"\n#include "bunlayog_text.h"\n#include "bunlayog.h"\n' > "$out/twice.c"
 printf '%s\n' '#include "bunlayog_text.h"' '#include <stdio.h>' \
-  'int main(void) { for (uint32_t i = 0; i < 21; i++) printf("%u %s\n", (unsigned)i, bunlayog_refusal_text(i)); return 0; }' > "$out/main.c"
+  'int main(void) { for (uint32_t i = 0; i < 30; i++) printf("%u %s\n", (unsigned)i, bunlayog_refusal_text(i)); return 0; }' > "$out/main.c"
 printf '#include "bunlayog.h"\nvoid f(struct bunlayog_pool *p) { uint64_t n; bunlayog_lit(BUNLAYOG_LEND(p), 1, &n); }\n' > "$out/ignored.c"
 strict='-Wall -Wextra -Wpedantic -Werror -Wno-unused-function -Iinclude'
 for compiler in cc gcc clang; do
@@ -144,7 +151,7 @@ for compiler in cc gcc clang; do
   if "$compiler" -std=c99 $strict -c "$out/ignored.c" -o "$out/ignored.o" 2> /dev/null; then wrong "$compiler does not warn of an answer that is not looked at"; fi
 done
 "$out/program" > "$out/printed"
-{ echo "0 accepted"; cat "$out/texts"; echo "20 no answer has this number"; } > "$out/wanted"
-same texts 21 "$out/printed" "$out/wanted"
+{ echo "0 accepted"; cat "$out/texts"; printf '%s no answer has this number\n' 20 21 22 23 24 25 26 29; } | sort -n > "$out/wanted"
+same texts 30 "$out/printed" "$out/wanted"
 
-[ "$bad" -eq 0 ] && echo "headers, crates, specification, bindings and archive agree: 19 refusals, 9 kinds, $limits limits, 35 functions"
+[ "$bad" -eq 0 ] && echo "headers, crates, specification, bindings and archive agree: 21 refusals, 9 kinds, $limits limits, 37 functions"

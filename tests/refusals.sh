@@ -33,7 +33,7 @@ declared() {
 }
 
 calls=$(proved | wc -l)
-[ "$calls" -eq 34 ] || { echo "refusals: the proved table has $calls calls, not 34"; exit 1; }
+[ "$calls" -eq 36 ] || { echo "refusals: the proved table has $calls calls, not 36"; exit 1; }
 diff <(proved | sed 's/ *$//') <(written | sed 's/ *$//') || { echo "refusals: docs/SPECIFICATION.md has another table than the one that is proved"; exit 1; }
 diff <(proved | sed 's/ *$//') <(declared | sed 's/ *$//') || { echo "refusals: include/bunlayog.h has other lists than the table that is proved"; exit 1; }
 echo "refusals: the table of $calls calls in docs/SPECIFICATION.md and in the header is the one that is proved"

@@ -2,7 +2,7 @@
 #[path = "../../examples/bunlayog.rs"]
 mod bunlayog;
 
-use bunlayog::{Expansion, Pool, Refused, CONSTANT, TERMS};
+use bunlayog::{run_strip, Expansion, Pool, Refused, CONSTANT, PLACES_MAX, STRIP_MAX, TERMS};
 
 fn texts(pool: &Pool, e: &Expansion) -> Vec<String> {
     e.entries().iter().map(|node| pool.print(*node).unwrap()).collect()
@@ -91,7 +91,35 @@ fn expansions() {
     assert_eq!(pool.taylor_coeffs(square, 0, 25), Err(Refused(5)));
 }
 
+/// A right-nested sum of so many leaves, all of them x0.
+fn leaves(pool: &mut Pool, n: usize) -> u64 {
+    let x = pool.var(0).unwrap();
+    (1..n).fold(x, |sum, _| pool.add(x, sum).unwrap())
+}
+
+fn strips() {
+    let mut pool = Pool::new();
+    let x = pool.var(0).unwrap();
+    let (one, three) = (pool.lit(1).unwrap(), pool.lit(3).unwrap());
+    let third = pool.div(one, three).unwrap();
+    assert_eq!(pool.strip(x).unwrap(), [1, 0, 0]);
+    let strip = pool.strip(third).unwrap();
+    assert_eq!(strip, [2, 1, 0, 0, 0, 0, 0, 0, 0, 2, 3, 0, 0, 0, 0, 0, 0, 0, 5]);
+    assert_eq!(run_strip(&strip, &[]).map(f64::to_bits), Ok(0x3fd5_5555_5555_5555));
+    assert_eq!(run_strip(&strip[..18], &[]), Err(Refused(28)));
+    assert_eq!(run_strip(&[1, 1, 0], &[2.0]), Err(Refused(15)));
+    let exp = pool.exp(x).unwrap();
+    assert_eq!(pool.strip(exp), Err(Refused(16)));
+    let most = leaves(&mut pool, PLACES_MAX);
+    let strip = pool.strip(most).unwrap();
+    assert!(strip.len() == 4 * PLACES_MAX - 1 && strip.len() < STRIP_MAX);
+    assert_eq!(run_strip(&strip, &[0.5]), Ok(64.0));
+    let more = leaves(&mut pool, PLACES_MAX + 1);
+    assert_eq!(pool.strip(more), Err(Refused(27)));
+}
+
 fn main() {
     nodes();
     expansions();
+    strips();
 }

@@ -6,5 +6,6 @@ pub mod expansion_two;
 pub mod expansion_walk;
 pub mod file;
 pub mod print;
+pub mod strip;
 pub mod values;
 pub mod walk;

@@ -8,7 +8,7 @@ use lib.Dec.{leb}
 use lib.ListN.{length}
 use lib.Seq.{sets}
 
--- 19. "a text has more than 65,535 bytes"
+-- 19. "a text has more than 65,535 bytes"; C-20: "19 a strip above 65,535 bytes"
 abbrev pub longestText : ℕ
 longestText = 65535
 

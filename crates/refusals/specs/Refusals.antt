@@ -1,4 +1,4 @@
--- "The refusals, for every result" of document 01, by name: in the definitions the numbers stand here and nowhere else.
+-- "The refusals, for every result" of document 01, and those that the requests of document 02 add, by name: in the definitions the numbers stand here and nowhere else.
 -- Assumes nothing.
 use Prim.Native.Nat.{ℕ}
 
@@ -62,7 +62,7 @@ tooDeep = 14
 abbrev pub noValue : ℕ
 noValue = 15
 
--- Evaluation comes to Exp or Log, or by residues to Max, its parts being done.
+-- Evaluation comes to Exp or Log, or by residues to Max, its parts being done, or a key strip is to be made of an expression that reaches Exp or Log.
 abbrev pub notEvaluated : ℕ
 notEvaluated = 16
 
@@ -74,6 +74,15 @@ noInverse = 17
 abbrev pub poolFull : ℕ
 poolFull = 18
 
--- The lent output is too short, or a text has more than 65,535 bytes.
+-- The lent output is too short, or a text or key strip has more than 65,535 bytes.
 abbrev pub noRoom : ℕ
 noRoom = 19
+
+-- C-20. "27 when more than 128 places would be in use"
+abbrev pub tooManyPlaces : ℕ
+tooManyPlaces = 27
+
+-- C-20. "28 .. when a code is unknown, what follows a code is cut off or breaks document 01's table or literal range, values are missing, more than 128 places
+-- are needed, or not exactly one value is left."
+abbrev pub wrongStrip : ℕ
+wrongStrip = 28

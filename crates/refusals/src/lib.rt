@@ -1,4 +1,4 @@
-// The refusal numbers of document 01, by name. specs/Refusals.antt has the same names and the paper's words for each.
+// The refusal numbers of document 01, and those that document 02 adds, by name. specs/Refusals.antt has the same names and the papers' words for each.
 pub const BROKEN_POOL: u32 = 1;
 
 pub const UNKNOWN_NODE: u32 = 2;
@@ -36,3 +36,7 @@ pub const NO_INVERSE: u32 = 17;
 pub const POOL_FULL: u32 = 18;
 
 pub const NO_ROOM: u32 = 19;
+
+pub const TOO_MANY_PLACES: u32 = 27;
+
+pub const WRONG_STRIP: u32 = 28;

@@ -8,7 +8,7 @@ use Prim.Native.Nat.{ℕ, zero, suc, _+_, _^_, _<_}
 use lib.Dec.{leb}
 use lib.Ieee.{Float}
 use lib.ListN.{length, getD}
-use Rattle.refusals.specs.Refusals.{brokenPool, unknownNode, unknownVariable, notLiteral, wrongValues, wrongLength, wrongEntry, wrongSequence, maxReached, noRoom}
+use Rattle.refusals.specs.Refusals.{brokenPool, unknownNode, unknownVariable, notLiteral, wrongValues, wrongLength, wrongEntry, wrongSequence, maxReached, notEvaluated, noRoom, tooManyPlaces, wrongStrip}
 use Rattle.literal.specs.Literal.{isLiteral}
 use Rattle.double.specs.declared.Valued.{Valued}
 use Rattle.double.specs.declared.Valued.the-variants as valued-as
@@ -36,9 +36,13 @@ use Rattle.lent.specs.Writing.{Put, unwritten, writes}
 use Rattle.low_bytes.specs.Output.{textFits}
 use Rattle.engine_print.specs.Printing.{printCall}
 use Rattle.engine_file.specs.Write.{writeCall}
+use Rattle.key_strip.specs.Strip.{stripOf, placesOf, mostPlaces, hasExpOrLog}
+use Rattle.key_strip.specs.Machine.{isStrip, runStrip}
+use Rattle.engine_strip.specs.Strips.{stripCall, runStripCall}
 use Rattle.situations.specs.Refusal.{Among, ofOut, ofValued, ofDivided}
 use Rattle.situations.proofs.Steps.{Refusing, _>>=_, append-refuses}
 use Rattle.situations.proofs.Situations.{of-constructors, of-walks}
+use Rattle.situations.proofs.Running.{of-strips}
 use Rattle.situation_calls.specs.Table as table
 use Rattle.situation_calls.specs.Table.{met}
 use Rattle.situation_calls.specs.Answers.{Situated, ByTable, ofAnswer, ofWritten, OfCalls}
@@ -92,6 +96,10 @@ module _ (ks ws : List ℕ) (n : ℕ) (fit : (i : ℕ) → getD ws i 0 < 2 ^ 64)
       asked (allBelow n nodes) unknownNode (givenVariable v run P) (λ e.
       asked (leb v greatestVariable) unknownVariable (run P) (λ f. working (h r e))))
 
+  -- a call that gives a double
+  valued : {checks meets : List ℕ} {tests : List Bool} (t : Bool) (k : ℕ) (v : Valued) → (t ≡ true → Situated checks meets tests (ofValued v)) → Situated (k ∷ checks) meets (t ∷ tests) (ofValued (demand valued-as.Refused t k v))
+  valued = demanded ofValued valued-as.Refused (λ k. refl)
+
   evaluate-answers : (root : ℕ) (values : List Float) → ByTable table.evaluate (isPool ks ws n ∷ allBelow n (root ∷ []) ∷ leb (length values) mostValues ∷ []) (ofValued (evaluateCall ks ws n root values))
   unfolding evaluateCall
   evaluate-answers root values =
@@ -99,9 +107,6 @@ module _ (ks ws : List ℕ) (n : ℕ) (fit : (i : ℕ) → getD ws i 0 < 2 ^ 64)
       valued (isPool ks ws n) brokenPool _ (λ r.
       valued (allBelow n (root ∷ [])) unknownNode _ (λ e.
       valued (leb (length values) mostValues) wrongValues value (λ f. working (of-walks P (rules r) root (root-below root [] e) .evaluation values))))
-    where
-      valued : {checks meets : List ℕ} {tests : List Bool} (t : Bool) (k : ℕ) (v : Valued) → (t ≡ true → Situated checks meets tests (ofValued v)) → Situated (k ∷ checks) meets (t ∷ tests) (ofValued (demand valued-as.Refused t k v))
-      valued = demanded ofValued valued-as.Refused (λ k. refl)
 
   residue-answers : (root : ℕ) (values : List ℕ) → ByTable table.evaluate-residue (isPool ks ws n ∷ allBelow n (root ∷ []) ∷ areResidues values ∷ []) (ofDivided (evaluateResidueCall ks ws n root values))
   unfolding evaluateResidueCall
@@ -154,6 +159,26 @@ module _ (ks ws : List ℕ) (n : ℕ) (fit : (i : ℕ) → getD ws i 0 < 2 ^ 64)
       passed (areNodes bs) wrongEntry third P (λ f.
       passed (isInOrder bs) wrongSequence append-all P (λ g. working (appends (sizeOf bs) (λ i. rename (λ j. n + j) (entryOf bs i)) .refuses P)))))
 
+  strip-answers : (root : ℕ) (out : List ℕ) → ByTable table.strip (isPool ks ws n ∷ allBelow n (root ∷ []) ∷ []) (ofWritten (stripCall ks ws n root out .answer))
+  unfolding stripCall
+  strip-answers root out =
+      let at = nodeIn ks ws in
+      written-to out (isPool ks ws n) brokenPool _ (λ r.
+      written-to out (allBelow n (root ∷ [])) unknownNode _ (λ e.
+      working (work (not (hasExpOrLog at root)) (leb (placesOf at root) mostPlaces) (textFits (stripOf at root) out) (stripOf at root))))
+    where
+      work : (codes places fits : Bool) (bytes : List ℕ) → Among (met table.strip) (ofWritten (demand (unwritten out) codes notEvaluated (demand (unwritten out) places tooManyPlaces (demand (unwritten out) fits noRoom (writes bytes out))) .answer))
+      work true true true bytes = tt
+      work true true false bytes = inr (inl refl)
+      work true false fits bytes = inr (inr (inl refl))
+      work false places fits bytes = inl refl
+
+  run-strip-answers : (bs : List ℕ) (values : List Float) → ByTable table.run-strip (leb (length values) mostValues ∷ isStrip bs ∷ []) (ofValued (runStripCall bs values))
+  unfolding runStripCall
+  run-strip-answers bs values =
+      valued (leb (length values) mostValues) wrongValues _ (λ f.
+      valued (isStrip bs) wrongStrip (runStrip values bs) (λ e. working (of-strips bs e .running values)))
+
   pub of-calls : OfCalls ks ws n
   of-calls =
       record {
@@ -174,4 +199,6 @@ module _ (ks ws : List ℕ) (n : ℕ) (fit : (i : ℕ) → getD ws i 0 < 2 ^ 64)
         print-call = print-answers;
         write-call = write-answers;
         read-call = read-answers;
+        strip-call = strip-answers;
+        run-strip-call = run-strip-answers;
       }

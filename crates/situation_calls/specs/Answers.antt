@@ -26,6 +26,8 @@ use Rattle.engine_walk.specs.Walks.{substituteWork, deriveWork}
 use Rattle.engine_values.specs.Values.{mostValues, areResidues, evaluateCall, evaluateResidueCall}
 use Rattle.engine_print.specs.Printing.{printCall}
 use Rattle.engine_file.specs.Write.{writeCall}
+use Rattle.key_strip.specs.Machine.{isStrip}
+use Rattle.engine_strip.specs.Strips.{stripCall, runStripCall}
 use Rattle.lent_series.specs.declared.series.Series.{Series}
 use Rattle.lent_series.specs.declared.call.Outcome.{Outcome}
 use Rattle.lent_series.specs.Series.{nodesOf, lengthOk, given}
@@ -110,6 +112,9 @@ pub record OfCalls (ks ws : List ℕ) (n : ℕ) : Type 0 where
   pub print-call : (root : ℕ) (out : List ℕ) → ByTable table.print (nodesTested ks ws n (root ∷ [])) (ofWritten (printCall ks ws n root out .answer))
   pub write-call : (root : ℕ) (out : List ℕ) → ByTable table.write (nodesTested ks ws n (root ∷ [])) (ofWritten (writeCall ks ws n root out .answer))
   pub read-call : (bs : List ℕ) → ByTable table.read (isPool ks ws n ∷ isSized bs ∷ areNodes bs ∷ isInOrder bs ∷ []) (refusalOf (readFile bs) ks ws n)
+  pub strip-call : (root : ℕ) (out : List ℕ) → ByTable table.strip (nodesTested ks ws n (root ∷ [])) (ofWritten (stripCall ks ws n root out .answer))
+  -- the machine has no pool
+  pub run-strip-call : (bs : List ℕ) (values : List Float) → ByTable table.run-strip (leb (length values) mostValues ∷ isStrip bs ∷ []) (ofValued (runStripCall bs values))
 
 -- the tests of one expansion, and of two with what is asked of their lengths
 abbrev pub oneTested : List ℕ → List ℕ → ℕ → Series → Bool → List Bool

@@ -9,3 +9,4 @@ pub mod Operations
 pub mod Derivative
 pub mod Expansions
 pub mod Situations
+pub mod Running

@@ -11,6 +11,7 @@ use Rattle.walks.specs.Evaluate.{evaluate}
 use Rattle.walks.specs.EvaluateResidue.{evaluateResidue}
 use Rattle.taylor.specs.Expansion.{Expansion, var, coeff, derivative, negate, exponential, logarithm, power, addTo, subFrom, times, quotient, maximum, subst}
 use Rattle.taylor.specs.Expand.{Point, expand}
+use Rattle.key_strip.specs.Machine.{runStrip}
 use Rattle.situations.specs.Refusal.{Among, ofOut, ofResult, ofValued, ofDivided}
 
 -- "Constructors of src/symbolic.rs .. 11 to 14, 18."
@@ -43,6 +44,10 @@ ofEvaluation = 15 ∷ 16 ∷ []
 
 abbrev pub ofResidues : List ℕ
 ofResidues = 15 ∷ 16 ∷ 17 ∷ []
+
+-- the machine of C-20: a variable has no entry
+abbrev pub ofRunning : List ℕ
+ofRunning = 15 ∷ []
 
 -- a Max is made of two constants, and of nothing else
 abbrev pub ofMax : List ℕ
@@ -82,3 +87,7 @@ pub record OfExpansions (P : Pool) : Type 0 where
   pub div-meets : (s t : Expansion) → Among ofConstructors (ofResult (quotient s t P))
   pub max-meets : (s t : Expansion) → Among ofMax (ofResult (maximum s t P))
   pub subst-meets : (outer inner : Expansion) → Among ofConstructors (ofResult (subst outer inner P))
+
+-- a strip that the machine accepts
+pub record OfStrips (bs : List ℕ) : Type 0 where
+  pub running : (values : List Float) → Among ofRunning (ofValued (runStrip values bs))

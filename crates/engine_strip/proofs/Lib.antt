@@ -1,0 +1,4 @@
+pub mod Strips
+pub mod Runs
+pub mod Accepting
+pub mod Theorems
