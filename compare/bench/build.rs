@@ -1,4 +1,4 @@
-//! Takes the Rust as it is, but for the last square of `pow`, and compiles the plain check in C.
+//! Takes the Rust as it is, but for the last square of `pow`, and compiles the plain check and the plain strips in C.
 #[path = "../take.rs"]
 mod take;
 
@@ -16,17 +16,19 @@ fn main() {
     fs::write(out.join("univariate_taylor.rs"), take::taylor(&sources)).unwrap();
     fs::write(out.join("number.rs"), take::read(&sources, "number/number.rs")).unwrap();
 
-    compile_check(&here, &out);
+    compile(&here, &out, "check", "-O3");
+    compile(&here, &out, "strips", "-O2");
     take::link(&repository);
 }
 
-/// check.c as an archive of its own, by `cc -O3`.
-fn compile_check(here: &PathBuf, out: &PathBuf) {
-    let source = here.join("check.c");
+/// A C source as an archive of its own, by `cc`.
+fn compile(here: &PathBuf, out: &PathBuf, name: &str, level: &str) {
+    let source = here.join(format!("{name}.c"));
+    let object = out.join(format!("{name}.o"));
     println!("cargo:rerun-if-changed={}", source.display());
     let run = |command: &mut Command| assert!(command.status().expect("cc and ar").success());
-    run(Command::new("cc").args(["-O3", "-std=c99", "-Wall", "-Wextra", "-c", "-o"]).arg(out.join("check.o")).arg(&source));
-    run(Command::new("ar").arg("crs").arg(out.join("libplain_check.a")).arg(out.join("check.o")));
+    run(Command::new("cc").args([level, "-std=c99", "-Wall", "-Wextra", "-c", "-o"]).arg(&object).arg(&source));
+    run(Command::new("ar").arg("crs").arg(out.join(format!("libplain_{name}.a"))).arg(&object));
     println!("cargo:rustc-link-search=native={}", out.display());
-    println!("cargo:rustc-link-lib=static=plain_check");
+    println!("cargo:rustc-link-lib=static=plain_{name}");
 }

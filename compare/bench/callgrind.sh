@@ -14,7 +14,7 @@ printf '%-12s %5s %12s %12s %7s\n' operation size engine Rust ratio
 while read -r operation size; do
   ours=$(counted engine "$operation" "$size")
   case $operation in
-    write | read) printf '%-12s %5s %12s\n' "$operation" "$size" "$ours" ;;
+    write | read | strip | run_strip) printf '%-12s %5s %12s\n' "$operation" "$size" "$ours" ;;
     *)
       theirs=$(counted rust "$operation" "$size")
       printf '%-12s %5s %12s %12s %7s\n' "$operation" "$size" "$ours" "$theirs" "$(awk -v a="$ours" -v b="$theirs" 'BEGIN { printf "%.2f", a / b }')"

@@ -1,5 +1,5 @@
 //! The Rust and the engine side by side on one pool: a call is made on both, and its answer, the count and every lent byte are compared.
-use crate::call::{Answer, Call};
+use crate::call::{Answer, Call, Given};
 use crate::counted;
 use crate::engine::Engine;
 use crate::symbolic::oracle;
@@ -10,6 +10,8 @@ use std::collections::BTreeMap;
 pub struct Met {
     pub rules: BTreeMap<&'static str, u64>,
     pub calls: BTreeMap<&'static str, BTreeMap<u32, u64>>,
+    /// How many strips that were made ran as their expressions evaluate.
+    pub strips_run: u64,
 }
 
 impl Met {
@@ -28,6 +30,7 @@ impl Met {
 
     /// What another part of a run has met, counted here too.
     pub fn take(&mut self, other: Met) {
+        self.strips_run += other.strips_run;
         other.rules.into_iter().for_each(|(rule, n)| *self.rules.entry(rule).or_default() += n);
         for (name, outcomes) in other.calls {
             outcomes.into_iter().for_each(|(number, n)| *self.calls.entry(name).or_default().entry(number).or_default() += n);
@@ -64,6 +67,17 @@ impl Both {
         self.engine.check_guards(call.name());
         self.met.count(call.name(), theirs.as_ref().err().copied().unwrap_or(0));
         theirs
+    }
+
+    /// The strip of an expression and, where it is made, its run over a table of values: "the bits of the double evaluation".
+    pub fn strip_and_run(&mut self, root: u64, values: &[f64]) -> Answer {
+        let made = self.call(&Call::Strip { root, room: 65_535 });
+        if let Ok(Given::Bytes(strip)) = &made {
+            let ran = self.call(&Call::RunStrip { strip: strip.clone(), values: values.to_vec() });
+            assert_eq!(ran, self.call(&Call::Evaluate(root, values.to_vec())), "the run of the strip of node {root}, and its evaluation");
+            self.met.strips_run += 1;
+        }
+        made
     }
 
     fn rule_of(&mut self, call: &Call, count: u64) {

@@ -2,7 +2,7 @@
 use crate::counted::{self, Refusal};
 use crate::engine::Engine;
 use crate::symbolic::oracle;
-use crate::{file, values, whole};
+use crate::{file, machine, values, whole};
 use std::panic::{catch_unwind, AssertUnwindSafe};
 
 /// "An expansion is a constant, or a list of 1 to 25 node numbers".
@@ -64,6 +64,8 @@ pub enum Call {
     Print { root: u64, room: usize },
     Write { root: u64, room: usize },
     Read(Vec<u8>),
+    Strip { root: u64, room: usize },
+    RunStrip { strip: Vec<u8>, values: Vec<f64> },
     TaylorVar { x: u64, order: u64 },
     TaylorFromCoefficients(Series),
     TaylorOrder(Series),
@@ -141,6 +143,8 @@ impl Call {
             Print { .. } => "print",
             Write { .. } => "write",
             Read(..) => "read",
+            Strip { .. } => "strip",
+            RunStrip { .. } => "run_strip",
             TaylorVar { .. } => "taylor_var",
             TaylorFromCoefficients(..) => "taylor_from_coefficients",
             TaylorOrder(..) => "taylor_order",
@@ -181,6 +185,8 @@ impl Call {
             Print { root, room } => engine.print(*root, *room).map(Bytes),
             Write { root, room } => engine.write(*root, *room).map(Bytes),
             Read(file) => engine.read(file).map(Number),
+            Strip { root, room } => engine.strip(*root, *room).map(Bytes),
+            RunStrip { strip, values } => engine.run_strip(strip, values).map(Number),
             TaylorVar { x, order } => engine.taylor_var(*x, *order).map(Expansion),
             TaylorFromCoefficients(s) => engine.taylor_from_coefficients(s).map(Expansion),
             TaylorOrder(s) => engine.taylor_order(s).map(Number),
@@ -202,7 +208,7 @@ impl Call {
     }
 
     /// The answer by document 01 and the Rust: "1 to 9 are checked first, smallest number first. Then the work runs .. 19 comes last."
-    /// The pool keeps its rules on this side, so 1 does not arise.
+    /// The pool keeps its rules on this side, so 1 does not arise. C-20: 28 is "checked after 9 and before 15", 27 "after 16 and before 19".
     pub fn theirs(&self) -> Answer {
         match self.refused_first() {
             Some(number) => Err(number),
@@ -234,11 +240,11 @@ impl Call {
     /// The node numbers given.
     fn nodes(&self) -> Vec<u64> {
         match self {
-            Lit(_) | Var(_) | Read(_) => vec![],
+            Lit(_) | Var(_) | Read(_) | RunStrip { .. } => vec![],
             Add(a, b) | Mul(a, b) | Div(a, b) | Max(a, b) => vec![*a, *b],
             Neg(a) | Exp(a) | Log(a) | Pow(a, _) => vec![*a],
             SubstituteVar { root, value, .. } => vec![*root, *value],
-            Derive { root, .. } | Print { root, .. } | Write { root, .. } => vec![*root],
+            Derive { root, .. } | Print { root, .. } | Write { root, .. } | Strip { root, .. } => vec![*root],
             Evaluate(root, _) | EvaluateResidue(root, _) => vec![*root],
             TaylorCoeffs { root, .. } | TaylorCoeffsAt { root, .. } => vec![*root],
             TaylorVar { x, .. } => vec![*x],
@@ -282,13 +288,13 @@ impl Call {
     /// 6. "A table of values has more than 65,536 entries, or a residue in it is 2,147,483,647 or more."
     fn values_ok(&self) -> bool {
         match self {
-            Evaluate(_, values) => values.len() <= 65_536,
+            Evaluate(_, values) | RunStrip { values, .. } => values.len() <= 65_536,
             EvaluateResidue(_, values) => values.len() <= 65_536 && values.iter().all(|x| (*x as u64) < values::MODULUS),
             _ => true,
         }
     }
 
-    /// The work, by the Rust; node files by document 01's words.
+    /// The work, by the Rust; node files by document 01's words, strips by the request's.
     fn worked(&self) -> Answer {
         match self {
             Read(bytes) => {
@@ -297,6 +303,8 @@ impl Call {
             }
             Write { root, room } => within(file::written(&oracle::entries(), *root as usize), *room),
             Print { root, room } => within(rust(|| oracle::print(*root))?, *room),
+            Strip { root, room } => within(rust(|| oracle::strip(*root))?, *room),
+            RunStrip { strip, values } => machine::run(strip, values).map(|x| Number(bits(x))),
             TaylorVar { .. } | TaylorFromCoefficients(_) | TaylorNeg(_) | TaylorExp(_) | TaylorLog(_) | TaylorPow(..) => self.expanded(),
             TaylorAdd(..) | TaylorSub(..) | TaylorMul(..) | TaylorDiv(..) | TaylorMax(..) | TaylorSubst(..) => self.expanded(),
             TaylorCoeffs { .. } | TaylorCoeffsAt { .. } => self.expanded(),
@@ -358,6 +366,6 @@ fn within(bytes: Vec<u8>, room: usize) -> Answer {
 }
 
 /// "A NaN result is handed back with bits 7FF8000000000000".
-fn bits(x: f64) -> u64 {
+pub fn bits(x: f64) -> u64 {
     if x.is_nan() { 0x7ff8_0000_0000_0000 } else { x.to_bits() }
 }

@@ -20,6 +20,10 @@ impl Numbers {
         (0..self.next()).map(|_| self.next()).collect()
     }
 
+    fn bytes(&mut self) -> Vec<u8> {
+        self.some().into_iter().map(|byte| byte as u8).collect()
+    }
+
     fn entry(&mut self) -> Entry {
         (self.next() as u8, self.next())
     }
@@ -57,7 +61,7 @@ impl Numbers {
             23 => EvaluateResidue(self.next(), residues(self.some())),
             24 | 47 => Print { room: self.next() as usize, root: self.next() },
             25 => Write { room: self.next() as usize, root: self.next() },
-            26 => Read(self.some().into_iter().map(|byte| byte as u8).collect()),
+            26 => Read(self.bytes()),
             28 => Evaluate(self.next(), doubles(self.alike())),
             29 => EvaluateResidue(self.next(), residues(self.alike())),
             30 => TaylorVar { x: self.next(), order: self.next() },
@@ -77,6 +81,9 @@ impl Numbers {
             44 => TaylorSubst(self.series(), self.series()),
             45 => TaylorCoeffs { root: self.next(), var: self.next(), order: self.next() },
             46 => TaylorCoeffsAt { root: self.next(), var: self.next(), point: self.next() as i64, order: self.next() },
+            49 => Strip { room: self.next() as usize, root: self.next() },
+            50 => RunStrip { strip: self.bytes(), values: doubles(self.some()) },
+            51 => RunStrip { strip: self.bytes(), values: doubles(self.alike()) },
             _ => panic!("operation {operation} is no case's"),
         }
     }
@@ -145,7 +152,9 @@ impl Cases {
         let call = numbers.call(operation);
         let given: Vec<u64> = numbers.0.collect();
         if lengths != [LIMIT as u64; 2] || !file::is_pool(&self.kinds, &self.words, self.count) {
-            assert_eq!(given, [1], "{line}");
+            // a strip is run without a pool
+            let theirs = if matches!(call, Call::RunStrip { .. }) { Numbers::of(&answered(&call, &outcome(&call))).0.collect() } else { vec![1] };
+            assert_eq!(given, theirs, "{line}");
             return;
         }
         counted::forget_from(0);

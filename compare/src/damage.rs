@@ -63,14 +63,14 @@ fn damage(random: &mut Random, engine: &mut Engine) {
     }
 }
 
-/// Each call once, with arguments that other refusals, or none, would be given for.
+/// Each call on a pool once, with arguments that other refusals, or none, would be given for.
 pub fn each_call(node: u64, var: u64, s: Series) -> Vec<Call> {
     use Call::*;
     let t = Series::constant(node);
     vec![
         Lit(i64::MIN), Var(var), Add(node, 0), Mul(0, node), Div(node, node), Max(node, 0), Neg(node), Exp(node), Log(node), Pow(node, 0),
         SubstituteVar { root: node, var, value: node }, Derive { root: node, var }, Evaluate(node, vec![]), EvaluateResidue(node, vec![u32::MAX]),
-        Print { root: node, room: 0 }, Write { root: node, room: 0 }, Read(vec![]),
+        Print { root: node, room: 0 }, Write { root: node, room: 0 }, Strip { root: node, room: 0 }, Read(vec![]),
         TaylorVar { x: node, order: 25 }, TaylorFromCoefficients(s), TaylorOrder(s), TaylorCoeff(s, 0), TaylorDerivative(s, var),
         TaylorNeg(s), TaylorExp(t), TaylorLog(s), TaylorPow(s, 2), TaylorAdd(s, t), TaylorSub(t, s), TaylorMul(s, s), TaylorDiv(t, t),
         TaylorMax(s, t), TaylorSubst(s, s),
@@ -78,7 +78,7 @@ pub fn each_call(node: u64, var: u64, s: Series) -> Vec<Call> {
     ]
 }
 
-/// A pool that breaks a rule, or tables of other lengths: every call is refused by 1.
+/// A pool that breaks a rule, or tables of other lengths: every call on it is refused by 1.
 pub fn pool(random: &mut Random, both: &mut Both) {
     let mut engine = both.engine.clone();
     let node = random.node(engine.count());

@@ -59,6 +59,16 @@ impl Pool {
         })
     }
 
+    /// So many sums of a node with itself.
+    fn doublings(&mut self, levels: u32) -> u64 {
+        (0..levels).fold(self.x, |before, _| self.put(3, pair(before, before)))
+    }
+
+    /// So many sums of x0 with the one before: one leaf more.
+    fn sums_on_the_right(&mut self, sums: u32) -> u64 {
+        (0..sums).fold(self.x, |before, _| self.put(3, pair(self.x, before)))
+    }
+
     /// A sum of 2^14 leaves, all of them x0 but the first, which is a literal: 3 × (2^14 - 1) bytes stand between them.
     fn sum_of_leaves(&mut self, literal: u64) -> u64 {
         let mut doubled = self.x;
@@ -113,7 +123,8 @@ fn of_arguments(p: &Pool) -> Vec<Directed> {
     let mut calls: Vec<Directed> = given(2, vec![
         Add(none, x), Mul(x, none), Div(none, x), Max(x, none), Neg(none), Exp(none), Log(none), Pow(none, 0),
         SubstituteVar { root: x, var: 0, value: none }, Derive { root: none, var: 0 }, Evaluate(none, vec![]), EvaluateResidue(none, vec![]),
-        Print { root: none, room: 0 }, Write { root: none, room: 0 }, TaylorVar { x: none, order: 0 }, TaylorFromCoefficients(s), TaylorOrder(s),
+        Print { root: none, room: 0 }, Write { root: none, room: 0 }, Strip { root: none, room: 0 }, TaylorVar { x: none, order: 0 },
+        TaylorFromCoefficients(s), TaylorOrder(s),
         TaylorCoeff(s, 0), TaylorDerivative(s, 0), TaylorNeg(s), TaylorExp(s), TaylorLog(s), TaylorPow(s, 0), TaylorAdd(s, c), TaylorSub(c, s),
         TaylorMul(s, c), TaylorDiv(c, s), TaylorMax(s, c), TaylorSubst(c, s), TaylorCoeffs { root: none, var: 0, order: 0 },
         TaylorCoeffsAt { root: none, var: 0, point: 0, order: 0 },
@@ -185,6 +196,48 @@ fn of_values_and_texts(p: &Pool) -> Vec<Directed> {
     ]
 }
 
+/// 16, 27 and 19 of a strip, in this order, and at the longest strip; and those that just fit.
+fn of_strips(p: &mut Pool) -> (Vec<Directed>, [Call; 2]) {
+    let mut doubled = p.x;
+    // x0^2 and 2, 4, .., 2^13 further leaves: 65,536 bytes
+    let mut sum = p.square;
+    for _ in 0..13 {
+        doubled = p.put(3, pair(doubled, doubled));
+        sum = p.put(3, pair(sum, doubled));
+    }
+    let longest = p.put(3, pair(doubled, doubled));
+    let (deep, high) = (p.put(6, p.left_sums), p.doublings(127));
+    let higher = p.put(3, pair(high, high));
+    let fits = p.sums_on_the_right(127);
+    let more = p.put(3, pair(p.x, fits));
+    let mut calls: Vec<Directed> = [(16, p.exp), (16, deep), (27, p.left_sums), (27, more), (27, higher), (19, high), (19, sum), (19, p.too_long)]
+        .map(|(number, root)| (number, Strip { root, room: 65_535 })).to_vec();
+    calls.extend([(16, Strip { root: deep, room: 0 }), (27, Strip { root: higher, room: 0 }), (19, Strip { root: longest, room: 65_534 })]);
+    calls.push((19, Strip { root: p.x, room: 2 }));
+    (calls, [Strip { root: longest, room: 65_535 }, Strip { root: fits, room: 511 }])
+}
+
+/// 28 and 15 of a run, for each reason.
+fn of_runs() -> Vec<Directed> {
+    let x = [1, 0, 0];
+    let run = |number: u32, parts: &[&[u8]], values: &[f64]| (number, RunStrip { strip: parts.concat(), values: values.to_vec() });
+    let pushes = |n: usize| [x.repeat(n), vec![3; n - 1]].concat();
+    let literal = |z: i64| [&[2][..], &z.to_le_bytes()].concat();
+    vec![
+        run(0, &[&literal(1), &literal(3), &[5]], &[]), run(28, &[&[1, 5, 0, 255]], &[]), run(28, &[], &[]), run(15, &[&x], &[]), run(15, &[&x, &[1, 1, 0, 3]], &[1.0]),
+        run(28, &[&[1, 0]], &[1.0]), run(28, &[&x, &x], &[1.0]), run(28, &[&x, &[3], &x], &[1.0]), run(28, &[&[3], &x, &x], &[1.0]),
+        run(28, &[&[8, 2, 0, 0, 0], &x], &[1.0]),
+        run(28, &[&x, &[0]], &[1.0]), run(28, &[&x, &[6]], &[1.0]), run(28, &[&x, &[7]], &[1.0]), run(28, &[&x, &[10]], &[1.0]),
+        run(28, &[&x, &[8, 0, 0, 0, 0]], &[1.0]), run(28, &[&x, &[8, 1, 0, 0, 0]], &[1.0]), run(28, &[&x, &[8, 2, 0, 0]], &[1.0]),
+        run(28, &[&literal(whole::MAX + 1)], &[]), run(28, &[&literal(-whole::MAX - 1)], &[]), run(28, &[&literal(1)[..8]], &[]),
+        run(0, &[&literal(whole::MAX)], &[]), run(0, &[&literal(-whole::MAX)], &[]),
+        run(0, &[&x, &[8, 2, 0, 0, 0]], &[1.5]), run(0, &[&x, &[8, 255, 255, 255, 255]], &[-1.0]),
+        run(0, &[&x, &[1, 1, 0, 9]], &[f64::NAN, 1.5]), run(0, &[&x, &[1, 1, 0, 9]], &[1.5, f64::NAN]), run(0, &[&x], &[f64::from_bits(1)]),
+        run(0, &[&pushes(128)], &[0.5]), run(28, &[&pushes(129)], &[0.5]),
+        run(6, &[&x], &[0.0; 65_537]), run(6, &[], &[0.0; 65_537]),
+    ]
+}
+
 /// 11 to 14 of the operations on expansions.
 fn of_expansions(p: &Pool) -> Vec<Directed> {
     let c = Series::constant;
@@ -227,6 +280,7 @@ fn of_no_room(p: &Pool) -> Vec<Call> {
     let s = Series::list(&[p.x, p.y]);
     vec![
         Evaluate(p.square, vec![1.5]), EvaluateResidue(p.square, vec![5]), Print { root: p.square, room: 9 }, Write { root: p.square, room: 40 },
+        Strip { root: p.square, room: 9 },
         TaylorFromCoefficients(s), TaylorOrder(s),
     ]
 }
@@ -242,13 +296,17 @@ pub fn all() -> All {
     let mut pool = Pool::new();
     let mut calls = of_walks(&mut pool);
     calls.extend(of_expressions(&mut pool));
+    let (refused, just_fit) = of_strips(&mut pool);
+    calls.extend(refused);
     calls.extend(of_arguments(&pool));
     calls.extend(of_files());
     calls.extend(of_constructors(&pool));
     calls.extend(of_values_and_texts(&pool));
+    calls.extend(of_runs());
     calls.extend(of_expansions(&pool));
     calls.extend(of_room(&pool).into_iter().chain(of_no_room(&pool)).map(|call| (0, call)));
     calls.push((0, Print { root: pool.longest, room: 65_535 }));
+    calls.extend(just_fit.map(|call| (0, call)));
     let full = of_room(&pool).into_iter().map(|call| (18, call)).collect();
     All { pool, calls, full }
 }

@@ -19,6 +19,8 @@ extern "C" {
     fn bunlayog_evaluate(k: *const u8, kl: usize, w: *const u64, wl: usize, n: u64, root: u64, v: *const f64, vl: usize, bits: *mut u64) -> u32;
     fn bunlayog_evaluate_residue(k: *const u8, kl: usize, w: *const u64, wl: usize, n: u64, root: u64, v: *const u32, vl: usize, residue: *mut u32) -> u32;
     fn bunlayog_print(k: *const u8, kl: usize, w: *const u64, wl: usize, n: u64, root: u64, out: *mut u8, ol: usize, written: *mut u64) -> u32;
+    fn bunlayog_strip(k: *const u8, kl: usize, w: *const u64, wl: usize, n: u64, root: u64, out: *mut u8, ol: usize, written: *mut u64) -> u32;
+    fn bunlayog_run_strip(s: *const u8, sl: usize, v: *const f64, vl: usize, bits: *mut u64) -> u32;
     fn bunlayog_write(k: *const u8, kl: usize, w: *const u64, wl: usize, n: u64, root: u64, out: *mut u8, ol: usize, written: *mut u64) -> u32;
 }
 
@@ -120,6 +122,17 @@ impl Engine {
     value!(evaluate_residue, bunlayog_evaluate_residue, u32, u32);
     output!(print, bunlayog_print);
     output!(write, bunlayog_write);
+    output!(strip, bunlayog_strip);
+
+    /// The machine needs no pool. Its answer's place stands between guard words.
+    pub fn run_strip(&self, strip: &[u8], values: &[f64]) -> Result<u64, u32> {
+        let mut place = [WORD; 3];
+        let number = unsafe { bunlayog_run_strip(strip.as_ptr(), strip.len(), values.as_ptr(), values.len(), place.as_mut_ptr().add(1)) };
+        let [before, bits, after] = place;
+        assert!(before == WORD && after == WORD, "a word beside the place of the answer changed");
+        assert!(number == 0 || bits == WORD, "a refused call wrote to the place of its answer");
+        if number == 0 { Ok(bits) } else { Err(number) }
+    }
 
     /// After a call that works on the pool: what it appended is to be there from now on, and a refused call leaves the count.
     pub(crate) fn appended(&mut self, before: u64, number: u32) {

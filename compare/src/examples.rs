@@ -6,11 +6,11 @@ use crate::number::{Number, F64};
 use crate::ppl;
 use crate::symbolic::SymGenFun;
 use crate::univariate_taylor::{TaylorExpansion, TESTS};
-use crate::whole;
+use crate::{strip_examples, whole};
 use std::panic::{catch_unwind, AssertUnwindSafe};
 use Call::*;
 
-fn node(both: &mut Both, call: Call) -> u64 {
+pub fn node(both: &mut Both, call: Call) -> u64 {
     match both.call(&call) {
         Ok(Given::Number(node)) => node,
         answer => panic!("{call:?} answered {answer:?}"),
@@ -41,11 +41,11 @@ fn values(both: &mut Both, s: Series) -> Vec<f64> {
     s.nodes().iter().map(|root| f64::from_bits(node(both, Evaluate(*root, vec![])))).collect()
 }
 
-fn x0(both: &mut Both) -> u64 {
+pub fn x0(both: &mut Both) -> u64 {
     node(both, Var(0))
 }
 
-fn lit(both: &mut Both, z: i64) -> u64 {
+pub fn lit(both: &mut Both, z: i64) -> u64 {
     node(both, Lit(z))
 }
 
@@ -79,7 +79,7 @@ fn at(both: &mut Both, root: u64, point: i64) -> String {
     texts(both, s)
 }
 
-type Example = (&'static str, fn(&mut Both));
+pub type Example = (&'static str, fn(&mut Both));
 
 /// Document 01, "Examples", in its order; * marks those that are proved too.
 const EXAMPLES: [Example; 20] = [
@@ -384,5 +384,8 @@ pub fn all() {
     run(&mut both, &WHOLE_TESTS);
     println!("Examples of docs/DIFFERENCES.md, on both sides:");
     run(&mut both, &DIFFERENCES);
+    println!("C-20, on both sides:");
+    run(&mut both, &strip_examples::MAKING);
+    run(&mut both, &strip_examples::RUNNING);
     println!("{} calls for these, as the Rust's", both.met.calls_made());
 }

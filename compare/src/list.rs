@@ -6,7 +6,7 @@ use crate::counted::{self, LIMIT};
 use crate::random::Random;
 use crate::file::Entry;
 use crate::symbolic::oracle;
-use crate::{damage, directed, file, report};
+use crate::{damage, directed, file, report, strips};
 use std::collections::BTreeSet;
 use std::fmt::Write;
 
@@ -18,6 +18,8 @@ const BLOCK: usize = 16_384;
 const BYTES_MAX: usize = 400;
 /// The longest table of values that is written out: a longer one has entries that are all alike.
 const VALUES_MAX: usize = 64;
+/// The longest strip of the list that is run.
+const STRIP_MAX: usize = 2_048;
 /// How many calls the list has at least.
 const CALLS: u64 = 5_000;
 
@@ -56,6 +58,7 @@ pub fn made(seed: u64) -> (String, String) {
 fn in_blocks(text: &str) -> String {
     let mut list = String::new();
     for line in text.split_inclusive('\n') {
+        assert!(line.len() < BLOCK, "a line that is longer than a block");
         let left = BLOCK - list.len() % BLOCK;
         if line.len() > left {
             writeln!(list, "{:1$}", "", left - 1).unwrap();
@@ -103,6 +106,8 @@ fn operation(call: &Call) -> u32 {
         TaylorSubst(..) => 44,
         TaylorCoeffs { .. } => 45,
         TaylorCoeffsAt { .. } => 46,
+        Strip { .. } => 49,
+        RunStrip { values, .. } => if values.len() > VALUES_MAX { 51 } else { 50 },
     }
 }
 
@@ -137,8 +142,11 @@ fn arguments(call: &Call) -> String {
         Derive { root, var } => format!("root {root} var {var}"),
         Evaluate(root, values) => format!("root {root} values {}{}", values.len(), numbers(written(values).iter().map(|x| x.to_bits()))),
         EvaluateResidue(root, values) => format!("root {root} values {}{}", values.len(), numbers(written(values))),
-        Print { root, room } | Write { root, room } => format!("room {room} root {root}"),
+        Print { root, room } | Write { root, room } | Strip { root, room } => format!("room {room} root {root}"),
         Read(bytes) => format!("length {} bytes{}", bytes.len(), numbers(bytes)),
+        RunStrip { strip, values } => {
+            format!("length {} bytes{} values {}{}", strip.len(), numbers(strip), values.len(), numbers(written(values).iter().map(|x| x.to_bits())))
+        }
         TaylorVar { x, order } => format!("at {x} order {order}"),
         TaylorFromCoefficients(s) | TaylorOrder(s) | TaylorNeg(s) | TaylorExp(s) | TaylorLog(s) => series(s),
         TaylorCoeff(s, i) | TaylorDerivative(s, i) => format!("{} index {i}", series(s)),
@@ -154,7 +162,7 @@ fn arguments(call: &Call) -> String {
 /// Whether a call's answer is followed by the entries that it appended.
 fn works_on_the_pool(call: &Call) -> bool {
     use Call::*;
-    !matches!(call, Evaluate(..) | EvaluateResidue(..) | Print { .. } | Write { .. } | TaylorFromCoefficients(_) | TaylorOrder(_))
+    !matches!(call, Evaluate(..) | EvaluateResidue(..) | Print { .. } | Write { .. } | Strip { .. } | RunStrip { .. } | TaylorFromCoefficients(_) | TaylorOrder(_))
 }
 
 /// An answer, and the entries that the call appended.
@@ -207,7 +215,7 @@ impl List {
         let outcome = outcome(&call);
         let line = line(&call, &outcome);
         let answer = outcome.answer;
-        if line.len() > LINE_MAX {
+        if line.len() > LINE_MAX || matches!(&call, Call::RunStrip { strip, .. } if strip.len() > STRIP_MAX) {
             counted::forget_from(before);
             return None;
         }
@@ -327,6 +335,13 @@ impl List {
         });
     }
 
+    /// The strip of an expression, and its run.
+    fn strip_and_run(&mut self, root: u64, values: Vec<f64>) {
+        if let Some(Given::Bytes(strip)) = self.call(Call::Strip { root, room: BYTES_MAX }) {
+            self.call(Call::RunStrip { strip, values });
+        }
+    }
+
     /// Every other call on each shape.
     fn each_shape(&mut self) {
         self.clear();
@@ -335,6 +350,7 @@ impl List {
             let b = shapes[(*a as usize + 3) % shapes.len()];
             let (constant, list) = (Series::constant(*a), Series::list(&[*a, b]));
             self.all(on_shape(*a, b));
+            self.strip_and_run(*a, vec![0.5, -3.0]);
             self.all(vec![
                 Call::TaylorExp(constant), Call::TaylorLog(list), Call::TaylorMul(list, list), Call::TaylorDiv(constant, list),
                 Call::TaylorPow(list, 2), Call::TaylorMax(constant, Series::constant(b)), Call::TaylorDerivative(list, 1),
@@ -415,6 +431,7 @@ impl List {
                 Call::Mul(a, y), Call::Mul(y, a), Call::Mul(a, a), Call::Add(a, y), Call::Exp(a), Call::Log(a), Call::Div(a, a), Call::Neg(a),
                 Call::Evaluate(a, vec![1.0]),
                 Call::EvaluateResidue(a, vec![3]), Call::Print { root: a, room: BYTES_MAX }, Call::Write { root: a, room: BYTES_MAX },
+                Call::Strip { root: a, room: BYTES_MAX },
                 Call::TaylorExp(list), Call::TaylorLog(list), Call::TaylorMul(list, list),
                 Call::TaylorNeg(list), Call::TaylorPow(list, 2), Call::TaylorDiv(list, list), Call::TaylorDerivative(list, 1),
             ]);
@@ -512,6 +529,28 @@ impl List {
         Call::Write { root, room }
     }
 
+    fn doubles(&mut self) -> Vec<f64> {
+        (0..self.random.below(4)).map(|_| self.random.double()).collect()
+    }
+
+    /// A strip of an expression or of random keys, as it is or damaged, and its run; or an output about as long as the strip.
+    fn strips(&mut self, root: u64) {
+        let values = self.doubles();
+        let strip = match self.random.below(4) {
+            0 => return self.strip_and_run(root, values),
+            1 => {
+                let room = self.room(Call::Strip { root, room: BYTES_MAX }.theirs());
+                return self.call(Call::Strip { root, room }).map_or((), |_| ());
+            }
+            2 => strips::of_keys(&mut self.random),
+            _ => {
+                let strip = strips::of_keys(&mut self.random);
+                strips::damaged(&mut self.random, strip)
+            }
+        };
+        self.call(Call::RunStrip { strip, values });
+    }
+
     fn read(&mut self, root: u64) -> Call {
         let written = Call::Write { root, room: BYTES_MAX - 20 }.theirs();
         let file = match written {
@@ -586,7 +625,7 @@ impl List {
 
     fn step(&mut self) {
         let (a, b) = (self.node(), self.node());
-        let call = match self.random.below(32) {
+        let call = match self.random.below(34) {
             0..=2 => self.valued(a),
             3..=4 => self.put_out(a),
             5..=6 => self.read(a),
@@ -597,6 +636,7 @@ impl List {
             }
             9..=15 => self.of_expansions(),
             16..=19 => self.of_expression(a),
+            20..=21 => return self.strips(a),
             _ => self.building(a, b),
         };
         self.call(call);

@@ -16,6 +16,7 @@ mod engine;
 mod examples;
 mod file;
 mod list;
+mod machine;
 mod random;
 mod report;
 mod run;
@@ -23,6 +24,9 @@ mod series;
 mod series_engine;
 mod sheet_model;
 mod small;
+mod strip_examples;
+mod strip_small;
+mod strips;
 mod values;
 mod whole;
 mod worst;
@@ -59,6 +63,7 @@ mod symbolic {
         use super::*;
         include!("oracle.rs");
         include!("series_oracle.rs");
+        include!("strip_oracle.rs");
     }
 }
 
@@ -102,11 +107,13 @@ fn all(seed: u64, seconds: u64) -> bool {
     let directed = directed::run();
     worst::all();
     small::all();
+    strip_small::all();
     let sheet = sheet_model::all(seed);
     let mut run = Run::new(seed);
     run.go(Duration::from_secs(seconds));
     println!("seed {seed}: {} random calls, the Rust and the engine agree on every answer and every lent byte", run.both.met.calls_made());
     println!("{} evaluations ran over the Rust's F64 as well", oracle::evaluations_over_f64());
+    println!("{} strips that were made gave, run over random values, the bits of their expressions' evaluation", run.both.met.strips_run);
     run.both.met.take(directed);
-    report::complete(&run.both.met) && sheet && oracle::evaluations_over_f64() > 0
+    report::complete(&run.both.met) && sheet && oracle::evaluations_over_f64() > 0 && run.both.met.strips_run > 0
 }

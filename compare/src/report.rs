@@ -5,7 +5,7 @@ use crate::symbolic::oracle;
 /// The refusals that each call can meet, by the Rust's rules and document 01's words: a run must meet each of them, and no other. 13 is not on the list of
 /// the last two: an expansion makes every node of its expression anew from the leaves, the rules give a power by itself with the exponent 2 alone, and
 /// by products with those no exponent of 32 bits is full before the pool is.
-const CAN: [(&str, &[u32]); 35] = [
+const CAN: [(&str, &[u32]); 37] = [
     ("check", &[1]),
     ("lit", &[1, 4, 18]),
     ("var", &[1, 3, 18]),
@@ -24,6 +24,8 @@ const CAN: [(&str, &[u32]); 35] = [
     ("print", &[1, 2, 10, 19]),
     ("write", &[1, 2, 19]),
     ("read", &[1, 7, 8, 9, 18]),
+    ("strip", &[1, 2, 16, 19, 27]),
+    ("run_strip", &[6, 15, 28]),
     ("taylor_var", &[1, 2, 5, 18]),
     ("taylor_from_coefficients", &[1, 2, 5]),
     ("taylor_order", &[1, 2, 5]),
@@ -43,6 +45,11 @@ const CAN: [(&str, &[u32]); 35] = [
     ("taylor_coeffs_at", &[1, 2, 3, 4, 5, 10, 11, 12, 14, 18]),
 ];
 
+/// The numbers that are given: 20 to 26 are not.
+fn refusals() -> impl Iterator<Item = u32> {
+    (1..=19).chain(27..=28)
+}
+
 /// Each call with each outcome that it can have, 0 for accepted.
 pub fn outcomes() -> impl Iterator<Item = (&'static str, u32)> {
     CAN.iter().flat_map(|(name, refusals)| std::iter::once(0).chain(refusals.iter().copied()).map(move |number| (*name, number)))
@@ -56,9 +63,9 @@ pub fn names() -> impl Iterator<Item = &'static str> {
 /// Prints how often a call was accepted and refused by each number; false where an outcome is missing or is none of the call's.
 fn call_met(met: &Met, name: &str, can: &[u32]) -> bool {
     let times = |outcome: u32| met.calls.get(name).and_then(|outcomes| outcomes.get(&outcome)).copied().unwrap_or(0);
-    let refused: Vec<String> = (1..=19).filter(|number| times(*number) > 0).map(|number| format!("{number}: {}", times(number))).collect();
+    let refused: Vec<String> = refusals().filter(|number| times(*number) > 0).map(|number| format!("{number}: {}", times(number))).collect();
     println!("{name}: {} accepted; refused by {}", times(0), refused.join(", "));
-    let wrong: Vec<u32> = (0..=19).filter(|number| (times(*number) > 0) != (*number == 0 || can.contains(number))).collect();
+    let wrong: Vec<u32> = std::iter::once(0).chain(refusals()).filter(|number| (times(*number) > 0) != (*number == 0 || can.contains(number))).collect();
     if !wrong.is_empty() {
         println!("{name}: never met, or met where it cannot be: {wrong:?}");
     }
@@ -73,7 +80,7 @@ pub fn complete(met: &Met) -> bool {
         println!("rule {rule}: {n}");
         complete &= n > 0;
     }
-    for number in 1..=19 {
+    for number in refusals() {
         let n = met.refused_by(number);
         println!("refusal {number}: {n}");
         complete &= n > 0;

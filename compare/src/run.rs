@@ -106,7 +106,7 @@ impl Run {
 
     fn step(&mut self) {
         let (a, b) = (self.node(), self.node());
-        let call = match self.random.below(200) {
+        let call = match self.random.below(220) {
             0..=4 => self.evaluate(a),
             5..=9 => self.evaluate_residue(a),
             10..=15 => self.print(a),
@@ -115,6 +115,7 @@ impl Run {
             25 => return damage::pool(&mut self.random, &mut self.both),
             26 => return self.powers(a, b),
             27..=82 => return self.series_step(),
+            83..=102 => return self.strip_step(a),
             _ => self.building(a, b),
         };
         let _ = self.both.call(&call);
@@ -158,9 +159,14 @@ impl Run {
         }
     }
 
-    /// Nested products and sums near depth 200, or of any depth, and sums doubled over and over.
+    /// Nested products and sums near depth 200, near the places of a strip, or of any depth, and sums doubled over and over, also near the longest strip.
     fn nest(&mut self) {
-        let levels = if self.random.below(4) > 0 { 195 + self.random.below(8) } else { self.random.below(LIMIT as u64) };
+        let levels = match self.random.below(6) {
+            0 => self.random.below(LIMIT as u64),
+            1 => 124 + self.random.below(8),
+            2 => 10 + self.random.below(8),
+            _ => 195 + self.random.below(8),
+        };
         if self.count() as usize + levels as usize + 4 > LIMIT {
             return;
         }

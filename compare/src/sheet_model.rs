@@ -184,7 +184,7 @@ fn random_nodes(random: &mut Random) -> Option<Vec<u8>> {
             let n = 1 + random.below(4096) as usize;
             file::written(&worst::chain(random.one_of(&[3, 4, 5, 6, 7, 8, 9]), random.below(2) == 0, n), n - 1)
         }
-        4 => file::written(&worst::doublings(random.one_of(&[3, 4, 5])), 10 + random.below(30) as usize),
+        4 => file::written(&worst::doublings(random.one_of(&[3, 4, 5]), 40), 10 + random.below(30) as usize),
         5 => {
             let mut file = file::written(&worst::chain(3, true, 4096), 4095);
             file.resize(36_868 + random.below(4) as usize * 4096, 0);

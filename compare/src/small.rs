@@ -43,7 +43,7 @@ fn further(root: u64) -> Vec<Call> {
     calls
 }
 
-/// Makes a call, and what follows on its result; what was appended is forgotten.
+/// Makes a call, what follows on its result, and the result's strip, which is run; what was appended is forgotten.
 fn tried(both: &mut Both, call: &Call) {
     let before = counted::count();
     if let Ok(Given::Number(root)) = both.call(call) {
@@ -52,6 +52,7 @@ fn tried(both: &mut Both, call: &Call) {
             let _ = both.call(&call);
             both.forget_from(made);
         }
+        let _ = both.strip_and_run(root, &[2.0, f64::NAN]);
     }
     both.forget_from(before);
 }

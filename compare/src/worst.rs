@@ -1,8 +1,9 @@
 //! Every entry point on the worst pools: the engine in threads that have little stack, and its answers compared with the Rust's afterwards.
-use crate::call::{Answer, Call, Series, TERMS};
+use crate::call::{Answer, Call, Given, Series, TERMS};
 use crate::counted::{self, LIMIT};
 use crate::engine::Engine;
 use crate::file::{self, Entry};
+use crate::machine::PLACES;
 use crate::report;
 use crate::symbolic::oracle;
 
@@ -27,8 +28,8 @@ pub fn chain(kind: u8, left: bool, nodes: usize) -> Vec<Entry> {
 }
 
 /// x0, and each further node of one kind with the one before as both parts.
-pub fn doublings(kind: u8) -> Vec<Entry> {
-    std::iter::once((1, 0)).chain((0..40u64).map(|before| (kind, before + (before << 32)))).collect()
+pub fn doublings(kind: u8, levels: u64) -> Vec<Entry> {
+    std::iter::once((1, 0)).chain((0..levels).map(|before| (kind, before + (before << 32)))).collect()
 }
 
 /// Filled up with variables before the root, so that no room is left.
@@ -46,6 +47,29 @@ fn on_nodes(root: u64) -> Vec<Call> {
         Derive { root, var: 0 }, Derive { root, var: 1 }, Evaluate(root, vec![1.0]), Evaluate(root, vec![]), EvaluateResidue(root, vec![1]),
         EvaluateResidue(root, vec![]), Print { root, room: 65_535 }, Print { root, room: 9 }, Write { root, room: 36_868 }, Write { root, room: 9 },
     ]
+}
+
+fn on_strips(root: u64) -> Vec<Call> {
+    vec![Call::Strip { root, room: 65_535 }, Call::Strip { root, room: 9 }]
+}
+
+/// The strip of an expression, where there is one, over a table and over none.
+fn runs(root: u64) -> Vec<Call> {
+    let Ok(Given::Bytes(strip)) = (Call::Strip { root, room: 65_535 }).theirs() else { return vec![] };
+    vec![Call::RunStrip { strip: strip.clone(), values: vec![1.0] }, Call::RunStrip { strip, values: vec![] }]
+}
+
+/// Strips that no pool has: of any length, with all places in use, and with a wrong byte at the end.
+fn long_strips() -> Vec<Call> {
+    let (x, power) = ([1, 0, 0], [8, 255, 255, 255, 255]);
+    let all_places = [x.repeat(PLACES), vec![9; PLACES - 1]].concat();
+    let mut strips: Vec<Vec<u8>> = [3, 4, 5, 9].map(|code| [&x[..], &[1, 0, 0, code].repeat(1 << 18)].concat()).to_vec();
+    strips.push([&x[..], &power.repeat(1 << 16)].concat());
+    strips.push(all_places);
+    strips.push(x.repeat(1 << 18));
+    strips.push(vec![3; 1 << 20]);
+    let wrong: Vec<Vec<u8>> = strips.iter().map(|strip| [&strip[..], &[6]].concat()).collect();
+    strips.into_iter().chain(wrong).map(|strip| Call::RunStrip { strip, values: vec![1.0] }).collect()
 }
 
 fn on_expansions(root: u64) -> Vec<Call> {
@@ -71,6 +95,8 @@ fn is_expansion_of_expression(call: &Call) -> bool {
 fn case(name: String, nodes: Vec<Entry>) -> Case {
     let root = nodes.len() as u64 - 1;
     let mut calls = on_nodes(root);
+    calls.extend(on_strips(root));
+    calls.push(Call::RunStrip { strip: vec![1, 0, 0], values: vec![1.0] });
     calls.extend(on_expansions(root));
     calls.push(Call::Read(file::written(&nodes, root as usize)));
     assert!(report::names().all(|name| calls.iter().any(|call| call.name() == name)), "every entry point");
@@ -93,11 +119,16 @@ fn cases() -> Vec<Case> {
         }
     }
     for (kind_name, kind) in [("Add", 3), ("Mul", 4), ("Div", 5), ("Max", 9)] {
-        let nodes = doublings(kind);
+        let nodes = doublings(kind, 40);
         cases.push(case(format!("40 doublings, {kind_name}, in a full pool"), filled(&nodes)));
         cases.push(case(format!("40 doublings, {kind_name}"), nodes));
     }
     cases.push(case("a full pool".to_string(), filled(&[])));
+    for levels in [127, 128] {
+        cases.push(Case { name: format!("{levels} doublings"), nodes: doublings(3, levels), calls: on_strips(levels) });
+    }
+    cases.push(Case { name: "2^14 leaves".to_string(), nodes: doublings(3, 14), calls: on_strips(14) });
+    cases.push(Case { name: "long strips".to_string(), nodes: vec![], calls: long_strips() });
     cases
 }
 
@@ -138,11 +169,14 @@ pub fn all() {
     let cases = cases();
     let (mut made, mut expansions) = (0, 0);
     for Case { name, nodes, calls } in &cases {
-        let (large, small): (Vec<Call>, Vec<Call>) = calls.iter().cloned().partition(is_expansion_of_expression);
+        let (large, mut small): (Vec<Call>, Vec<Call>) = calls.iter().cloned().partition(is_expansion_of_expression);
         counted::forget_from(0);
         nodes.iter().for_each(|(kind, word)| {
             oracle::raw(*kind, *word);
         });
+        if !nodes.is_empty() {
+            small.extend(runs(nodes.len() as u64 - 1));
+        }
         compare(name, nodes.len(), &small, &outcomes(name, nodes, small.clone(), STACK));
         compare(name, nodes.len(), &large, &outcomes(name, nodes, large.clone(), STACK_OF_EXPANSIONS));
         made += small.len();

@@ -1,5 +1,6 @@
-/* Every entry point on nodes that are shared most and nested deepest: chains of 512 and 4,096 nodes of each kind, 40 and 4,095 doublings. One call after the
-   other runs in `counted`, whose instructions callgrind counts. Standard output has a line for each: the number of nodes, the call and the pool. */
+/* Every entry point on nodes that are shared most and nested deepest: chains of 512 and 4,096 nodes of each kind, 14, 40, 127 and 4,095 doublings; and strips
+   of three lengths, run. One call after the other runs in `counted`, whose instructions callgrind counts. Standard output has a line for each: the number of nodes, or of
+   the strip's bytes, the call and the pool. */
 #include "../c/case.h"
 
 static uint8_t before_kinds[BUNLAYOG_LIMIT];
@@ -34,6 +35,7 @@ static void evaluate(void) { refused = bunlayog_evaluate(POOL_READ, root, double
 static void evaluate_residue(void) { refused = bunlayog_evaluate_residue(POOL_READ, root, residues, 1, &residue); }
 static void print(void) { refused = bunlayog_print(POOL_READ, root, out, sizeof out, &node); }
 static void write_file(void) { refused = bunlayog_write(POOL_READ, root, out, sizeof out, &node); }
+static void strip(void) { refused = bunlayog_strip(POOL_READ, root, out, sizeof out, &node); }
 static void read_file(void) { refused = bunlayog_read(POOL, file, file_len, &node); }
 static void taylor_var(void) { refused = TAYLOR(var, root, 24); }
 static void taylor_from_coefficients(void) { refused = bunlayog_taylor_from_coefficients(POOL_READ, BUNLAYOG_TERMS, list, &order, coeffs); }
@@ -61,7 +63,7 @@ static const struct {
     {"check", check}, {"lit", lit}, {"var", var}, {"add", add}, {"mul", mul}, {"div", divide}, {"max", max}, {"neg", neg}, {"exp", exponential},
     {"log", logarithm}, {"pow", power}, {"substitute_var", substitute}, {"substitute_var-other", substitute_other}, {"derive", derive},
     {"derive-other", derive_other}, {"evaluate", evaluate}, {"evaluate_residue", evaluate_residue}, {"print", print}, {"write", write_file},
-    {"read", read_file}, {"taylor_var", taylor_var}, {"taylor_from_coefficients", taylor_from_coefficients}, {"taylor_order", taylor_order},
+    {"read", read_file}, {"strip", strip}, {"taylor_var", taylor_var}, {"taylor_from_coefficients", taylor_from_coefficients}, {"taylor_order", taylor_order},
     {"taylor_coeff", taylor_coeff}, {"taylor_derivative", taylor_derivative}, {"taylor_exp", taylor_exp}, {"taylor_log", taylor_log},
     {"taylor_neg", taylor_neg}, {"taylor_pow", taylor_pow}, {"taylor_add", taylor_add}, {"taylor_sub", taylor_sub}, {"taylor_mul", taylor_mul},
     {"taylor_div", taylor_div}, {"taylor_max", taylor_max}, {"taylor_subst", taylor_subst}, {"taylor_coeffs", taylor_coeffs},
@@ -105,6 +107,47 @@ static void on_pool(const char *pool, uint64_t nodes) {
     }
 }
 
+/* What the machine is lent: its bytes, and how many of them. */
+static uint8_t bytes_lent[1 << 18];
+static size_t bytes_len;
+
+static void run_strip(void) { refused = bunlayog_run_strip(bytes_lent, bytes_len, doubles, 1, &node); }
+
+/* x0, and again and again some bytes, up to a length; then perhaps a byte that is no code. The answer is what the strip was made for. */
+static void on_strip(const char *name, const uint8_t *piece, size_t piece_len, size_t length, int broken) {
+    memcpy(bytes_lent, "\001\000", 3);
+    for (bytes_len = 3; bytes_len + piece_len < length; bytes_len += piece_len) {
+        memcpy(bytes_lent + bytes_len, piece, piece_len);
+    }
+    if (broken) {
+        bytes_lent[bytes_len++] = 6;
+    }
+    printf("%llu run_strip %s%s\n", (unsigned long long)bytes_len, name, broken ? "-broken" : "");
+    counted(run_strip);
+    if (refused != (broken ? 28 : 0)) {
+        wrong("a strip");
+    }
+}
+
+static void on_strips(void) {
+    static const struct {
+        const char *name;
+        uint8_t piece[12];
+        size_t len;
+    } shapes[] = {
+        {"Add", {1, 0, 0, 3}, 4},          {"Mul", {1, 0, 0, 4}, 4},
+        {"Div", {1, 0, 0, 5}, 4},          {"Max", {1, 0, 0, 9}, 4},
+        {"Lit", {2, 7, 0, 0, 0, 0, 0, 0, 0, 3}, 10}, {"Pow", {8, 255, 255, 255, 255}, 5},
+    };
+    static const size_t lengths[] = {2048, 65536, sizeof bytes_lent};
+    for (size_t i = 0; i < sizeof shapes / sizeof *shapes; i++) {
+        for (size_t j = 0; j < 3; j++) {
+            on_strip(shapes[i].name, shapes[i].piece, shapes[i].len, lengths[j], 0);
+            on_strip(shapes[i].name, shapes[i].piece, shapes[i].len, lengths[j], 1);
+        }
+    }
+}
+
 int main(void) {
     static const struct {
         const char *name;
@@ -122,5 +165,11 @@ int main(void) {
             on_pool(shapes[i].name, lengths[j]);
         }
     }
+    /* a strip of 65,535 bytes, and one of 2^129 - 1 */
+    pool_of(3, 1, 1, 15);
+    on_pool("Add-both", 15);
+    pool_of(3, 1, 1, 128);
+    on_pool("Add-both", 128);
+    on_strips();
     return failed;
 }

@@ -1,6 +1,6 @@
 //! The cases: each is run by the engine and by the Rust on the same input.
 use crate::values::Double;
-use crate::engine::{Expansion, Pool, FILE_MAX, LIST, TEXT_MAX};
+use crate::engine::{self, Expansion, Pool, FILE_MAX, LIST, STRIP_MAX, TEXT_MAX};
 use crate::number::Number;
 use crate::ppl::Var;
 use crate::symbolic::SymGenFun;
@@ -17,6 +17,8 @@ pub enum Operation {
     Print,
     Write,
     Read,
+    Strip,
+    RunStrip,
     /// To an order, at the point 1 or at the variable itself.
     ExpandAt(u64),
     Expand(u64),
@@ -26,7 +28,7 @@ pub enum Operation {
 use Operation::*;
 
 /// Sizes are terms of a polynomial; those of expansions, of one in Horner's form, are chosen for the pool's 4,096 nodes.
-pub const OPERATIONS: [(Operation, &str, [u64; 3]); 12] = [
+pub const OPERATIONS: [(Operation, &str, [u64; 3]); 14] = [
     (Build, "build", [25, 100, 300]),
     (Derive, "derive", [25, 100, 300]),
     (Substitute, "substitute", [25, 100, 300]),
@@ -39,9 +41,11 @@ pub const OPERATIONS: [(Operation, &str, [u64; 3]); 12] = [
     (ExpandMixed(8), "mixed8", [3, 6, 10]),
     (Write, "write", [25, 100, 300]),
     (Read, "read", [25, 100, 300]),
+    (Strip, "strip", [25, 100, 300]),
+    (RunStrip, "run_strip", [25, 100, 300]),
 ];
 
-/// How many points an expression is evaluated at.
+/// How many points an expression is evaluated at, and a strip run.
 pub const POINTS: u64 = 1000;
 
 /// The coefficient of a power.
@@ -50,7 +54,7 @@ fn coefficient(k: u64) -> i64 {
 }
 
 /// A point near 1, so that no power leaves the doubles.
-fn point(j: u64) -> f64 {
+pub fn point(j: u64) -> f64 {
     1.0 + j as f64 / 4096.0
 }
 
@@ -78,7 +82,7 @@ pub struct Engine {
 }
 
 /// The polynomial of a number of terms, from the constant on.
-fn polynomial(pool: &mut Pool, terms: u64) -> u64 {
+pub fn polynomial(pool: &mut Pool, terms: u64) -> u64 {
     let x = pool.var(0);
     let mut sum = pool.lit(coefficient(0));
     for k in 1..terms {
@@ -91,7 +95,7 @@ fn polynomial(pool: &mut Pool, terms: u64) -> u64 {
 }
 
 /// 1 + x + x^2 + .. in Horner's form.
-fn horner(pool: &mut Pool, terms: u64) -> u64 {
+pub fn horner(pool: &mut Pool, terms: u64) -> u64 {
     let x = pool.var(0);
     let mut sum = pool.lit(1);
     for k in 1..terms {
@@ -131,6 +135,11 @@ impl Engine {
             file.truncate(length);
             pool.back_to(0);
         }
+        if operation == RunStrip {
+            file = vec![0; STRIP_MAX];
+            let length = pool.strip(root, &mut file);
+            file.truncate(length);
+        }
         let expansion = Expansion { order: 0, coeffs: [0; LIST] };
         Engine { operation, size, start: pool.count, pool, root, value, out: vec![0; TEXT_MAX], file, node: 0, bits: 0, expansion }
     }
@@ -150,6 +159,8 @@ impl Side for Engine {
             Print => self.bits = pool.print(self.root, &mut self.out) as u64,
             Write => self.bits = pool.write(self.root, &mut self.file) as u64,
             Read => self.node = pool.read(&self.file),
+            Strip => self.bits = pool.strip(self.root, &mut self.out) as u64,
+            RunStrip => self.bits = (0..POINTS).fold(0, |bits, j| bits ^ engine::run_strip(&self.file, &[point(j)])),
             ExpandAt(order) => self.expansion = pool.expand(self.root, Some(1), order),
             Expand(order) | ExpandMixed(order) => self.expansion = pool.expand(self.root, None, order),
         }
@@ -160,8 +171,8 @@ impl Side for Engine {
                 let length = self.pool.print(self.node, &mut self.out);
                 self.out[..length].to_vec()
             }
-            Evaluate => self.bits.to_le_bytes().to_vec(),
-            Print => self.out[..self.bits as usize].to_vec(),
+            Evaluate | RunStrip => self.bits.to_le_bytes().to_vec(),
+            Print | Strip => self.out[..self.bits as usize].to_vec(),
             Write => self.file[..self.bits as usize].to_vec(),
             ExpandAt(_) | Expand(_) => {
                 let list = self.expansion.coeffs[..self.expansion.order as usize].iter();
@@ -248,7 +259,7 @@ impl Side for Rust {
             Substitute => self.given = Some(self.root.substitute_var(Var(0), self.value.clone())),
             Evaluate => self.bits = (0..POINTS).fold(0, |bits, j| bits ^ value(&self.root, point(j))),
             Print => write!(self.text, "{}", self.root).unwrap(),
-            Write | Read => {}
+            Write | Read | Strip | RunStrip => {}
             ExpandAt(order) => self.expansion = Some(self.root.taylor_coeffs_at(Var(0), &Whole(1), order as usize)),
             Expand(order) | ExpandMixed(order) => self.expansion = Some(self.root.taylor_coeffs(Var(0), order as usize)),
         }
@@ -258,7 +269,7 @@ impl Side for Rust {
             Build | Derive | Substitute => self.given.as_ref().unwrap().to_string().into_bytes(),
             Evaluate => self.bits.to_le_bytes().to_vec(),
             Print => self.text.clone().into_bytes(),
-            Write | Read => Vec::new(),
+            Write | Read | Strip | RunStrip => Vec::new(),
             ExpandAt(_) | Expand(_) => {
                 let expansion = self.expansion.as_ref().unwrap();
                 (0..expansion.order()).flat_map(|k| value(&expansion.coeff(k), 1.0).to_le_bytes()).collect()
@@ -268,7 +279,7 @@ impl Side for Rust {
     }
 }
 
-/// The Rust has no files.
+/// The Rust has no files and no strips.
 pub fn in_rust(operation: Operation) -> bool {
-    !matches!(operation, Write | Read)
+    !matches!(operation, Write | Read | Strip | RunStrip)
 }

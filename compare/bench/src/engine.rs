@@ -2,6 +2,8 @@
 pub const LIMIT: usize = 4096;
 pub const TEXT_MAX: usize = 65_535;
 pub const FILE_MAX: usize = 36_868;
+pub const STRIP_MAX: usize = 65_535;
+pub const PLACES: usize = 128;
 /// The entries of an expansion's list.
 pub const LIST: usize = 25;
 
@@ -57,10 +59,33 @@ readers! {
     bunlayog_evaluate_residue(root: u64, v: *const u32, vl: usize, residue: *mut u32);
     bunlayog_print(root: u64, out: *mut u8, ol: usize, written: *mut u64);
     bunlayog_write(root: u64, out: *mut u8, ol: usize, written: *mut u64);
+    bunlayog_strip(root: u64, out: *mut u8, ol: usize, written: *mut u64);
     bunlayog_taylor_from_coefficients(order: u64, c: *const u64, order_out: *mut u64, out: *mut u64);
     bunlayog_taylor_order(order: u64, c: *const u64, order_out: *mut u64);
     plain_check();
+    plain_strip(root: u64, out: *mut u8, ol: usize, written: *mut u64);
 }
+
+mod machines {
+    extern "C" {
+        pub fn bunlayog_run_strip(s: *const u8, sl: usize, v: *const f64, vl: usize, bits: *mut u64) -> u32;
+        pub fn plain_run_strip(s: *const u8, sl: usize, v: *const f64, vl: usize, bits: *mut u64) -> u32;
+    }
+}
+pub use machines::bunlayog_run_strip;
+
+/// A machine that must accept: the bits it gives.
+macro_rules! run {
+    ($name:ident, $f:ident) => {
+        pub fn $name(strip: &[u8], values: &[f64]) -> u64 {
+            let mut bits = 0;
+            assert_eq!(unsafe { machines::$f(strip.as_ptr(), strip.len(), values.as_ptr(), values.len(), &mut bits) }, 0, stringify!($f));
+            bits
+        }
+    };
+}
+run!(run_strip, bunlayog_run_strip);
+run!(plain_run_strip, plain_run_strip);
 
 /// The order of a constant, which stands first in its list.
 pub const CONSTANT: u64 = u64::MAX;
@@ -167,6 +192,13 @@ impl Pool {
     }
     pub fn write(&self, root: u64, out: &mut [u8]) -> usize {
         given!(self, bunlayog_write, root, out.as_mut_ptr(), out.len()) as usize
+    }
+    pub fn strip(&self, root: u64, out: &mut [u8]) -> usize {
+        given!(self, bunlayog_strip, root, out.as_mut_ptr(), out.len()) as usize
+    }
+    /// strips.c on the same tables.
+    pub fn plain_strip(&self, root: u64, out: &mut [u8]) -> usize {
+        given!(self, plain_strip, root, out.as_mut_ptr(), out.len()) as usize
     }
     /// The expansion of an expression by variable 0, at a point where one is given.
     pub fn expand(&mut self, root: u64, point: Option<i64>, order: u64) -> Expansion {

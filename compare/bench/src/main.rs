@@ -1,4 +1,4 @@
-//! Times of this engine beside the Rust's, and of the pool check beside a plain C loop. README.md of compare/ says how to run it.
+//! Times of this engine beside the Rust's, of the pool check beside a plain C loop, and of key strips beside plain C. README.md of compare/ says how to run it.
 //! Usage: bunlayog-bench [MILLISECONDS] | once SIDE OPERATION SIZE [RUNS] | cases | stack
 #![allow(dead_code, unused_imports, clippy::all)]
 
@@ -9,6 +9,7 @@ mod checks;
 mod engine;
 mod original;
 mod stack;
+mod strips;
 mod timing;
 #[path = "../../src/values.rs"]
 mod values;
@@ -98,4 +99,5 @@ fn main() {
     let time = Duration::from_millis(args.first().map_or(300, |a| a.parse().expect("milliseconds")));
     compare(time);
     checks::compare(time);
+    strips::compare(time);
 }

@@ -90,7 +90,7 @@ fn chain(kind: u8, parts: Parts, lit: u64, count: u64) -> Pool {
     pool
 }
 
-/// The chains, full and with room left; 40 doublings; a full pool of variables.
+/// The chains, full and with room left; 14, 40 and 127 doublings; a full pool of variables.
 fn pools() -> Vec<(String, Pool)> {
     let mut pools = Vec::new();
     for (name, kind, parts, lit) in CHAINS {
@@ -99,7 +99,9 @@ fn pools() -> Vec<(String, Pool)> {
         }
     }
     for (name, kind) in [("Add", 3), ("Mul", 4)] {
-        pools.push((format!("40 doublings by {name}"), chain(kind, Both, 1, 42)));
+        for levels in [14, 40, 127] {
+            pools.push((format!("{levels} doublings by {name}"), chain(kind, Both, 1, levels + 2)));
+        }
     }
     let mut full = Pool::new();
     while full.count < LIMIT as u64 {
@@ -118,6 +120,7 @@ struct Arguments {
     exp: u32,
     file: Vec<u8>,
     out: Vec<u8>,
+    strip: Vec<u8>,
 }
 
 fn list(node: u64, others: u64) -> Expansion {
@@ -130,6 +133,18 @@ fn constant(node: u64) -> Expansion {
     Expansion { order: CONSTANT, coeffs: [node; LIST] }
 }
 
+/// The strip of a node, or where it has none one that needs all places.
+fn strip_of(pool: &Pool, top: u64) -> Vec<u8> {
+    let mut strip = vec![0; STRIP_MAX];
+    let mut length = 0;
+    let number = unsafe { bunlayog_strip(pool.kinds.as_ptr(), LIMIT, pool.words.as_ptr(), LIMIT, pool.count, top, strip.as_mut_ptr(), STRIP_MAX, &mut length) };
+    if number != 0 {
+        return [[1, 0, 0].repeat(PLACES), vec![3; PLACES - 1]].concat();
+    }
+    strip.truncate(length as usize);
+    strip
+}
+
 /// Several choices of arguments on a pool.
 fn arguments(pool: &Pool) -> Vec<Arguments> {
     let top = pool.count - 1;
@@ -138,7 +153,8 @@ fn arguments(pool: &Pool) -> Vec<Arguments> {
     let mut length = 0;
     unsafe { bunlayog_write(pool.kinds.as_ptr(), LIMIT, pool.words.as_ptr(), LIMIT, pool.count, top, file.as_mut_ptr(), FILE_MAX, &mut length) };
     file.truncate(length as usize);
-    let given = |top, other, first, second, exp| Arguments { top, other, first, second, exp, file: file.clone(), out: vec![0; TEXT_MAX] };
+    let strip = strip_of(pool, top);
+    let given = |top, other, first, second, exp| Arguments { top, other, first, second, exp, file: file.clone(), out: vec![0; TEXT_MAX], strip: strip.clone() };
     vec![
         given(top, 0, list(top, top), list(top, top), 3),
         given(top, top, constant(top), list(0, top), 2),
@@ -182,7 +198,12 @@ fn read(pool: &mut Pool, a: &mut Arguments) -> u32 {
     work!(bunlayog_read, |a| a.file.as_ptr(), a.file.len(), &mut 0).1(pool, a)
 }
 
-const CALLS: [(&str, Call); 35] = [
+/// The machine is lent no pool.
+fn run_strip(_: &mut Pool, a: &mut Arguments) -> u32 {
+    unsafe { bunlayog_run_strip(a.strip.as_ptr(), a.strip.len(), [1.0].as_ptr(), 1, &mut 0) }
+}
+
+const CALLS: [(&str, Call); 37] = [
     look!(bunlayog_check, |_a|),
     work!(bunlayog_lit, |_a| 7, &mut 0),
     work!(bunlayog_var, |_a| 7, &mut 0),
@@ -201,6 +222,8 @@ const CALLS: [(&str, Call); 35] = [
     look!(bunlayog_print, |a| a.top, a.out.as_mut_ptr(), a.out.len(), &mut 0),
     look!(bunlayog_write, |a| a.top, a.out.as_mut_ptr(), a.out.len(), &mut 0),
     ("bunlayog_read", read),
+    look!(bunlayog_strip, |a| a.top, a.out.as_mut_ptr(), a.out.len(), &mut 0),
+    ("bunlayog_run_strip", run_strip),
     work!(bunlayog_taylor_var, |a| a.top, 24, &mut 0, [0u64; LIST].as_mut_ptr()),
     look!(bunlayog_taylor_from_coefficients, |a| a.first.order, a.first.coeffs.as_ptr(), &mut 0, [0u64; LIST].as_mut_ptr()),
     work!(bunlayog_taylor_coeff, |a| a.first.order, a.first.coeffs.as_ptr(), 24, &mut 0),

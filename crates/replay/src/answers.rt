@@ -10,6 +10,8 @@ const FIRST_WALK: u64 = 20;
 
 const FIRST_EXPANSION: u64 = 30;
 
+const RUN_STRIP: u64 = 50;
+
 fn node(
     op: u64,
     text: &[u8],
@@ -49,6 +51,9 @@ pub fn node_is_right(
 fn value(op: u64, text: &[u8], at: &mut usize, k: &[u8], w: &[u64], count: u64) -> Got {
     if op < FIRST_EXPANSION {
         return replay_calls::value(op, text, at, k, w, count);
+    }
+    if RUN_STRIP <= op {
+        return replay_calls::run(op, text, at);
     }
     replay_series::length(text, at, k, w, count)
 }

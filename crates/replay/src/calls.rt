@@ -32,6 +32,12 @@ pub const PRINT_REPEATED: u64 = 47;
 
 pub const LENT: u64 = 48;
 
+pub const STRIP: u64 = 49;
+
+pub const RUN_STRIP: u64 = 50;
+
+pub const RUN_STRIP_ALIKE: u64 = 51;
+
 const FIRST_EXPANSION: u64 = 30;
 
 // How an operation is made and its answer compared.
@@ -67,6 +73,9 @@ fn group_of(op: u64) -> Group {
         DERIVATIVE => Group::Node,
         ORDER => Group::Value,
         PRINT_REPEATED => Group::Text,
+        STRIP => Group::Text,
+        RUN_STRIP => Group::Value,
+        RUN_STRIP_ALIKE => Group::Value,
         _ => Group::Expansion,
     }
 }

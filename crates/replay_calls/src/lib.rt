@@ -1,8 +1,9 @@
-// The calls of the list on nodes, values, texts and files: each reads its arguments, asks the engine, and compares the answer with the one listed.
+// The calls of the list on nodes, values, texts, files and strips: each reads its arguments, asks the engine, and compares the answer with the one listed.
 mod builds;
 mod checks;
 mod got;
 mod pools;
+mod strips;
 mod texts;
 mod values;
 mod walked;
@@ -17,6 +18,7 @@ pub use got::same;
 pub use pools::grow;
 pub use pools::same_pools;
 pub use pools::set;
+pub use strips::run;
 pub use texts::text_is_right;
 pub use values::value;
 pub use walked::walk;

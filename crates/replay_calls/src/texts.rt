@@ -1,4 +1,4 @@
-// Printing and writing, into an output whose every byte is compared: past the result, and after a refusal, it is as it was.
+// Printing, writing and making strips, into an output whose every byte is compared: past the result, and after a refusal, it is as it was.
 use crate::got::Got;
 use crate::got::UNLISTED;
 use crate::got::expected;
@@ -14,22 +14,14 @@ pub const WRITE: u64 = 25;
 
 pub const PRINT_REPEATED: u64 = 47;
 
+pub const STRIP: u64 = 49;
+
 // The longest output of the list, one byte more than the longest text, and what stands in it before a call.
 const ROOM_MAX: usize = 65_536;
 
 const BEFORE: u8 = 165;
 
-fn of_print(answer: lent::Written) -> Got {
-    match answer {
-        lent::Written::Length(n) => Got {
-            number: 0,
-            value: n,
-        },
-        lent::Written::Refused(number) => of_refusal(number),
-    }
-}
-
-fn of_file(answer: lent::Written) -> Got {
+fn of_written(answer: lent::Written) -> Got {
     match answer {
         lent::Written::Length(n) => Got {
             number: 0,
@@ -42,23 +34,31 @@ fn of_file(answer: lent::Written) -> Got {
 // The text in the first bytes of an output.
 fn print_in(k: &[u8], w: &[u64], count: u64, root: u64, out: &mut [u8], room: usize) -> Got {
     if room <= out.len() {
-        return of_print(engine_print::print(k, w, count, root, &mut out[..room]));
+        return of_written(engine_print::print(k, w, count, root, &mut out[..room]));
     }
     of_refusal(UNLISTED)
 }
 
 fn write_in(k: &[u8], w: &[u64], count: u64, root: u64, out: &mut [u8], room: usize) -> Got {
     if room <= out.len() {
-        return of_file(engine_file::write(k, w, count, root, &mut out[..room]));
+        return of_written(engine_file::write(k, w, count, root, &mut out[..room]));
+    }
+    of_refusal(UNLISTED)
+}
+
+fn strip_in(k: &[u8], w: &[u64], count: u64, root: u64, out: &mut [u8], room: usize) -> Got {
+    if room <= out.len() {
+        return of_written(engine_strip::strip(k, w, count, root, &mut out[..room]));
     }
     of_refusal(UNLISTED)
 }
 
 fn put(op: u64, k: &[u8], w: &[u64], count: u64, root: u64, out: &mut [u8], room: usize) -> Got {
-    if op == WRITE {
-        return write_in(k, w, count, root, out, room);
+    match op {
+        WRITE => write_in(k, w, count, root, out, room),
+        STRIP => strip_in(k, w, count, root, out, room),
+        _ => print_in(k, w, count, root, out, room),
     }
-    print_in(k, w, count, root, out, room)
 }
 
 fn set_byte(out: &mut [u8], i: usize, byte: u8) {

@@ -17,11 +17,11 @@ pub const EVALUATE_RESIDUE: u64 = 23;
 pub const EVALUATE_ALIKE: u64 = 28;
 
 // The longest table of the list whose values are written out, and the longest, whose values are all alike.
-const VALUES_MAX: usize = 64;
+pub const VALUES_MAX: usize = 64;
 
-const ALIKE_MAX: usize = 65_537;
+pub const ALIKE_MAX: usize = 65_537;
 
-fn of_valued(answer: Valued) -> Got {
+pub fn of_valued(answer: Valued) -> Got {
     match answer {
         Valued::Double(x) => Got {
             number: 0,

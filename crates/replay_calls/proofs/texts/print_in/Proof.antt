@@ -15,8 +15,8 @@ slice-aggregate-print c = sym (length-take-le _ _ (c .before .if1 .taken))
 print-requires : tie.Need-print-requires
 print-requires c κs = search needs
 
-of-print-requires : tie.Need-of-print-requires
-of-print-requires c κs = search needs
+of-written-requires : tie.Need-of-written-requires
+of-written-requires c κs = search needs
 
 same-length : tie.Need-same-length
 same-length c = search needs
@@ -37,7 +37,7 @@ print-in-spec =
     slice-relend-prefix-print
     slice-aggregate-print
     print-requires
-    of-print-requires
+    of-written-requires
     same-length
     returns
     of-refusal-requires

@@ -15,8 +15,8 @@ slice-aggregate-write c = sym (length-take-le _ _ (c .before .if1 .taken))
 write-requires : tie.Need-write-requires
 write-requires c κs = search needs
 
-of-file-requires : tie.Need-of-file-requires
-of-file-requires c κs = search needs
+of-written-requires : tie.Need-of-written-requires
+of-written-requires c κs = search needs
 
 same-length : tie.Need-same-length
 same-length c = search needs
@@ -37,7 +37,7 @@ write-in-spec =
     slice-relend-prefix-write
     slice-aggregate-write
     write-requires
-    of-file-requires
+    of-written-requires
     same-length
     returns
     of-refusal-requires
