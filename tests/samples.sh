@@ -4,7 +4,7 @@ set -eu
 cd "$(dirname "$0")/.."
 . tests/parts/archive.sh
 out=$(mktemp -d)
-trap 'rm -rf "$out"' EXIT
+trap 'rm -rf "$out" samples/*.strip' EXIT
 cc -Wall -Wextra -Wpedantic -Werror -std=c99 -Iinclude samples/make.c "$archive" -o "$out/make"
 mkdir "$out/made"
 "$out/make" "$out/made"
@@ -20,7 +20,7 @@ for page in README.md samples/README.md; do
     "${words[@]}" > "$out/printed" 2> "$out/said" || [ "$?" -eq 1 ] || { cat "$out/said"; exit 1; }
     cmp "$out/printed" "$out/wanted" || { echo "$page: $command prints:"; cat "$out/printed"; exit 1; }
     count=$((count + 1))
-  done < <(sed -n 's|^    \$ \(\./sheet.sh .*\)$|\1|p' "$page")
+  done < <(sed -nE 's#^    \$ (\./(sheet|strip)\.sh .*)$#\1#p' "$page")
 done
-[ "$count" -ge 6 ] || { echo "only $count commands were found"; exit 1; }
+[ "$count" -ge 7 ] || { echo "only $count commands were found"; exit 1; }
 echo "the samples are made again with the same bytes, and $count commands print what the pages say"

@@ -55,8 +55,9 @@ ends . 1 $'a^3 + -2*a + 5\nrefused 4' '^4: a literal or point' samples/polynomia
 
 # ---- when it builds: a small tree of four crates, and an rt that notes its call and puts the programs there
 tree=$out/tree
-mkdir -p "$tree/include" "$tree/crates/low" "$tree/crates/sheet" "$tree/crates/show" "$tree/crates/other" "$out/bin"
+mkdir -p "$tree/include" "$tree/parts" "$tree/crates/low" "$tree/crates/sheet" "$tree/crates/show" "$tree/crates/other" "$out/bin"
 cp sheet.sh "$tree"
+cp parts/programs.sh "$tree/parts"
 cp include/bunlayog_text.h "$tree/include"
 cp samples/polynomial.bin "$out/short.bin" "$tree"
 printf '# crates\nlow:\nother: low\nsheet: low io\nshow: low os\n' > "$tree/crates.txt"

@@ -5,5 +5,6 @@ mod whole;
 
 pub use output::write_exponent;
 pub use output::write_literal;
+pub use output::write_variable;
 pub use whole::print_into;
 pub use whole::text_length;

@@ -23,7 +23,7 @@ use Rattle.sheet_line.specs.Split.{contentLength, firstSpace, split}
 use Rattle.sheet_line.proofs.Cutting.{cut-within}
 use Rattle.sheet_line.proofs.Splitting.{split-content, rest-of, one-field, first-field, some-field}
 
-no-value : (n : ℕ) → number.None ≡ number.Value n → ⊥
+pub no-value : (n : ℕ) → number.None ≡ number.Value n → ⊥
 no-value n e = let z : _≡_ {A = ℕ} 0 1 = cc in omega arith
 
 no-whole : (z : ℤ) → whole.None ≡ whole.Value z → ⊥

@@ -3,28 +3,17 @@ use inputs::FILE_ROOM;
 use inputs::Input;
 use lent::Answer;
 use lent::Written;
-use libc::STDOUT_FILENO;
 use pool::LIMIT;
 
-// `refused`, a space and the number. Each function that prints answers whether all of it was written.
-fn put_refused(number: u32) -> bool {
-    if !io::write_all(STDOUT_FILENO, b"refused ") {
-        return false;
-    }
-    if !io::print_decimal(STDOUT_FILENO, number as u64) {
-        return false;
-    }
-    io::write_all(STDOUT_FILENO, b"\n")
-}
-
+// The text and a line end.
 fn put_text(text: &[u8], n: u64) -> bool {
     let end = n as usize;
     if end <= text.len() {
-        if !io::write_all(STDOUT_FILENO, &text[..end]) {
+        if !outputs::put(&text[..end]) {
             return false;
         }
     }
-    io::write_all(STDOUT_FILENO, b"\n")
+    outputs::put(b"\n")
 }
 
 // The text of a root.
@@ -32,7 +21,7 @@ fn show_root(kinds: &[u8], words: &[u64], count: u64, root: u64) -> bool {
     let mut text = [0u8; low_bytes::TEXT_MAX];
     match engine_print::print(kinds, words, count, root, &mut text) {
         Written::Length(n) => put_text(&text, n),
-        Written::Refused(number) => put_refused(number),
+        Written::Refused(number) => outputs::put_refused(number),
     }
 }
 
@@ -43,7 +32,7 @@ fn show_file(file: &[u8]) -> bool {
     let mut count = 0;
     match engine_file::read(&mut kinds, &mut words, &mut count, file) {
         Answer::Node(root) => show_root(&kinds, &words, count, root),
-        Answer::Refused(number) => put_refused(number),
+        Answer::Refused(number) => outputs::put_refused(number),
     }
 }
 
@@ -52,9 +41,7 @@ fn main() {
     let input = inputs::read_nodes(&mut file);
     match input {
         Input::Bytes(n) => {
-            if !show_file(&file[..n]) {
-                os::fail(b"standard output");
-            }
+            show_file(&file[..n]);
         }
         Input::Missing => os::fail(b"nodes.bin"),
         Input::Failed => {}

@@ -19,20 +19,14 @@ slice-aggregate-show-file c = (rw (c .before .before .input .given .1) at (c .be
 show-file-requires : tie.Need-show-file-requires
 show-file-requires c κs = search needs
 
+enum-told : tie.Need-enum-told
+enum-told c = search needs
+
 slice-aggregate-fail : tie.Need-slice-aggregate-fail
 slice-aggregate-fail c = search needs
 
 fail-requires : tie.Need-fail-requires
 fail-requires c κs = search needs
-
-enum-told : tie.Need-enum-told
-enum-told c = search needs
-
-slice-aggregate-fail-2 : tie.Need-slice-aggregate-fail-2
-slice-aggregate-fail-2 c = search needs
-
-fail-requires-2 : tie.Need-fail-requires-2
-fail-requires-2 c κs = search needs
 
 enum-told-2 : tie.Need-enum-told-2
 enum-told-2 c = search needs
@@ -46,9 +40,6 @@ returns-2 c = search needs
 returns-3 : tie.Need-returns-3
 returns-3 c = search needs
 
-returns-4 : tie.Need-returns-4
-returns-4 c = search needs
-
 pub main-spec : {M : Type 1} → statement M
 main-spec =
     tie.close
@@ -58,13 +49,10 @@ main-spec =
     array-share-prefix-file
     slice-aggregate-show-file
     show-file-requires
+    enum-told
     slice-aggregate-fail
     fail-requires
-    enum-told
-    slice-aggregate-fail-2
-    fail-requires-2
     enum-told-2
     returns
     returns-2
-    returns-3
-    returns-4)
+    returns-3)
