@@ -20,8 +20,8 @@ timeout 300 valgrind --tool=callgrind --callgrind-out-file="$out/counts" --combi
 # - what works on expansions appends as many nodes as there is room for: 500 for each of 4,096 (360 counted);
 # - a text is made up to 65,536 bytes: 150 for each (90 counted);
 # - whether a strip can be made is known from the nodes, each looked at once, so that 127 doublings are refused as soon as a chain. What is made costs 50 for each byte
-#   (23 counted), of 14 doublings 65,535;
-# - a strip is run byte by byte: 100 for each (10 to 83 counted).
+#   (24 counted), of 14 doublings 65,535;
+# - a strip is run byte by byte: 100 for each (3 to 70 counted).
 sed -n 's/^totals: //p' "$out/counts" | head -n "$(wc -l < "$out/calls")" | paste -d ' ' - "$out/calls" | awk '
   function bound(nodes, call) {
     if (call ~ /^taylor_/) return 200000 + 1000 * nodes + 500 * 4096

@@ -3,29 +3,8 @@
 # what it says on the way and what it says where it cannot.
 set -u
 cd "$(dirname "$0")/.." || exit 1
-out=$(mktemp -d)
-trap 'rm -rf "$out"' EXIT
-bad=0
-count=0
-
-wrong() {
-  echo "$1"
-  sed 's/^/  standard output: /' "$out/printed"
-  sed 's/^/  standard error: /' "$out/said"
-  bad=$((bad + 1))
-}
-
-# Runs sheet.sh in a folder: its status, what it prints, and a pattern of what it says on standard error ('' for nothing).
-ends() { # FOLDER STATUS PRINTED SAID ARGUMENT..
-  local folder=$1 status=$2 printed=$3 said=$4 found
-  shift 4
-  (cd "$folder" && exec ./sheet.sh "$@") > "$out/printed" 2> "$out/said"
-  found=$?
-  count=$((count + 1))
-  [ "$found" -eq "$status" ] || wrong "sheet.sh $*: status $found, not $status"
-  [ "$(cat "$out/printed")" = "$printed" ] || wrong "sheet.sh $*: prints something else"
-  if [ -z "$said" ]; then [ ! -s "$out/said" ] || wrong "sheet.sh $*: says something"; else grep -q -- "$said" "$out/said" || wrong "sheet.sh $*: does not say '$said'"; fi
-}
+. tests/parts/script.sh
+script=./sheet.sh
 
 # ---- questions, with the programs as they are built
 ./sheet.sh samples/polynomial.bin 0 0 > /dev/null 2>&1 # builds where a crate is newer

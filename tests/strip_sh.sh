@@ -3,29 +3,7 @@
 # when it builds. What building says and when a crate counts as newer is the same as for sheet.sh, and tested there.
 set -u
 cd "$(dirname "$0")/.." || exit 1
-out=$(mktemp -d)
-trap 'rm -rf "$out"' EXIT
-bad=0
-count=0
-
-wrong() {
-  echo "$1"
-  sed 's/^/  standard output: /' "$out/printed"
-  sed 's/^/  standard error: /' "$out/said"
-  bad=$((bad + 1))
-}
-
-# Runs strip.sh in a folder: its status, what it prints, and a pattern of what it says on standard error ('' for nothing).
-ends() { # FOLDER STATUS PRINTED SAID ARGUMENT..
-  local folder=$1 status=$2 printed=$3 said=$4 found
-  shift 4
-  (cd "$folder" && exec "$script" "$@") > "$out/printed" 2> "$out/said"
-  found=$?
-  count=$((count + 1))
-  [ "$found" -eq "$status" ] || wrong "strip.sh $*: status $found, not $status"
-  [ "$(cat "$out/printed")" = "$printed" ] || wrong "strip.sh $*: prints something else"
-  if [ -z "$said" ]; then [ ! -s "$out/said" ] || wrong "strip.sh $*: says something"; else grep -q -- "$said" "$out/said" || wrong "strip.sh $*: does not say '$said'"; fi
-}
+. tests/parts/script.sh
 
 # What a file has, in hexadecimal digits, or that it is not there.
 has() { # FILE DIGITS
