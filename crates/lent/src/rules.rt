@@ -2,20 +2,26 @@
 ghost use mathlib.Core.Path.{_≡_};
 ghost use lib.ListN.{length, getD};
 ghost use Prim.Native.Nat.{_≤_};
+ghost use lib.Dec.{eqb};
 ghost use Rattle.pool.specs.Pool.{limit, isPool, entryKeeps, each};
+ghost use Rattle.pool.specs.Rows.{rowNumbers};
 ghost use Rattle.lent.specs.Lent.{zeroAt};
 use pool::LIMIT;
+use pool::ROWS;
+use pool::TABLE;
+use pool::keeps_at;
 
 // The entries below the count are nodes, their parts smaller than their own numbers.
-fn nodes_keep(kinds: &[u8], words: &[u64], count: usize) -> bool
+fn nodes_keep(table: &[u64; ROWS], kinds: &[u8], words: &[u64], count: usize) -> bool
     requires { ⌜ count ≤ limit ⌝ }
     requires { ⌜ length (now kinds) ≡ limit ⌝ }
     requires { ⌜ length (now words) ≡ limit ⌝ }
+    requires { ⌜ now table ≡ rowNumbers ⌝ }
     ensures { λ r. ⌜ r ≡ each count (λ i. entryKeeps count i (getD (now (kinds .entry)) i 0) (getD (now (words .entry)) i 0)) ⌝ }
 {
     let mut i = 0;
     while i < count {
-        if !pool::may_stand_at(i as u32, pool::decode(kinds[i], words[i])) {
+        if !keeps_at(table, i as u32, kinds[i], words[i]) {
             return false;
         }
         i += 1;
@@ -38,17 +44,35 @@ fn kinds_rest(kinds: &[u8], from: usize) -> bool
     bits == 0
 }
 
-// The words from the count on are 0.
+// How many words are gathered in one go. A loop of so many turns becomes a straight run of instructions, whose time goes less by where it lies.
+const BLOCK: usize = 32;
+
+// The bits of all words from one number to another.
+fn word_bits(words: &[u64], from: usize, to: usize) -> u64
+    requires { ⌜ (from ≤ to) × (to ≤ limit) ⌝ }
+    requires { ⌜ length (now words) ≡ limit ⌝ }
+    ensures { λ r. ⌜ eqb r 0 ≡ each to (zeroAt from (now (words .entry))) ⌝ }
+{
+    let mut bits = 0u64;
+    let mut i = from;
+    while i < to {
+        bits = bits | words[i];
+        i += 1;
+    }
+    bits
+}
+
+// The words from the count on are 0: those up to a block's start, and then block by block.
 fn words_rest(words: &[u64], from: usize) -> bool
     requires { ⌜ from ≤ limit ⌝ }
     requires { ⌜ length (now words) ≡ limit ⌝ }
     ensures { λ r. ⌜ r ≡ each limit (zeroAt from (now (words .entry))) ⌝ }
 {
-    let mut bits = 0u64;
-    let mut i = from;
+    let mut i = BLOCK * ((from + (BLOCK - 1)) / BLOCK);
+    let mut bits = word_bits(words, from, i);
     while i < LIMIT {
-        bits = bits | words[i];
-        i += 1;
+        bits = bits | word_bits(words, i, i + BLOCK);
+        i += BLOCK;
     }
     bits == 0
 }
@@ -67,7 +91,8 @@ pub fn is_pool(kinds: &[u8], words: &[u64], count: u64) -> bool
         return false;
     }
     let n = count as usize;
-    if !nodes_keep(kinds, words, n) {
+    let table = TABLE;
+    if !nodes_keep(&table, kinds, words, n) {
         return false;
     }
     if !kinds_rest(kinds, n) {

@@ -5,6 +5,7 @@ ghost use lib.Dec.{eqb};
 ghost use lib.ListN.{getD};
 ghost use Rattle.pool.specs.Pool.{limit, nodeIn, each};
 ghost use Rattle.pool.specs.Made.{nextOf, made, poolOf};
+ghost use Rattle.pool.specs.Rows.{rowNumbers};
 ghost use Rattle.shape.specs.Shape.{rename};
 ghost use Rattle.shape.specs.File.{areInOrder, appendShifted, readFile};
 ghost use Rattle.shape.specs.Demand.{Below};
@@ -14,6 +15,7 @@ use pool::LIMIT;
 use pool::Made;
 use pool::Node;
 use pool::Parts;
+use pool::ROWS;
 use pool::Room;
 
 // What the test of a node file gives: how many entries it has, or the refusal number.
@@ -44,6 +46,7 @@ fn size_of(bytes: &[u8]) -> usize
 // Whether each of n entries, their kinds from the place `first` on, is a node that may stand at its place. Where they are, they are copied, in the one pass
 // that looks at them.
 fn entries_in(
+    table: &[u64; ROWS],
     bytes: &[u8],
     first: usize,
     n: usize,
@@ -52,13 +55,14 @@ fn entries_in(
 ) -> bool
     requires { ⌜ HasEntries first n (now bytes) ⌝ }
     requires { ⌜ Zeros (now k) × Zeros (now w) ⌝ }
+    requires { ⌜ now table ≡ rowNumbers ⌝ }
     ensures { λ r. ⌜ Entered r first n (now (bytes .entry)) (now (k .exit)) (now (w .exit)) ⌝ }
 {
     let mut i = 0;
     while i < n {
         let kind = bytes[first + i];
         let word = low_bytes::number_at(bytes, first + n + 8 * i, 8);
-        if !pool::may_stand_at(i as u32, pool::decode(kind, word)) {
+        if !pool::keeps_at(table, i as u32, kind, word) {
             return false;
         }
         k[i] = kind;
@@ -105,7 +109,8 @@ pub fn test_file(bytes: &[u8], k: &mut [u8; LIMIT], w: &mut [u64; LIMIT]) -> Tes
     if n == 0 {
         return Tested::Refused(refusals::WRONG_LENGTH);
     }
-    if !entries_in(bytes, 4, n, k, w) {
+    let table = pool::TABLE;
+    if !entries_in(&table, bytes, 4, n, k, w) {
         return Tested::Refused(refusals::WRONG_ENTRY);
     }
     let last = (n - 1) as u64;

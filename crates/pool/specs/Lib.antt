@@ -5,3 +5,5 @@ pub mod Parts
 pub mod Work
 pub mod Pool
 pub mod Made
+pub mod Rows
+pub mod WordHalves

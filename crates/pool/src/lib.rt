@@ -1,19 +1,27 @@
 // The pool of expressions: nodes, and the two tables that hold them.
+mod halves;
 mod node;
 mod parts;
+mod rows;
 mod table;
 
+pub use halves::left_at;
+pub use halves::right_at;
 pub use node::EXPONENT_MIN;
 pub use node::HALF;
 pub use node::Node;
 pub use node::VARIABLE_MAX;
 pub use node::decode;
 pub use node::kind_of;
-pub use node::may_stand_at;
 pub use node::word_of;
+pub use parts::CountedParts;
 pub use parts::Parts;
+pub use parts::counted_parts;
 pub use parts::parts_of;
 pub use parts::with_parts;
+pub use rows::ROWS;
+pub use rows::TABLE;
+pub use rows::keeps_at;
 pub use table::LIMIT;
 pub use table::Made;
 pub use table::Room;

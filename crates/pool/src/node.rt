@@ -1,7 +1,6 @@
 // A node by value, and its kind and word in the pool: the table of kinds of document 01.
 ghost use mathlib.Core.Path.{_≡_};
-ghost use mathlib.Core.List.{[], _∷_};
-ghost use Rattle.pool.specs.Nodes.{decode, kindOf, wordOf, pair, allBelow, mayStandAt};
+ghost use Rattle.pool.specs.Nodes.{decode, kindOf, wordOf, pair};
 
 // The greatest variable number, and the least exponent of a Pow.
 pub const VARIABLE_MAX: u64 = 65_535;
@@ -131,32 +130,5 @@ pub fn word_of(node: Node) -> u64
         Node::Log(a) => a as u64,
         Node::Pow(a, n) => joined(a, n),
         Node::Max(a, b) => joined(a, b),
-    }
-}
-
-// Whether both parts are smaller than the node's own number.
-fn both_below(i: u32, a: u32, b: u32) -> bool
-    ensures { λ r. ⌜ r ≡ allBelow i (a ∷ b ∷ []) ⌝ }
-{
-    if a < i {
-        return b < i;
-    }
-    false
-}
-
-pub fn may_stand_at(i: u32, node: Node) -> bool
-    ensures { λ r. ⌜ r ≡ mayStandAt i node ⌝ }
-{
-    match node {
-        Node::Empty => false,
-        Node::Variable(_) => true,
-        Node::Lit(_) => true,
-        Node::Add(a, b) => both_below(i, a, b),
-        Node::Mul(a, b) => both_below(i, a, b),
-        Node::Div(a, b) => both_below(i, a, b),
-        Node::Exp(a) => a < i,
-        Node::Log(a) => a < i,
-        Node::Pow(a, _) => a < i,
-        Node::Max(a, b) => both_below(i, a, b),
     }
 }

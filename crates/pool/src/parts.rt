@@ -1,7 +1,7 @@
 // A node's parts, read and replaced.
 ghost use mathlib.Core.Path.{_≡_};
 ghost use Rattle.pool.specs.Nodes.{parts};
-ghost use Rattle.pool.specs.Parts.{partsIn, withParts};
+ghost use Rattle.pool.specs.Parts.{partsIn, Counted, withParts};
 use crate::node::Node;
 
 // A node's parts, the left or only part first.
@@ -25,6 +25,36 @@ pub fn parts_of(node: Node) -> Parts
         Node::Log(a) => Parts::One(a),
         Node::Pow(a, _) => Parts::One(a),
         Node::Max(a, b) => Parts::Two(a, b),
+    }
+}
+
+// The parts of a node and how many they are: a loop goes over them, with one call for all.
+pub struct CountedParts {
+    pub count: u32,
+    pub left: u32,
+    pub right: u32,
+}
+
+// A part that a node does not have is 0.
+pub fn counted_parts(node: Node) -> CountedParts
+    ensures { λ r. ⌜ Counted (parts node) r ⌝ }
+{
+    match parts_of(node) {
+        Parts::None => CountedParts {
+            count: 0,
+            left: 0,
+            right: 0,
+        },
+        Parts::One(a) => CountedParts {
+            count: 1,
+            left: a,
+            right: 0,
+        },
+        Parts::Two(a, b) => CountedParts {
+            count: 2,
+            left: a,
+            right: b,
+        },
     }
 }
 

@@ -1,6 +1,6 @@
 -- `node_read::entries_in` meets its contract: the entries passed stand in the tables, and one that is no node ends the loop.
 -- Assumes nothing.
-use mathlib.Core.Path.{sym, _∙_}
+use mathlib.Core.Path.{refl, sym, _∙_}
 use Prim.Native.Nat.{_-_}
 use native.Mathlib.Omega.{arith}
 use denote.Ref.{now}
@@ -10,13 +10,13 @@ use Rattle.node_read.proofs.entries_in.Statement.{statement}
 use Rattle.node_read.proofs.entries_in.Tie as tie
 
 abbrev Inv-loop : tie.InvT-loop
-Inv-loop bytes first n k₀ w₀ i₀ k w i = Entering first n bytes i k w
+Inv-loop table bytes first n k₀ w₀ i₀ k w i = Entering first n bytes i k w
 
 abbrev μ-loop : tie.MeasureT-loop
-μ-loop bytes first n k₀ w₀ i₀ k w i = n - i
+μ-loop table bytes first n k₀ w₀ i₀ k w i = n - i
 
 loop-holds : tie.Need-loop-holds Inv-loop μ-loop
-loop-holds c = none-entered _ _ _ (c .before .pre .1)
+loop-holds c = none-entered _ _ _ (c .before .pre .1 .0)
 
 add-kind : tie.Need-add-kind Inv-loop μ-loop
 add-kind c = let start = c .before .before .before in record { fits = omega (arith, start .pre .0 .long, start .good, c .loop-test .taken) }
@@ -46,59 +46,56 @@ number-at-requires c κs =
     let start = c .before .before .before .before in
     (omega arith, omega (arith, start .pre .0 .few, start .pre .0 .long, c .before .loop-test .taken))
 
-cast-may-stand-at : tie.Need-cast-may-stand-at Inv-loop μ-loop
-cast-may-stand-at c =
+cast-keeps-at : tie.Need-cast-keeps-at Inv-loop μ-loop
+cast-keeps-at c =
     let start = c .before .before .before .before .before in
     record { fits = omega (arith, start .pre .0 .few, start .pre .0 .long, c .before .before .loop-test .taken) }
 
-decode-requires : tie.Need-decode-requires Inv-loop μ-loop
-decode-requires c κs = tt
-
-may-stand-at-requires : tie.Need-may-stand-at-requires Inv-loop μ-loop
-may-stand-at-requires c κs = tt
+keeps-at-requires : tie.Need-keeps-at-requires Inv-loop μ-loop
+keeps-at-requires c κs = c .before .before .before .before .before .pre .1 .1
 
 returns : tie.Need-returns Inv-loop μ-loop
 returns c =
-    let at-loop-test = c .before .before .before .before .before in
+    let at-loop-test = c .before .before .before .before in
     let start = at-loop-test .before .before .before in
     not-entered (start .args .first) (start .args .n) (now (start .args .bytes)) (start .pre .0 .few) (at-loop-test .before .loop .inv)
-    (at-loop-test .loop-test .taken) (c .before .before .before .number-at .ensures) (c .before .before .decode .ensures)
-    (sym (c .before .may-stand-at .ensures) ∙ not-true _ (c .if1 .taken))
+    (at-loop-test .loop-test .taken) (c .before .before .number-at .ensures) refl
+    (sym (c .before .keeps-at .ensures) ∙ not-true _ (c .if1 .taken))
 
 element-write-k : tie.Need-element-write-k Inv-loop μ-loop
 element-write-k c =
-    let at-loop-test = c .before .before .before .before .before in
+    let at-loop-test = c .before .before .before .before in
     let start = at-loop-test .before .before .before in
     omega (arith, start .pre .0 .few, start .pre .0 .long, at-loop-test .loop-test .taken)
 
 mul-w : tie.Need-mul-w Inv-loop μ-loop
 mul-w c =
-    let at-loop-test = c .before .before .before .before .before in
+    let at-loop-test = c .before .before .before .before in
     let start = at-loop-test .before .before .before in
     record { fits = omega (arith, start .pre .0 .few, start .pre .0 .long, at-loop-test .loop-test .taken) }
 
 element-write-w : tie.Need-element-write-w Inv-loop μ-loop
 element-write-w c =
-    let at-loop-test = c .before .before .before .before .before in
+    let at-loop-test = c .before .before .before .before in
     let start = at-loop-test .before .before .before in
     omega (arith, start .pre .0 .few, start .pre .0 .long, at-loop-test .loop-test .taken)
 
 add-i : tie.Need-add-i Inv-loop μ-loop
 add-i c =
-    let at-loop-test = c .before .before .before .before .before in
+    let at-loop-test = c .before .before .before .before in
     let start = at-loop-test .before .before .before in
     omega (arith, start .pre .0 .few, start .pre .0 .long, at-loop-test .loop-test .taken)
 
 loop-less : tie.Need-loop-less Inv-loop μ-loop
-loop-less c = omega (arith, c .before .before .before .before .before .loop-test .taken)
+loop-less c = omega (arith, c .before .before .before .before .loop-test .taken)
 
 loop-again : tie.Need-loop-again Inv-loop μ-loop
 loop-again c =
-    let at-loop-test = c .before .before .before .before .before in
+    let at-loop-test = c .before .before .before .before in
     let start = at-loop-test .before .before .before in
     one-entered (start .args .first) (start .args .n) (now (start .args .bytes)) (start .pre .0 .few) (at-loop-test .before .loop .inv)
-    (at-loop-test .loop-test .taken) (c .before .before .before .number-at .ensures) (c .before .before .decode .ensures)
-    (sym (c .before .may-stand-at .ensures) ∙ not-false _ (c .if1 .left))
+    (at-loop-test .loop-test .taken) (c .before .before .number-at .ensures) refl
+    (sym (c .before .keeps-at .ensures) ∙ not-false _ (c .if1 .left))
 
 returns-2 : tie.Need-returns-2 Inv-loop μ-loop
 returns-2 c =
@@ -118,9 +115,8 @@ entries-in-spec =
     mul-number-at
     add-number-at-2
     number-at-requires
-    cast-may-stand-at
-    decode-requires
-    may-stand-at-requires
+    cast-keeps-at
+    keeps-at-requires
     returns
     element-write-k
     mul-w

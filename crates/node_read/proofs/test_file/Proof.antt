@@ -1,6 +1,7 @@
 -- `node_read::test_file` meets its contract: 7, 8 and 9 in turn, and then the entries are in the tables.
 -- Assumes nothing.
 use borrow.Author.Needs.{needs}
+use mathlib.Core.Path.{refl}
 use denote.Ref.{now}
 use borrow.Author.Tests.{not-true, not-false}
 use Rattle.node_read.proofs.Sizes.{size-is, has-entries}
@@ -16,15 +17,15 @@ returns c = let sized = c .before in wrong-length (now (sized .before .before .a
 
 entries-in-requires : tie.Need-entries-in-requires
 entries-in-requires c κs =
-    let some = c .before .before in
+    let some = c .before .before .before in
     let sized = some .before in
     let start = sized .before .before in
-    (has-entries (size-is (now (start .args .bytes)) (sized .size-of .ensures) (some .if1 .left)), start .pre)
+    (has-entries (size-is (now (start .args .bytes)) (sized .size-of .ensures) (some .if1 .left)), (start .pre, refl))
 
 returns-2 : tie.Need-returns-2
 returns-2 c =
     let entered = c .before in
-    let some = entered .before .before .before in
+    let some = entered .before .before .before .before in
     let sized = some .before in
     wrong-entry (now (sized .before .before .args .bytes)) (sized .size-of .ensures) (some .if1 .left) (entered .entries-in .ensures)
     (not-true _ (c .if2 .taken))
@@ -39,7 +40,7 @@ in-order-requires : tie.Need-in-order-requires
 in-order-requires c κs =
     let right = c .before .before .before in
     let entered = right .before in
-    let some = entered .before .before .before in
+    let some = entered .before .before .before .before in
     let sized = some .before in
     let size = size-is (now (sized .before .before .args .bytes)) (sized .size-of .ensures) (some .if1 .left) in
     ((size .few, last-below (size .some) (size .few)), entered .entries-in .ensures .falls (not-false _ (right .if2 .left)))
@@ -49,7 +50,7 @@ returns-3 c =
     let walked = c .before in
     let right = walked .before .before .before .before in
     let entered = right .before in
-    let some = entered .before .before .before in
+    let some = entered .before .before .before .before in
     let sized = some .before in
     wrong-sequence (now (sized .before .before .args .bytes)) (sized .size-of .ensures) (some .if1 .left) (entered .entries-in .ensures)
     (not-false _ (right .if2 .left)) (walked .in-order .ensures) (not-true _ (c .if3 .taken))
@@ -59,7 +60,7 @@ returns-4 c =
     let walked = c .before in
     let right = walked .before .before .before .before in
     let entered = right .before in
-    let some = entered .before .before .before in
+    let some = entered .before .before .before .before in
     let sized = some .before in
     all-right (now (sized .before .before .args .bytes)) (sized .size-of .ensures) (some .if1 .left) (entered .entries-in .ensures)
     (not-false _ (right .if2 .left)) (walked .in-order .ensures) (not-false _ (c .if3 .left))

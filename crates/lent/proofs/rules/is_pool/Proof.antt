@@ -28,7 +28,7 @@ nodes-keep-requires c κs = search needs
 
 returns-4 : tie.Need-returns-4
 returns-4 c =
-    let start = c .before .before .before .before .before .before .before in
+    let start = c .before .before .before .before .before .before .before .before in
     breaks (start .args .kinds .now) (start .args .words .now) (start .args .count)
     (node-breaks (start .args .kinds .now) (start .args .words .now) (start .args .count)
     (sym (c .before .nodes-keep .ensures) ∙ not-true _ (c .if4 .taken)))
@@ -38,7 +38,7 @@ kinds-rest-requires c κs = search needs
 
 returns-5 : tie.Need-returns-5
 returns-5 c =
-    let start = c .before .before .before .before .before .before .before .before .before in
+    let start = c .before .before .before .before .before .before .before .before .before .before in
     breaks (start .args .kinds .now) (start .args .words .now) (start .args .count)
     (kind-breaks (start .args .kinds .now) (start .args .words .now) (start .args .count)
     (sym (c .before .kinds-rest .ensures) ∙ not-true _ (c .if5 .taken)))
@@ -49,9 +49,9 @@ words-rest-requires c κs = search needs
 returns-6 : tie.Need-returns-6
 returns-6 c =
     let at-nodes-keep = c .before .before .before .before in
-    let start = at-nodes-keep .before .before .before .before .before .before in
-    words-decide (start .args .kinds .now) (start .args .words .now) (start .args .count) (at-nodes-keep .before .before .before .if1 .left)
-    (at-nodes-keep .before .before .if2 .left) (omega (arith, at-nodes-keep .before .if3 .left))
+    let start = at-nodes-keep .before .before .before .before .before .before .before in
+    words-decide (start .args .kinds .now) (start .args .words .now) (start .args .count) (at-nodes-keep .before .before .before .before .if1 .left)
+    (at-nodes-keep .before .before .before .if2 .left) (omega (arith, at-nodes-keep .before .before .if3 .left))
     (sym (at-nodes-keep .nodes-keep .ensures) ∙ not-false _ (c .before .before .before .if4 .left))
     (sym (c .before .before .kinds-rest .ensures) ∙ not-false _ (c .before .if5 .left)) (c .words-rest .ensures)
 
