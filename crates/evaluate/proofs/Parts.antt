@@ -1,53 +1,88 @@
--- What the walk's code does at a node is what the definition does: a part is evaluated under its own bound, a refusal ends the node, and values go on.
+-- The parts of a node: they come first, in their order, and the first refusal among them is the node's.
 -- Assumes nothing.
-use mathlib.Core.Path.{_≡_, refl, sym, ap, _∙_}
-use mathlib.Core.List.{List}
-use Prim.Native.Nat.{ℕ, _<_, _≤_}
-use lib.Ieee.{Float}
-use lib.ListN.{set}
-use Rattle.refusals.specs.Refusals.{brokenPool}
+use mathlib.Core.Path.{_≡_, refl}
+use mathlib.Core.Bool.{Bool, true, false, cond}
+use mathlib.Core.List.{List, [], _∷_, List·Memᴰ}
+use mathlib.Core.List.List·Memᴰ.{List·Memᴰ·head, List·Memᴰ·tail}
+use Prim.Native.Nat.{ℕ, zero, suc, _<_}
+use native.Mathlib.Omega.{arith}
+use lib.Dec.{ltb}
+use lib.Ieee.{Float, binary64, nan, ofInt}
+use lib.ListN.{length, getD, take}
+use Rattle.refusals.specs.Refusals.{notLiteral, noValue}
+use Rattle.literal.specs.Literal.{isLiteral}
+use Rattle.double.specs.Double.{doubleOf}
 use Rattle.double.specs.declared.Valued.{Valued}
 use Rattle.double.specs.declared.Valued.the-variants.{Double, Refused}
-use Rattle.pool.specs.Pool.{limit, nodeIn}
+use Rattle.pool.specs.Nodes.{parts}
 use Rattle.pool.specs.declared.node.Node.{Node}
-use Rattle.walks.specs.Evaluate.{one, evaluateNode, evaluateBelow, evaluate}
-use Rattle.pool.proofs.Folds.{visits, below, above}
-use Rattle.walks.proofs.Tables.{limit-is-enough}
-use Rattle.walks.proofs.Keeping.{one-more-kept}
-use Rattle.evaluate.specs.Keeps.{Keeps}
+use Rattle.pool.specs.declared.node.Node.the-variants.{Empty, Variable, Lit, Add, Mul, Div, Exp, Log, Pow, Max}
+use Rattle.walks.specs.Evaluate.{one, both, evaluateNode}
+use Rattle.evaluate.specs.Keeps.{inTable, PartsBelow}
 
--- a part came to a value: the rest goes on with it
-pub onward : {r v o : Valued} {x : Float} (next : Float → Valued) → r ≡ Double x → r ≡ v → o ≡ next x → o ≡ one v next
-onward next e m h = h ∙ sym (ap (λ (q : Valued). one q next) (sym m ∙ e))
+-- the parts in their order, up to the first that is refused
+abbrev pub inTurn : (ℕ → Valued) → List ℕ → Valued → Valued
+inTurn down [] last = last
+inTurn down (a ∷ more) last = one (down a) (λ x. inTurn down more last)
 
--- a part was refused: so is the node
-pub stopped : {r v : Valued} {k : ℕ} (next : Float → Valued) → r ≡ Refused k → r ≡ v → r ≡ one v next
-stopped next e m = e ∙ sym (ap (λ (q : Valued). one q next) (sym m ∙ e))
+one-again : (v : Valued) (next : Float → Valued) → one v next ≡ one v (λ x. one v next)
+one-again (Double x) next = refl
+one-again (Refused k) next = refl
 
--- what is done with a part's answer is done with its value
-pub with-part : {r p v : Valued} (next : Float → Valued) → r ≡ one p next → p ≡ v → r ≡ one v next
-with-part next h e = h ∙ ap (λ (q : Valued). one q next) e
+both-again : (v w : Valued) (next : Float → Float → Valued) → both v w next ≡ one v (λ x. one w (λ y. both v w next))
+both-again (Double x) (Double y) next = refl
+both-again (Double x) (Refused k) next = refl
+both-again (Refused k) w next = refl
 
-module _ (at : ℕ → Node) (values : List Float) where
-  -- the value of a node is its value under any bound above it
-  pub under-the-bound : {r : Valued} (k i : ℕ) → i < k → r ≡ evaluate at values i → r ≡ evaluateBelow at values k i
-  under-the-bound k i h e = e ∙ below (Refused brokenPool) (evaluate at values) k i h
+-- the parts before the one that is refused have values
+pub refused-in-turn :
+    {k : ℕ} (down : ℕ → Valued) (last : Valued) (told : List ℕ) (j : ℕ) → j < length told → ((a : ℕ) → List·Memᴰ a (take j told) → (x : Float) × (down a ≡ Double x)) → down (getD told j 0) ≡ Refused k → inTurn down told last ≡ Refused k
+refused-in-turn down last [] j h done e = absurd (never j h)
+  where
+    never : (j : ℕ) → j < 0 → ⊥
+    never j h = omega arith
+refused-in-turn down last (a ∷ more) zero h done e = rw e
+refused-in-turn down last (a ∷ more) (suc j) h done e =
+    rw (done a (List·Memᴰ·head refl) .1)
+    (refused-in-turn down last more j (omega arith) (λ b m. done b (List·Memᴰ·tail m)) e)
 
-  pub past-the-bound : (k i : ℕ) → k ≤ i → Refused brokenPool ≡ evaluateBelow at values k i
-  past-the-bound k i h = above (Refused brokenPool) (evaluate at values) k i h
+-- a part of a node that is the arm's
+pub part-below : {n arm : Node} {a k : ℕ} → n ≡ arm → PartsBelow k n → List·Memᴰ a (parts arm) → a < k
+part-below {a = a} is below m = below a (rw is m)
 
-  -- the node at i was read as n, which is the arm's
-  pub visited : {r : Valued} {n arm : Node} (i : ℕ) → n ≡ at i → n ≡ arm → r ≡ evaluateNode values (evaluateBelow at values i) arm → r ≡ evaluate at values i
-  visited i read told h =
-      h ∙ ap (evaluateNode values (evaluateBelow at values i)) (sym told ∙ read) ∙ sym (visits (Refused brokenPool) (evaluateNode values) at i)
+-- a refusal has a number above 0, and so is told from a value
+abbrev pub Numbered : Valued → Type 0
+Numbered (Double x) = Unit
+Numbered (Refused k) = 0 < k
 
-  -- the value of a node that was visited: it is the one asked for, and may be kept
-  pub newly-kept :
-      {r : Valued} {x : Float} {kept : List Float} {seen : List ℕ} (k i : ℕ) → i < k → r ≡ Double x → r ≡ evaluate at values i → Keeps at values kept seen → (Double x ≡ evaluateBelow at values k i) × Keeps at values (set kept i x) (set seen i 1)
-  newly-kept {x = x} k i h e m kept =
-      (under-the-bound k i h (sym e ∙ m), one-more-kept (λ j y. evaluate at values j ≡ Double y) i x kept (sym m ∙ e))
+either-numbered : (t : Bool) (x : Float) (k : ℕ) → 0 < k → Numbered (cond t (Double x) (Refused k))
+either-numbered true x k h = tt
+either-numbered false x k h = h
 
--- the whole walk, under the limit
-pub whole-walk : {r : Valued} (ks ws : List ℕ) (values : List Float) (root : ℕ) → r ≡ evaluateBelow (nodeIn ks ws) values limit root → r ≡ evaluate (nodeIn ks ws) values root
-whole-walk ks ws values root e =
-    e ∙ limit-is-enough (Refused brokenPool) (evaluateNode values) ks ws (λ down. refl) root
+module _ (values : List Float) where
+  -- a node comes to its own value once its parts have theirs
+  pub parts-first : (down : ℕ → Valued) (n : Node) → evaluateNode values down n ≡ inTurn down (parts n) (evaluateNode values down n)
+  parts-first down Empty = refl
+  parts-first down (Variable v) = refl
+  parts-first down (Lit z) = refl
+  parts-first down (Add a b) = both-again (down a) (down b) _
+  parts-first down (Mul a b) = both-again (down a) (down b) _
+  parts-first down (Div a b) = both-again (down a) (down b) _
+  parts-first down (Exp a) = one-again (down a) _
+  parts-first down (Log a) = one-again (down a) _
+  parts-first down (Pow a e) = one-again (down a) _
+  parts-first down (Max a b) = both-again (down a) (down b) _
+
+  -- the parts having values
+  pub numbered : (kept : List Float) (n : Node) → Numbered (evaluateNode values (inTable kept) n)
+  unfolding doubleOf
+  numbered kept Empty = omega arith
+  numbered kept (Variable v) = either-numbered (ltb v (length values)) (getD values v nan) noValue (omega arith)
+  numbered kept (Lit z) = either-numbered (isLiteral z) (ofInt binary64 z) notLiteral (omega arith)
+  numbered kept (Add a b) = tt
+  numbered kept (Mul a b) = tt
+  numbered kept (Div a b) = tt
+  numbered kept (Exp a) = omega arith
+  numbered kept (Log a) = omega arith
+  numbered kept (Pow a e) = tt
+  numbered kept (Max a b) = tt

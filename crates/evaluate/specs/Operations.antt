@@ -1,11 +1,9 @@
 -- What is done with the values of a node's parts, by name: the code hands a name over with the parts.
 -- Assumes nothing.
-use Prim.Native.Nat.{ℕ}
 use lib.Ieee.{Float, binary64, add, mul, div}
-use Rattle.refusals.specs.Refusals.{notEvaluated}
-use Rattle.double.specs.Double.{powOf, maxOf}
+use Rattle.double.specs.Double.{maxOf}
 use Rattle.double.specs.declared.Valued.{Valued}
-use Rattle.double.specs.declared.Valued.the-variants.{Double, Refused}
+use Rattle.double.specs.declared.Valued.the-variants.{Double}
 use Rattle.evaluate.specs.declared.Binary.{Binary}
 use Rattle.evaluate.specs.declared.Binary.the-variants.{Add, Mul, Div, Max}
 
@@ -14,10 +12,3 @@ applied Add x y = Double (add binary64 x y)
 applied Mul x y = Double (mul binary64 x y)
 applied Div x y = Double (div binary64 x y)
 applied Max x y = Double (maxOf x y)
-
-abbrev pub raised : ℕ → Float → Valued
-raised e x = Double (powOf x e)
-
--- Exp and Log, "its parts being done"
-abbrev pub unevaluated : Float → Valued
-unevaluated x = Refused notEvaluated
