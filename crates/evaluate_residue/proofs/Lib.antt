@@ -1,3 +1,4 @@
-pub mod Parts
 pub mod Modulo
+pub mod Numbers
 pub mod Theorems
+pub mod Walk

@@ -1,13 +1,14 @@
 // Evaluation by residues: a walk from the root to the parts. Each visited node's residue is kept, so that a shared part is evaluated once.
 ghost use mathlib.Core.Path.{_≡_};
-ghost use Prim.Native.Nat.{_<_, _≤_};
+ghost use Prim.Native.Nat.{_<_};
 ghost use Rattle.residue.specs.Residue.{Modulus};
 ghost use Rattle.pool.specs.Pool.{limit, nodeIn};
-ghost use Rattle.walks.specs.EvaluateResidue.{one, both, valueOfVariable, residueBelow, evaluateResidue};
-ghost use Rattle.evaluate_residue.specs.Residues.{Residues, Below, Keeps};
-ghost use Rattle.evaluate_residue.specs.Operations.{applied, raised, unevaluated};
+ghost use Rattle.walks.specs.EvaluateResidue.{valueOfVariable, residueNode, evaluateResidue};
+ghost use Rattle.evaluate_residue.specs.Residues.{Residues};
+ghost use Rattle.evaluate_residue.specs.Keeps.{keptOf, Keeps, Ready, Walked};
 use pool::LIMIT;
 use pool::Node;
+use pool::counted_parts;
 use residue::Divided;
 
 // A variable's entry in the table of values.
@@ -21,120 +22,32 @@ fn value_of_variable(values: &[u32], v: u32) -> Divided
     Divided::Refused(refusals::NO_VALUE)
 }
 
-// Exp and Log have no residue, their part being done.
-fn not_evaluated(part: Divided) -> Divided
-    ensures { λ r. ⌜ r ≡ one part unevaluated ⌝ }
-{
-    let Divided::Residue(_) = part else {
-        return part;
-    };
-    Divided::Refused(refusals::NOT_EVALUATED)
-}
-
-fn power(m: u64, part: Divided, e: u32) -> Divided
+// The residue of a node whose parts' residues are kept. Exp, Log and Max have none.
+fn joined(m: u64, values: &[u32], kept: &[u64; LIMIT], node: Node) -> Divided
     requires { ⌜ Modulus m ⌝ }
-    requires { ⌜ Below m part ⌝ }
-    ensures { λ r. ⌜ r ≡ one part (raised m e) ⌝ }
+    requires { ⌜ Ready m node (now kept) ⌝ }
+    ensures { λ r. ⌜ r ≡ residueNode m (now (values .entry)) (keptOf (now (kept .entry))) node ⌝ }
 {
-    let Divided::Residue(x) = part else {
-        return part;
-    };
-    Divided::Residue(residue::power(m, x, e))
-}
-
-// What is done with the residues of two parts.
-enum Binary {
-    Add,
-    Mul,
-    Div,
-    Max,
-}
-
-fn apply(m: u64, op: Binary, x: u64, y: u64) -> Divided
-    requires { ⌜ Modulus m ⌝ }
-    requires { ⌜ x < m ⌝ }
-    requires { ⌜ y < m ⌝ }
-    ensures { λ r. ⌜ r ≡ applied m op x y ⌝ }
-{
-    match op {
-        Binary::Add => Divided::Residue(residue::sum(m, x, y)),
-        Binary::Mul => Divided::Residue(residue::product(m, x, y)),
-        Binary::Div => residue::quotient(m, x, y),
-        Binary::Max => Divided::Refused(refusals::NOT_EVALUATED),
-    }
-}
-
-// The residue of node i, which is to be below the bound: parts have smaller numbers. A residue that was kept is given again.
-fn residue_below(
-    kinds: &[u8; LIMIT],
-    words: &[u64; LIMIT],
-    m: u64,
-    values: &[u32],
-    kept: &mut [u64; LIMIT],
-    seen: &mut [u8; LIMIT],
-    bound: u32,
-    i: u32,
-) -> Divided
-    requires { ⌜ bound ≤ limit ⌝ }
-    requires { ⌜ Modulus m ⌝ }
-    requires { ⌜ Residues m (now values) ⌝ }
-    requires { ⌜ Keeps m (nodeIn (now kinds) (now words)) (now values) (now kept) (now seen) ⌝ }
-    ensures { λ r. ⌜ r ≡ residueBelow m (nodeIn (now (kinds .entry)) (now (words .entry))) (now (values .entry)) bound i ⌝ }
-    ensures { λ _. ⌜ Keeps m (nodeIn (now (kinds .entry)) (now (words .entry))) (now (values .entry)) (now (kept .exit)) (now (seen .exit)) ⌝ }
-{
-    if bound <= i {
-        return Divided::Refused(refusals::BROKEN_POOL);
-    }
-    let at = i as usize;
-    if seen[at] != 0 {
-        return Divided::Residue(kept[at]);
-    }
-    let found = residue_node(kinds, words, m, values, kept, seen, i);
-    let Divided::Residue(x) = found else {
-        return found;
-    };
-    kept[at] = x;
-    seen[at] = 1;
-    found
-}
-
-// The residue of node i from those of its parts.
-fn residue_node(
-    kinds: &[u8; LIMIT],
-    words: &[u64; LIMIT],
-    m: u64,
-    values: &[u32],
-    kept: &mut [u64; LIMIT],
-    seen: &mut [u8; LIMIT],
-    i: u32,
-) -> Divided
-    requires { ⌜ i < limit ⌝ }
-    requires { ⌜ Modulus m ⌝ }
-    requires { ⌜ Residues m (now values) ⌝ }
-    requires { ⌜ Keeps m (nodeIn (now kinds) (now words)) (now values) (now kept) (now seen) ⌝ }
-    ensures { λ r. ⌜ r ≡ evaluateResidue m (nodeIn (now (kinds .entry)) (now (words .entry))) (now (values .entry)) i ⌝ }
-    ensures { λ _. ⌜ Keeps m (nodeIn (now (kinds .entry)) (now (words .entry))) (now (values .entry)) (now (kept .exit)) (now (seen .exit)) ⌝ }
-{
-    match pool::node_at(kinds, words, i) {
+    match node {
         Node::Empty => Divided::Refused(refusals::BROKEN_POOL),
         Node::Variable(v) => value_of_variable(values, v),
         Node::Lit(z) => Divided::Residue(residue::residue_of(m, z)),
-        Node::Add(a, b) => residue_both(kinds, words, m, values, kept, seen, i, a, b, Binary::Add),
-        Node::Mul(a, b) => residue_both(kinds, words, m, values, kept, seen, i, a, b, Binary::Mul),
-        Node::Div(a, b) => residue_both(kinds, words, m, values, kept, seen, i, a, b, Binary::Div),
-        Node::Exp(a) => not_evaluated(residue_below(kinds, words, m, values, kept, seen, i, a)),
-        Node::Log(a) => not_evaluated(residue_below(kinds, words, m, values, kept, seen, i, a)),
-        Node::Pow(a, e) => power(
+        Node::Add(a, b) => Divided::Residue(residue::sum(m, kept[a as usize], kept[b as usize])),
+        Node::Mul(a, b) => Divided::Residue(residue::product(
             m,
-            residue_below(kinds, words, m, values, kept, seen, i, a),
-            e,
-        ),
-        Node::Max(a, b) => residue_both(kinds, words, m, values, kept, seen, i, a, b, Binary::Max),
+            kept[a as usize],
+            kept[b as usize],
+        )),
+        Node::Div(a, b) => residue::quotient(m, kept[a as usize], kept[b as usize]),
+        Node::Exp(_) => Divided::Refused(refusals::NOT_EVALUATED),
+        Node::Log(_) => Divided::Refused(refusals::NOT_EVALUATED),
+        Node::Pow(a, e) => Divided::Residue(residue::power(m, kept[a as usize], e)),
+        Node::Max(_, _) => Divided::Refused(refusals::NOT_EVALUATED),
     }
 }
 
-// The left part of node i, then the right one, then the operation.
-fn residue_both(
+// Keeps the residue of node i and answers 0, or answers the refusal number. The parts, which have smaller numbers, are done first, the left one before the right one.
+fn residue_at(
     kinds: &[u8; LIMIT],
     words: &[u64; LIMIT],
     m: u64,
@@ -142,26 +55,41 @@ fn residue_both(
     kept: &mut [u64; LIMIT],
     seen: &mut [u8; LIMIT],
     i: u32,
-    a: u32,
-    b: u32,
-    op: Binary,
-) -> Divided
+) -> u32
     requires { ⌜ i < limit ⌝ }
     requires { ⌜ Modulus m ⌝ }
     requires { ⌜ Residues m (now values) ⌝ }
     requires { ⌜ Keeps m (nodeIn (now kinds) (now words)) (now values) (now kept) (now seen) ⌝ }
-    ensures { λ r. ⌜ r ≡ both (residueBelow m (nodeIn (now (kinds .entry)) (now (words .entry))) (now (values .entry)) i a) (residueBelow m (nodeIn (now (kinds .entry)) (now (words .entry))) (now (values .entry)) i b) (applied m op) ⌝ }
-    ensures { λ _. ⌜ Keeps m (nodeIn (now (kinds .entry)) (now (words .entry))) (now (values .entry)) (now (kept .exit)) (now (seen .exit)) ⌝ }
+    ensures { λ r. ⌜ Walked m (nodeIn (now (kinds .entry)) (now (words .entry))) (now (values .entry)) (now (seen .entry)) i r (now (kept .exit)) (now (seen .exit)) ⌝ }
 {
-    let left = residue_below(kinds, words, m, values, kept, seen, i, a);
-    let Divided::Residue(x) = left else {
-        return left;
-    };
-    let right = residue_below(kinds, words, m, values, kept, seen, i, b);
-    let Divided::Residue(y) = right else {
-        return right;
-    };
-    apply(m, op, x, y)
+    let at = i as usize;
+    if seen[at] != 0 {
+        return 0;
+    }
+    let node = pool::node_at(kinds, words, i);
+    let parts = counted_parts(node);
+    let mut j = 0;
+    let mut part = parts.left;
+    while j < parts.count {
+        if i <= part {
+            return refusals::BROKEN_POOL;
+        }
+        let k = residue_at(kinds, words, m, values, kept, seen, part);
+        if k != 0 {
+            return k;
+        }
+        part = parts.right;
+        j += 1;
+    }
+    let found = joined(m, values, kept, node);
+    match found {
+        Divided::Residue(x) => {
+            kept[at] = x;
+            seen[at] = 1;
+            0
+        }
+        Divided::Refused(k) => k,
+    }
 }
 
 // The residue of the expression at a root.
@@ -176,16 +104,15 @@ pub fn evaluate_residue_from(
     requires { ⌜ Residues m (now values) ⌝ }
     ensures { λ r. ⌜ r ≡ evaluateResidue m (nodeIn (now (kinds .entry)) (now (words .entry))) (now (values .entry)) root ⌝ }
 {
+    let at = root as usize;
+    if LIMIT <= at {
+        return Divided::Refused(refusals::BROKEN_POOL);
+    }
     let mut kept = [0u64; LIMIT];
     let mut seen = [0u8; LIMIT];
-    residue_below(
-        kinds,
-        words,
-        m,
-        values,
-        &mut kept,
-        &mut seen,
-        LIMIT as u32,
-        root,
-    )
+    let k = residue_at(kinds, words, m, values, &mut kept, &mut seen, root);
+    if k != 0 {
+        return Divided::Refused(k);
+    }
+    Divided::Residue(kept[at])
 }
