@@ -2,5 +2,6 @@
 mod quotient;
 mod rules;
 mod walk;
+mod work;
 
 pub use walk::derive_in;

@@ -1,19 +1,21 @@
 // The walk: a kept derivative is given again, else the node is visited, its parts first.
 ghost use mathlib.Core.Path.{_≡_};
 ghost use Prim.Native.Nat.{_+_, _<_};
+ghost use lib.ListN.{length};
 ghost use Rattle.pool.specs.Made.{made, poolOf};
-ghost use Rattle.pool.specs.Pool.{limit};
 ghost use Rattle.walks.specs.Walk.{walkBelow};
 ghost use Rattle.walks.specs.Derive.{deriveAt, derive};
 ghost use Rattle.walk_laws.specs.Walked.{walked, stateOf};
 ghost use Rattle.derive.specs.Rules.{deriveTwo, deriveOne};
 use crate::rules::One;
 use crate::rules::Two;
+use crate::work::Work;
+use crate::work::work_of;
 use pool::HALF;
 use pool::LIMIT;
 use pool::Made;
-use pool::Node;
 use pool::Room;
+use walk_laws::FEW;
 
 // `derive`: the derivative by the variable `var` of the expression at `root`.
 pub fn derive_in(
@@ -25,6 +27,10 @@ pub fn derive_in(
 ) -> Made
     ensures { λ r. ⌜ made r (now (kinds .exit)) (now (words .exit)) ≡ derive root var (poolOf (now (kinds .entry)) (now (words .entry)) room) ⌝ }
 {
+    if (root as usize) < FEW {
+        let mut few = [0u64; FEW];
+        return walk_at(kinds, words, &mut few, room, root, var);
+    }
     if (root as usize) < LIMIT {
         let mut kept = [0u64; LIMIT];
         return walk_at(kinds, words, &mut kept, room, root, var);
@@ -36,12 +42,12 @@ pub fn derive_in(
 fn walk_at(
     kinds: &mut [u8; LIMIT],
     words: &mut [u64; LIMIT],
-    kept: &mut [u64; LIMIT],
+    kept: &mut [u64],
     room: Room,
     term: u32,
     var: u32,
 ) -> Made
-    requires { ⌜ term < limit ⌝ }
+    requires { ⌜ term < length (now kept) ⌝ }
     ensures { λ r. ⌜ walked r (now (kinds .exit)) (now (words .exit)) (now (kept .exit)) ≡ walkBelow (deriveAt var) (term + 1) term (stateOf (now (kinds .entry)) (now (words .entry)) (now (kept .entry)) room) ⌝ }
 {
     let at = term as usize;
@@ -71,31 +77,21 @@ fn walk_at(
 fn walk_node(
     kinds: &mut [u8; LIMIT],
     words: &mut [u64; LIMIT],
-    kept: &mut [u64; LIMIT],
+    kept: &mut [u64],
     room: Room,
     term: u32,
     var: u32,
 ) -> Made
-    requires { ⌜ term < limit ⌝ }
+    requires { ⌜ term < length (now kept) ⌝ }
     ensures { λ r. ⌜ walked r (now (kinds .exit)) (now (words .exit)) (now (kept .exit)) ≡ deriveAt var (walkBelow (deriveAt var) term) term (stateOf (now (kinds .entry)) (now (words .entry)) (now (kept .entry)) room) ⌝ }
 {
     let node = pool::node_at(kinds, words, term);
-    match node {
-        Node::Empty => Made::Refused(refusals::BROKEN_POOL),
-        Node::Variable(v) => crate::rules::lit_rule(
-            kinds,
-            words,
-            room,
-            crate::rules::slope(v, var),
-        ),
-        Node::Lit(_) => crate::rules::lit_rule(kinds, words, room, 0),
-        Node::Add(a, b) => walk_two(kinds, words, kept, room, term, Two::Add, a, b, var),
-        Node::Mul(a, b) => walk_two(kinds, words, kept, room, term, Two::Mul, a, b, var),
-        Node::Div(a, b) => walk_two(kinds, words, kept, room, term, Two::Div, a, b, var),
-        Node::Exp(a) => walk_one(kinds, words, kept, room, term, One::Exp, a, var),
-        Node::Log(a) => walk_one(kinds, words, kept, room, term, One::Log, a, var),
-        Node::Pow(a, e) => walk_one(kinds, words, kept, room, term, One::Pow(e), a, var),
-        Node::Max(_, _) => Made::Refused(refusals::MAX_REACHED),
+    let work = work_of(node, var);
+    match work {
+        Work::Refused(k) => Made::Refused(k),
+        Work::Leaf(z) => crate::rules::lit_rule(kinds, words, room, z),
+        Work::One(op, a) => walk_one(kinds, words, kept, room, term, op, a, var),
+        Work::Two(op, a, b) => walk_two(kinds, words, kept, room, term, op, a, b, var),
     }
 }
 
@@ -103,7 +99,7 @@ fn walk_node(
 fn walk_two(
     kinds: &mut [u8; LIMIT],
     words: &mut [u64; LIMIT],
-    kept: &mut [u64; LIMIT],
+    kept: &mut [u64],
     room: Room,
     term: u32,
     op: Two,
@@ -111,7 +107,7 @@ fn walk_two(
     b: u32,
     var: u32,
 ) -> Made
-    requires { ⌜ term < limit ⌝ }
+    requires { ⌜ term < length (now kept) ⌝ }
     ensures { λ r. ⌜ walked r (now (kinds .exit)) (now (words .exit)) (now (kept .exit)) ≡ deriveTwo (walkBelow (deriveAt var) term) op a b (stateOf (now (kinds .entry)) (now (words .entry)) (now (kept .entry)) room) ⌝ }
 {
     let left = walk_part(kinds, words, kept, room, term, a, var);
@@ -137,14 +133,14 @@ fn walk_two(
 fn walk_one(
     kinds: &mut [u8; LIMIT],
     words: &mut [u64; LIMIT],
-    kept: &mut [u64; LIMIT],
+    kept: &mut [u64],
     room: Room,
     term: u32,
     op: One,
     a: u32,
     var: u32,
 ) -> Made
-    requires { ⌜ term < limit ⌝ }
+    requires { ⌜ term < length (now kept) ⌝ }
     ensures { λ r. ⌜ walked r (now (kinds .exit)) (now (words .exit)) (now (kept .exit)) ≡ deriveOne (walkBelow (deriveAt var) term) term op a (stateOf (now (kinds .entry)) (now (words .entry)) (now (kept .entry)) room) ⌝ }
 {
     let part = walk_part(kinds, words, kept, room, term, a, var);
@@ -162,13 +158,13 @@ fn walk_one(
 fn walk_part(
     kinds: &mut [u8; LIMIT],
     words: &mut [u64; LIMIT],
-    kept: &mut [u64; LIMIT],
+    kept: &mut [u64],
     room: Room,
     term: u32,
     a: u32,
     var: u32,
 ) -> Made
-    requires { ⌜ term < limit ⌝ }
+    requires { ⌜ term < length (now kept) ⌝ }
     ensures { λ r. ⌜ walked r (now (kinds .exit)) (now (words .exit)) (now (kept .exit)) ≡ walkBelow (deriveAt var) term a (stateOf (now (kinds .entry)) (now (words .entry)) (now (kept .entry)) room) ⌝ }
 {
     if a < term {

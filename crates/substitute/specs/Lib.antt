@@ -1,1 +1,2 @@
 pub mod Rebuild
+pub mod Work

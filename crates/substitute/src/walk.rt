@@ -1,21 +1,21 @@
 // The walk: a kept result is given again, else the node is visited, its parts first.
 ghost use mathlib.Core.Path.{_≡_};
-ghost use mathlib.Core.Bool.{cond};
 ghost use Prim.Native.Nat.{_+_, _<_};
-ghost use lib.Dec.{eqb};
+ghost use lib.ListN.{length};
 ghost use Rattle.pool.specs.Made.{made, poolOf};
-ghost use Rattle.pool.specs.Pool.{limit};
 ghost use Rattle.walks.specs.Walk.{walkBelow};
 ghost use Rattle.walks.specs.Substitute.{substituteAt, substituteVar};
 ghost use Rattle.walk_laws.specs.Walked.{walked, stateOf};
 ghost use Rattle.substitute.specs.Rebuild.{substituteTwo, substituteOne};
+use crate::work::Work;
+use crate::work::work_of;
 use constructor_calls::One;
 use constructor_calls::Two;
 use pool::HALF;
 use pool::LIMIT;
 use pool::Made;
-use pool::Node;
 use pool::Room;
+use walk_laws::FEW;
 
 // `substitute_var`: the expression at `root` with the node `value` for the variable `var`.
 pub fn substitute_in(
@@ -28,6 +28,10 @@ pub fn substitute_in(
 ) -> Made
     ensures { λ r. ⌜ made r (now (kinds .exit)) (now (words .exit)) ≡ substituteVar root var value (poolOf (now (kinds .entry)) (now (words .entry)) room) ⌝ }
 {
+    if (root as usize) < FEW {
+        let mut few = [0u64; FEW];
+        return walk_at(kinds, words, &mut few, room, root, var, value);
+    }
     if (root as usize) < LIMIT {
         let mut kept = [0u64; LIMIT];
         return walk_at(kinds, words, &mut kept, room, root, var, value);
@@ -39,13 +43,13 @@ pub fn substitute_in(
 fn walk_at(
     kinds: &mut [u8; LIMIT],
     words: &mut [u64; LIMIT],
-    kept: &mut [u64; LIMIT],
+    kept: &mut [u64],
     room: Room,
     term: u32,
     var: u32,
     value: u32,
 ) -> Made
-    requires { ⌜ term < limit ⌝ }
+    requires { ⌜ term < length (now kept) ⌝ }
     ensures { λ r. ⌜ walked r (now (kinds .exit)) (now (words .exit)) (now (kept .exit)) ≡ walkBelow (substituteAt var value) (term + 1) term (stateOf (now (kinds .entry)) (now (words .entry)) (now (kept .entry)) room) ⌝ }
 {
     let at = term as usize;
@@ -71,44 +75,26 @@ fn walk_at(
     }
 }
 
-// What is put for a variable v.
-fn put_for(v: u32, term: u32, var: u32, value: u32) -> u32
-    ensures { λ r. ⌜ r ≡ cond (eqb v var) value term ⌝ }
-{
-    if v == var {
-        return value;
-    }
-    term
-}
-
 // At a node, by its kind.
 fn walk_node(
     kinds: &mut [u8; LIMIT],
     words: &mut [u64; LIMIT],
-    kept: &mut [u64; LIMIT],
+    kept: &mut [u64],
     room: Room,
     term: u32,
     var: u32,
     value: u32,
 ) -> Made
-    requires { ⌜ term < limit ⌝ }
+    requires { ⌜ term < length (now kept) ⌝ }
     ensures { λ r. ⌜ walked r (now (kinds .exit)) (now (words .exit)) (now (kept .exit)) ≡ substituteAt var value (walkBelow (substituteAt var value) term) term (stateOf (now (kinds .entry)) (now (words .entry)) (now (kept .entry)) room) ⌝ }
 {
     let node = pool::node_at(kinds, words, term);
-    match node {
-        Node::Empty => Made::Refused(refusals::BROKEN_POOL),
-        Node::Variable(v) => Made::Node {
-            node: put_for(v, term, var, value),
-            room,
-        },
-        Node::Lit(_) => Made::Node { node: term, room },
-        Node::Add(a, b) => walk_two(kinds, words, kept, room, term, Two::Add, a, b, var, value),
-        Node::Mul(a, b) => walk_two(kinds, words, kept, room, term, Two::Mul, a, b, var, value),
-        Node::Div(a, b) => walk_two(kinds, words, kept, room, term, Two::Div, a, b, var, value),
-        Node::Exp(a) => walk_one(kinds, words, kept, room, term, One::Exp, a, var, value),
-        Node::Log(a) => walk_one(kinds, words, kept, room, term, One::Log, a, var, value),
-        Node::Pow(a, e) => walk_one(kinds, words, kept, room, term, One::Pow(e), a, var, value),
-        Node::Max(a, b) => walk_two(kinds, words, kept, room, term, Two::Max, a, b, var, value),
+    let work = work_of(node, term, var, value);
+    match work {
+        Work::Refused(k) => Made::Refused(k),
+        Work::Leaf(i) => Made::Node { node: i, room },
+        Work::One(op, a) => walk_one(kinds, words, kept, room, term, op, a, var, value),
+        Work::Two(op, a, b) => walk_two(kinds, words, kept, room, term, op, a, b, var, value),
     }
 }
 
@@ -116,7 +102,7 @@ fn walk_node(
 fn walk_two(
     kinds: &mut [u8; LIMIT],
     words: &mut [u64; LIMIT],
-    kept: &mut [u64; LIMIT],
+    kept: &mut [u64],
     room: Room,
     term: u32,
     op: Two,
@@ -125,7 +111,7 @@ fn walk_two(
     var: u32,
     value: u32,
 ) -> Made
-    requires { ⌜ term < limit ⌝ }
+    requires { ⌜ term < length (now kept) ⌝ }
     ensures { λ r. ⌜ walked r (now (kinds .exit)) (now (words .exit)) (now (kept .exit)) ≡ substituteTwo (walkBelow (substituteAt var value) term) term op a b (stateOf (now (kinds .entry)) (now (words .entry)) (now (kept .entry)) room) ⌝ }
 {
     let left = walk_part(kinds, words, kept, room, term, a, var, value);
@@ -151,7 +137,7 @@ fn walk_two(
 fn walk_one(
     kinds: &mut [u8; LIMIT],
     words: &mut [u64; LIMIT],
-    kept: &mut [u64; LIMIT],
+    kept: &mut [u64],
     room: Room,
     term: u32,
     op: One,
@@ -159,7 +145,7 @@ fn walk_one(
     var: u32,
     value: u32,
 ) -> Made
-    requires { ⌜ term < limit ⌝ }
+    requires { ⌜ term < length (now kept) ⌝ }
     ensures { λ r. ⌜ walked r (now (kinds .exit)) (now (words .exit)) (now (kept .exit)) ≡ substituteOne (walkBelow (substituteAt var value) term) term op a (stateOf (now (kinds .entry)) (now (words .entry)) (now (kept .entry)) room) ⌝ }
 {
     let part = walk_part(kinds, words, kept, room, term, a, var, value);
@@ -177,14 +163,14 @@ fn walk_one(
 fn walk_part(
     kinds: &mut [u8; LIMIT],
     words: &mut [u64; LIMIT],
-    kept: &mut [u64; LIMIT],
+    kept: &mut [u64],
     room: Room,
     term: u32,
     a: u32,
     var: u32,
     value: u32,
 ) -> Made
-    requires { ⌜ term < limit ⌝ }
+    requires { ⌜ term < length (now kept) ⌝ }
     ensures { λ r. ⌜ walked r (now (kinds .exit)) (now (words .exit)) (now (kept .exit)) ≡ walkBelow (substituteAt var value) term a (stateOf (now (kinds .entry)) (now (words .entry)) (now (kept .entry)) room) ⌝ }
 {
     if a < term {

@@ -1,8 +1,10 @@
--- What the answers and the table of kept results of the code stand for.
+-- What the answers and the table of kept results of the code stand for. It describes the code, and is no part of what a walk means.
 -- Assumes nothing.
-use mathlib.Core.List.{List, map}
-use Prim.Native.Nat.{ℕ, zero, suc, _%_}
+use mathlib.Core.List.{List, map, _++_}
+use Prim.Native.Nat.{ℕ, zero, suc, _-_, _%_}
+use lib.ListN.{length, replicate}
 use Rattle.pool.specs.Nodes.{half}
+use Rattle.pool.specs.Pool.{limit}
 use Rattle.pool.specs.Made.{made, poolOf}
 use Rattle.pool.specs.declared.table.Made.{Made}
 use Rattle.pool.specs.declared.table.Room.{Room}
@@ -13,8 +15,13 @@ abbrev pub resultOf : ℕ → ℕ
 resultOf zero = 0
 resultOf (suc w) = suc (w % half)
 
+-- the table of the code may end before that of the definition does: none is kept for a node past its end
 unfoldable pub resultsOf : List ℕ → List ℕ
-resultsOf kept = map resultOf kept
+resultsOf kept = map resultOf kept ++ replicate (limit - length kept) 0
+
+-- how many words the table of a walk from a small root has
+abbrev pub few : ℕ
+few = 256
 
 -- the state that three tables and the room in the pool are
 abbrev pub stateOf : List ℕ → List ℕ → List ℕ → Room → State

@@ -6,13 +6,15 @@ use mathlib.Core.List.{List}
 use native.Mathlib.Omega.{arith}
 use mir.Syntax.{w64}
 use mir.ValLaws.{toZ-ofZ}
+use borrow.Author.Needs.{needs}
 use borrow.Fn.Kinds.{PK, In}
 use borrow.Fn.PlainCycle.{Measures, is, falls, and}
 use Rattle.walks.specs.Derive.{deriveNode, deriveAt}
 use Rattle.walk_laws.specs.Walked.{resultsOf}
+use Rattle.derive.specs.Work.{deriveWork}
 use Rattle.walk_laws.proofs.Steps.{onward, stopped}
 use Rattle.walk_laws.proofs.Bounds.{below, above}
-use Rattle.walk_laws.proofs.Turns.{given-again, visited, kept-now, by-kind}
+use Rattle.walk_laws.proofs.Turns.{given-again, visited, kept-now, by-work}
 use Rattle.derive.proofs.Ruled.{of-number}
 use Rattle.derive.proofs.walk.walk_at.Reads as walk-at
 use Rattle.derive.proofs.walk.walk_at.Kinds as walk-at-kinds
@@ -32,7 +34,7 @@ use Rattle.derive.proofs.walk.+walk_at+walk_node+walk_one+walk_part+wal
 use Rattle.derive.proofs.rules.lit_rule.Reads as lit-rule-reads
 use Rattle.derive.proofs.rules.rule_one.Reads as rule-one-reads
 use Rattle.derive.proofs.rules.rule_two.Reads as rule-two-reads
-use Rattle.derive.proofs.rules.slope.Reads as slope-reads
+use Rattle.derive.proofs.work.work_of.Reads as work-of-reads
 use Rattle.pool.proofs.node_at.Reads as node-at-reads
 use Rattle.derive.proofs.walk.+walk_at+walk_node+walk_one+walk_part+walk_two.{statement}
 use Rattle.derive.proofs.walk.+walk_at+walk_node+walk_one+walk_part+walk_two.Tie.{close}
@@ -73,127 +75,94 @@ pub +walk-at+walk-node+walk-one+walk-part+walk-two-spec : {M : Type 1} → state
     (here walk-at-kinds.ps μ-walk-at walk-at.Pre t)
     walk-at.Post
     (λ c. omega arith)
-    (λ c. omega arith)
+    (λ c. c .before .before .pre .1)
     (λ c. omega arith)
     (λ c. omega arith)
     (λ c.
-    let start = c .before .before in
-    given-again (deriveAt (start .args .var)) _ _ (start .args .term) (c .if1 .taken))
+    let start = c .before .before .before in
+    given-again (deriveAt (start .args .var)) _ _ (start .args .term) (start .pre .1) (c .if1 .taken))
     (λ c κs.
-    let start = c .before .before .before .before .before in
+    let start = c .before .before .before .before .before .before in
     (omega (arith, start .pre .0), start .pre .1))
     (λ c. c .match .keys1)
     (λ c. c .match .keys2)
+    (λ c. search needs)
     (λ c.
-    let call = c .before .before in
+    let call = c .before .before .before .before in
     let test = call .before .before .before .before in
-    let start = test .before .before in
-    visited (deriveAt (start .args .var)) _ _ (start .args .term) (test .if1 .left)
+    let start = test .before .before .before in
+    visited (deriveAt (start .args .var)) _ _ (start .args .term) (start .pre .1) (test .if1 .left)
     (stopped (call .walk-node .last .0) (call .walk-node .last .1 .0) (resultsOf (call .walk-node .last .1 .1 .0)) _ _ _ _ (c .enum-told .given .1) (call .walk-node .ensures)))
     (λ c. omega arith)
     (λ c. omega arith)
     (λ c. omega arith)
-    (λ c. omega arith)
     (λ c.
-    let call = c .before .before .before in
+    let after = c .before .before .before .before in
+    let start = after .before .before .before .before .before .before .before .before in
+    omega (arith, start .pre .1, after .kept .given))
+    (λ c. search needs)
+    (λ c.
+    let after = c .before .before .before .before in
+    let call = after .before in
     let test = call .before .before .before .before in
-    let start = test .before .before in
-    visited (deriveAt (start .args .var)) _ _ (start .args .term) (test .if1 .left)
+    let start = test .before .before .before in
+    visited (deriveAt (start .args .var)) _ _ (start .args .term) (start .pre .1) (test .if1 .left)
     (onward (call .walk-node .last .0) (call .walk-node .last .1 .0) (resultsOf (call .walk-node .last .1 .1 .0)) _ (c .before .visited .given .1) (call .walk-node .ensures)
-    (kept-now _ _ _ (omega arith)))))
+    (kept-now _ _ _ (omega (arith, start .pre .1, after .kept .given)) (omega arith)))))
     (λ t. walk-node-lts.spec (
       node-at-reads.Asked,
       node-at-reads.Learnt,
-      slope-reads.Asked,
-      slope-reads.Learnt,
+      work-of-reads.Asked,
+      work-of-reads.Learnt,
       lit-rule-reads.Asked,
       lit-rule-reads.Learnt,
-      lower walk-two-kinds.ps μ-walk-two walk-two.Pre t,
-      walk-two.Post,
       lower walk-one-kinds.ps μ-walk-one walk-one.Pre t,
       walk-one.Post,
+      lower walk-two-kinds.ps μ-walk-two walk-two.Pre t,
+      walk-two.Post,
     )
     (here walk-node-kinds.ps μ-walk-node walk-node.Pre t)
     walk-node.Post
     (λ c κs. tt)
+    (λ c κs. tt)
     (λ c. c .match .keys1)
     (λ c. c .match .keys2)
     (λ c κs. tt)
-    (λ c κs. tt)
     (λ c. c .match .keys3)
-    (λ c κs. tt)
+    (λ c κs.
+    let start = c .before .before .before .before .before .before .before .before .before .before .before in
+    (omega (arith, start .pre .0), start .pre .1))
     (λ c. c .match .keys4)
     (λ c κs.
-    let start = c .before .before .before .before .before .before .before .before .before in
+    let start = c .before .before .before .before .before .before .before .before .before .before .before in
     (omega (arith, start .pre .0), start .pre .1))
-    (λ c. c .match .keys5)
-    (λ c κs.
-    let start = c .before .before .before .before .before .before .before .before .before in
-    (omega (arith, start .pre .0), start .pre .1))
-    (λ c. c .match .keys6)
-    (λ c κs.
-    let start = c .before .before .before .before .before .before .before .before .before in
-    (omega (arith, start .pre .0), start .pre .1))
-    (λ c. c .match .keys7)
-    (λ c κs.
-    let start = c .before .before .before .before .before .before .before .before .before in
-    (omega (arith, start .pre .0), start .pre .1))
-    (λ c. c .match .keys8)
-    (λ c κs.
-    let start = c .before .before .before .before .before .before .before .before .before in
-    (omega (arith, start .pre .0), start .pre .1))
-    (λ c. c .match .keys9)
-    (λ c κs.
-    let start = c .before .before .before .before .before .before .before .before .before in
-    (omega (arith, start .pre .0), start .pre .1))
-    (λ c. c .match .keys10)
     (λ c.
-    let start = c .before .before .before .before .before in
-    by-kind (deriveNode (start .args .var)) _ _ _ (c .before .before .node-at .ensures) (c .enum-told .given .1) refl)
+    let known = c .before in
+    let asked = known .before .before in
+    let read = asked .before in
+    let start = read .before .before .before .before in
+    by-work (deriveNode (start .args .var)) deriveWork _ _ _ (read .node-at .ensures) (asked .work-of .ensures _ _) (known .work .given .1) refl)
     (λ c.
-    let found = c .before .before .before .before .before in
-    let read = found .before .before in
-    let start = read .before .before .before in
-    by-kind (deriveNode (start .args .var)) _ _ _ (read .node-at .ensures) (found .node .given .1)
-    (of-number _ (toZ-ofZ w64 (c .before .slope .result) (record { sfits = c .before .slope .ok }) ∙ c .before .slope .ensures) (c .lit-rule .ensures _)))
+    let known = c .before .before .before .before in
+    let asked = known .before .before in
+    let read = asked .before in
+    let start = read .before .before .before .before in
+    by-work (deriveNode (start .args .var)) deriveWork _ _ _ (read .node-at .ensures) (asked .work-of .ensures _ _) (known .work2 .given .1)
+    (of-number _ (toZ-ofZ w64 (known .work2 .given .0 .0) (record { sfits = c .before .before .before .known-told2 .given .0 .1 })) (c .lit-rule .ensures _)))
+    (λ c. search needs)
     (λ c.
-    let told = c .before .before .before in
-    let read = told .before .before in
-    let start = read .before .before .before in
-    by-kind (deriveNode (start .args .var)) _ _ _ (read .node-at .ensures) (told .enum-told2 .given .1) (c .lit-rule2 .ensures _))
+    let known = c .before .before .before .before .before .before .before in
+    let asked = known .before .before in
+    let read = asked .before in
+    let start = read .before .before .before .before in
+    by-work (deriveNode (start .args .var)) deriveWork _ _ _ (read .node-at .ensures) (asked .work-of .ensures _ _) (known .work3 .given .1) (c .before .before .walk-one .ensures))
+    (λ c. search needs)
     (λ c.
-    let found = c .before .before .before .before .before in
-    let read = found .before .before in
-    let start = read .before .before .before in
-    by-kind (deriveNode (start .args .var)) _ _ _ (read .node-at .ensures) (found .node2 .given .1) (c .walk-two .ensures))
-    (λ c.
-    let found = c .before .before .before .before .before in
-    let read = found .before .before in
-    let start = read .before .before .before in
-    by-kind (deriveNode (start .args .var)) _ _ _ (read .node-at .ensures) (found .node3 .given .1) (c .walk-two2 .ensures))
-    (λ c.
-    let found = c .before .before .before .before .before in
-    let read = found .before .before in
-    let start = read .before .before .before in
-    by-kind (deriveNode (start .args .var)) _ _ _ (read .node-at .ensures) (found .node4 .given .1) (c .walk-two3 .ensures))
-    (λ c.
-    let found = c .before .before .before .before .before in
-    let read = found .before .before in
-    let start = read .before .before .before in
-    by-kind (deriveNode (start .args .var)) _ _ _ (read .node-at .ensures) (found .node5 .given .1) (c .walk-one .ensures))
-    (λ c.
-    let found = c .before .before .before .before .before in
-    let read = found .before .before in
-    let start = read .before .before .before in
-    by-kind (deriveNode (start .args .var)) _ _ _ (read .node-at .ensures) (found .node6 .given .1) (c .walk-one2 .ensures))
-    (λ c.
-    let found = c .before .before .before .before .before in
-    let read = found .before .before in
-    let start = read .before .before .before in
-    by-kind (deriveNode (start .args .var)) _ _ _ (read .node-at .ensures) (found .node7 .given .1) (c .walk-one3 .ensures))
-    (λ c.
-    let start = c .before .before .before .before .before in
-    by-kind (deriveNode (start .args .var)) _ _ _ (c .before .before .node-at .ensures) (c .enum-told3 .given .1) refl))
+    let known = c .before .before .before .before .before .before .before in
+    let asked = known .before .before in
+    let read = asked .before in
+    let start = read .before .before .before .before in
+    by-work (deriveNode (start .args .var)) deriveWork _ _ _ (read .node-at .ensures) (asked .work-of .ensures _ _) (known .work4 .given .1) (c .before .before .walk-two .ensures)))
     (λ t. walk-one-lts.spec (
       lower walk-part-kinds.ps μ-walk-part walk-part.Pre t,
       walk-part.Post,
@@ -203,17 +172,19 @@ pub +walk-at+walk-node+walk-one+walk-part+walk-two-spec : {M : Type 1} → state
     (here walk-one-kinds.ps μ-walk-one walk-one.Pre t)
     walk-one.Post
     (λ c κs.
-    let start = c .before .before .before in
+    let start = c .before .before .before .before in
     (omega (arith, start .pre .0), start .pre .1))
     (λ c. c .match .keys1)
     (λ c. c .match .keys2)
+    (λ c. search needs)
     (λ c.
-    let call = c .before .before in
+    let call = c .before .before .before .before in
     stopped (call .walk-part .last .0) (call .walk-part .last .1 .0) (resultsOf (call .walk-part .last .1 .1 .0)) _ _ _ _ (c .enum-told .given .1) (call .walk-part .ensures))
     (λ c κs. tt)
+    (λ c. search needs)
     (λ c.
     let came = c .before .before .before .before in
-    let call = came .before .before in
+    let call = came .before .before .before .before in
     onward (call .walk-part .last .0) (call .walk-part .last .1 .0) (resultsOf (call .walk-part .last .1 .1 .0)) _ (came .part .given .1) (call .walk-part .ensures)
     (c .rule-one .ensures _)))
     (λ t. walk-part-lts.spec
@@ -222,43 +193,50 @@ pub +walk-at+walk-node+walk-one+walk-part+walk-two-spec : {M : Type 1} → state
     walk-part.Post
     (λ c κs.
     let test = c .before .before .before in
-    let start = test .before in
+    let start = test .before .before in
     (omega (arith, start .pre .0, test .if1 .taken), omega (arith, start .pre .1, test .if1 .taken)))
+    (λ c. search needs)
     (λ c.
-    let test = c .before .before .before .before in
-    let start = test .before in
-    (c .walk-at .ensures) ∙ below (deriveAt (start .args .var)) _ (start .args .term) (start .args .a) (test .if1 .taken))
-    (λ c. above (deriveAt (c .before .args .var)) _ (c .before .args .term) (c .before .args .a) (c .if1 .left)))
+    let call = c .before .before in
+    let test = call .before .before .before .before in
+    let start = test .before .before in
+    (call .walk-at .ensures) ∙ below (deriveAt (start .args .var)) _ (start .args .term) (start .args .a) (test .if1 .taken))
+    (λ c.
+    let start = c .before .before in
+    above (deriveAt (start .args .var)) _ (start .args .term) (start .args .a) (c .if1 .left)))
     λ t. walk-two-lts.spec
     (lower walk-part-kinds.ps μ-walk-part walk-part.Pre t, walk-part.Post, rule-two-reads.Asked, rule-two-reads.Learnt)
     (here walk-two-kinds.ps μ-walk-two walk-two.Pre t)
     walk-two.Post
     (λ c κs.
-    let start = c .before .before .before in
+    let start = c .before .before .before .before in
     (omega (arith, start .pre .0), start .pre .1))
     (λ c. c .match .keys1)
     (λ c. c .match .keys2)
+    (λ c. search needs)
     (λ c.
-    let call = c .before .before in
+    let call = c .before .before .before .before in
     stopped (call .walk-part .last .0) (call .walk-part .last .1 .0) (resultsOf (call .walk-part .last .1 .1 .0)) _ _ _ _ (c .enum-told .given .1) (call .walk-part .ensures))
     (λ c κs.
-    let earlier = c .before .before .before .before .before in
-    let start = earlier .before .before .before .before .before in
-    (omega (arith, start .pre .0), start .pre .1))
+    let after = c .before .before .before .before .before .before .before in
+    let start = after .before .before .before .before .before .before in
+    (omega (arith, start .pre .0), omega (arith, start .pre .1, after .kept .given)))
     (λ c. c .match2 .keys1)
     (λ c. c .match2 .keys2)
+    (λ c. search needs)
     (λ c.
-    let second = c .before .before in
+    let second = c .before .before .before .before in
     let came = second .before .before .before .before .before in
-    let call = came .before .before in
+    let call = came .before .before .before .before in
     onward (call .walk-part .last .0) (call .walk-part .last .1 .0) (resultsOf (call .walk-part .last .1 .1 .0)) _ (came .left .given .1) (call .walk-part .ensures)
     (stopped (second .walk-part2 .last .0) (second .walk-part2 .last .1 .0) (resultsOf (second .walk-part2 .last .1 .1 .0)) _ _ _ _ (c .enum-told2 .given .1) (second .walk-part2 .ensures)))
     (λ c κs. tt)
+    (λ c. search needs)
     (λ c.
     let last = c .before .before .before .before in
-    let second = last .before .before in
+    let second = last .before .before .before .before in
     let came = second .before .before .before .before .before in
-    let call = came .before .before in
+    let call = came .before .before .before .before in
     onward (call .walk-part .last .0) (call .walk-part .last .1 .0) (resultsOf (call .walk-part .last .1 .1 .0)) _ (came .left .given .1) (call .walk-part .ensures)
     (onward (second .walk-part2 .last .0) (second .walk-part2 .last .1 .0) (resultsOf (second .walk-part2 .last .1 .1 .0)) _ (last .right .given .1) (second .walk-part2 .ensures)
     (c .rule-two .ensures _)))

@@ -1,8 +1,8 @@
 -- `put_for` puts the value for the variable, and leaves every other.
 -- Assumes nothing.
 use borrow.Author.Tests.{eq-eqb, ne-eqb}
-use Rattle.substitute.proofs.walk.put_for.Statement.{statement}
-use Rattle.substitute.proofs.walk.put_for.Tie as tie
+use Rattle.substitute.proofs.work.put_for.Statement.{statement}
+use Rattle.substitute.proofs.work.put_for.Tie as tie
 
 returns : tie.Need-returns
 returns c = rw (eq-eqb (c .before .args .v) (c .before .args .var) (c .if1 .taken))
