@@ -8,11 +8,19 @@ use borrow.Author.Tests.{lt-ltb, le-ltb}
 use Rattle.low_bytes.proofs.Writing.{three-written, none-written, written-as}
 use Rattle.low_bytes.specs.Output.{Wrote, pastLongest}
 use Rattle.pool.specs.declared.node.Node.{Node}
+use Rattle.pool.specs.Pool.{nodeIn}
+use Rattle.pool.specs.WordHalves.{leftIn, rightIn}
+use Rattle.pool.proofs.WordHalves.{withHalves, by-halves}
 use Rattle.walks.specs.Print.{precedence, nodeText, textBelow, textOf, opening, closing}
 use Rattle.print.proofs.Bounded.{text-is, text-below, no-text-above}
 
 pub for-node : (down : ℕ → ℕ → List ℕ) {at to : ℕ} {l l′ : List ℕ} {n m : Node} → n ≡ m → Wrote at l (nodeText down m) to l′ → Wrote at l (nodeText down n) to l′
 for-node down e w = rw e w
+
+-- n is the node that was read, and low and high are the halves of its word
+pub read-by-halves : (ks ws : List ℕ) (i : ℕ) {n m : Node} {low high : ℕ} → n ≡ nodeIn ks ws i → n ≡ m → low ≡ leftIn ws i → high ≡ rightIn ws i
+    → nodeIn ks ws i ≡ withHalves low high m
+read-by-halves ks ws i read is l h = rw (l, h, ← is, read) (sym (by-halves ks ws i))
 
 module _ (node : ℕ → Node) (k parent a : ℕ) where
   pub not-smaller : {at : ℕ} {l : List ℕ} → k ≤ a → at ≤ pastLongest → Wrote at l (textBelow node k parent a) at l

@@ -1,3 +1,4 @@
+pub mod ShortNumbers
 pub mod Writing
 pub mod Bounded
 pub mod Fmt

@@ -17,7 +17,22 @@ fn write_text(out: &mut [u8], at: usize, text: Text) -> usize
     write(out, at, &bytes[start..])
 }
 
-// The three kinds of short text. Most variables are a letter, which takes no text of its own.
+// The digits of a number. One or two, as most numbers have, are put byte by byte: they take no text of their own.
+fn write_decimal(out: &mut [u8], at: usize, n: u64) -> usize
+    requires { ⌜ at ≤ pastLongest ⌝ }
+    ensures { λ r. ⌜ Wrote at (now (out .entry)) (decimal n) r (now (out .exit)) ⌝ }
+{
+    if n < 10 {
+        return put(out, at, (48 + n) as u8);
+    }
+    if n < 100 {
+        let tens = put(out, at, (48 + n / 10) as u8);
+        return put(out, tens, (48 + n % 10) as u8);
+    }
+    write_text(out, at, text::decimal_text(n))
+}
+
+// A variable's name. Most variables are a letter, which takes no text of its own.
 pub fn write_variable(out: &mut [u8], at: usize, v: u32) -> usize
     requires { ⌜ at ≤ pastLongest ⌝ }
     ensures { λ r. ⌜ Wrote at (now (out .entry)) (display v) r (now (out .exit)) ⌝ }
@@ -29,16 +44,22 @@ pub fn write_variable(out: &mut [u8], at: usize, v: u32) -> usize
     write_text(out, at, text::variable_text(number))
 }
 
+// A literal: its sign where it is below 0, and its size.
 pub fn write_literal(out: &mut [u8], at: usize, z: i64) -> usize
     requires { ⌜ at ≤ pastLongest ⌝ }
     ensures { λ r. ⌜ Wrote at (now (out .entry)) (signedDecimal z) r (now (out .exit)) ⌝ }
 {
-    write_text(out, at, text::signed_text(z))
+    if z < 0 {
+        let signed = put(out, at, b'-');
+        return write_decimal(out, signed, literal::size(z));
+    }
+    write_decimal(out, at, literal::size(z))
 }
 
+// The exponent of a power.
 pub fn write_exponent(out: &mut [u8], at: usize, e: u32) -> usize
     requires { ⌜ at ≤ pastLongest ⌝ }
     ensures { λ r. ⌜ Wrote at (now (out .entry)) (decimal e) r (now (out .exit)) ⌝ }
 {
-    write_text(out, at, text::decimal_text(e as u64))
+    write_decimal(out, at, e as u64)
 }

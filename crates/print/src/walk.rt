@@ -15,12 +15,6 @@ use low_bytes::write;
 use pool::LIMIT;
 use pool::Node;
 
-// A part of a node, and the precedence that it stands under.
-struct Part {
-    of: u32,
-    under: u32,
-}
-
 // `precedence` of src/symbolic.rs.
 fn precedence(node: Node) -> u32
     ensures { λ r. ⌜ r ≡ precedence node ⌝ }
@@ -39,34 +33,37 @@ fn precedence(node: Node) -> u32
     }
 }
 
-// A part whose number is below the bound, in brackets where its precedence is less than the one it stands under. Any other part prints nothing.
+// A part whose number is below the bound, in brackets where its precedence is less than the one it stands under. Any other part prints nothing. The two are
+// numbers of their own: a struct of two numbers is handed on through memory, stored one by one and then read as one, and takes a processor longer.
 fn node_fmt(
     kinds: &[u8; LIMIT],
     words: &[u64; LIMIT],
     out: &mut [u8],
     at: usize,
     bound: usize,
-    p: Part,
+    of: u32,
+    under: u32,
 ) -> usize
     requires { ⌜ at ≤ pastLongest ⌝ }
-    ensures { λ r. ⌜ Wrote at (now (out .entry)) (textBelow (nodeIn (now (kinds .entry)) (now (words .entry))) bound (p .under) (p .of)) r (now (out .exit)) ⌝ }
+    ensures { λ r. ⌜ Wrote at (now (out .entry)) (textBelow (nodeIn (now (kinds .entry)) (now (words .entry))) bound under of) r (now (out .exit)) ⌝ }
 {
-    let i = p.of as usize;
+    let i = of as usize;
     if bound <= i {
         return at;
     }
     if TEXT_MAX < at {
         return at;
     }
-    if precedence(pool::node_at(kinds, words, p.of)) < p.under {
+    if precedence(pool::node_at(kinds, words, of)) < under {
         let opened = put(out, at, b'(');
-        let inner = inside(kinds, words, out, opened, i, p.of);
+        let inner = inside(kinds, words, out, opened, i, of);
         return put(out, inner, b')');
     }
-    inside(kinds, words, out, at, i, p.of)
+    inside(kinds, words, out, at, i, of)
 }
 
-// A node without the brackets around it; its parts are below its own number. It is looked up where it is matched: a node that is handed on takes longer.
+// A node without the brackets around it; its parts are below its own number. It is looked up where it is matched: a node that is handed on takes longer. The
+// numbers of a node that has two are read from its word: a node made by value is stored in pieces and read back whole, which a processor waits for.
 fn inside(
     kinds: &[u8; LIMIT],
     words: &[u64; LIMIT],
@@ -78,64 +75,41 @@ fn inside(
     requires { ⌜ at ≤ pastLongest ⌝ }
     ensures { λ r. ⌜ Wrote at (now (out .entry)) (nodeText (textBelow (nodeIn (now (kinds .entry)) (now (words .entry))) i) (nodeIn (now (kinds .entry)) (now (words .entry)) of)) r (now (out .exit)) ⌝ }
 {
+    let left = pool::left_at(words, of);
+    let right = pool::right_at(words, of);
     match pool::node_at(kinds, words, of) {
         Node::Empty => at,
         Node::Variable(v) => write_variable(out, at, v),
         Node::Lit(z) => write_literal(out, at, z),
-        Node::Add(a, b) => joined(
-            kinds,
-            words,
-            out,
-            at,
-            i,
-            Part { of: a, under: 0 },
-            b" + ",
-            Part { of: b, under: 0 },
-        ),
-        Node::Mul(a, b) => joined(
-            kinds,
-            words,
-            out,
-            at,
-            i,
-            Part { of: a, under: 1 },
-            b"*",
-            Part { of: b, under: 1 },
-        ),
-        Node::Div(a, b) => joined(
-            kinds,
-            words,
-            out,
-            at,
-            i,
-            Part { of: a, under: 1 },
-            b"/",
-            Part { of: b, under: 2 },
-        ),
+        Node::Add(_, _) => joined(kinds, words, out, at, i, left, 0, b" + ", right, 0),
+        Node::Mul(_, _) => joined(kinds, words, out, at, i, left, 1, b"*", right, 1),
+        Node::Div(_, _) => joined(kinds, words, out, at, i, left, 1, b"/", right, 2),
         Node::Exp(a) => wrapped(kinds, words, out, at, i, b"exp(", a),
         Node::Log(a) => wrapped(kinds, words, out, at, i, b"log(", a),
-        Node::Pow(a, e) => power(kinds, words, out, at, i, a, e),
+        Node::Pow(_, _) => power(kinds, words, out, at, i, left, right),
         Node::Max(_, _) => at,
     }
 }
 
-// Two parts and the sign between them.
+// Two parts, the left one under the precedence `first` and the right one under `second`, and the sign between them.
 fn joined(
     kinds: &[u8; LIMIT],
     words: &[u64; LIMIT],
     out: &mut [u8],
     at: usize,
     i: usize,
-    left: Part,
+    left: u32,
+    first: u32,
     sign: &[u8],
-    right: Part,
+    right: u32,
+    second: u32,
 ) -> usize
     requires { ⌜ at ≤ pastLongest ⌝ }
-    ensures { λ r. ⌜ Wrote at (now (out .entry)) (textBelow (nodeIn (now (kinds .entry)) (now (words .entry))) i (left .under) (left .of) ++ now (sign .entry) ++ textBelow (nodeIn (now (kinds .entry)) (now (words .entry))) i (right .under) (right .of)) r (now (out .exit)) ⌝ }
+    ensures { λ r. ⌜ Wrote at (now (out .entry)) (textBelow (nodeIn (now (kinds .entry)) (now (words .entry))) i first left ++ now (sign .entry) ++ textBelow (nodeIn (now (kinds .entry)) (now (words .entry))) i second right) r (now (out .exit)) ⌝ }
 {
-    let before = node_fmt(kinds, words, out, at, i, left);
+    let before = node_fmt(kinds, words, out, at, i, left, first);
     let after = write(out, before, sign);
-    node_fmt(kinds, words, out, after, i, right)
+    node_fmt(kinds, words, out, after, i, right, second)
 }
 
 // One part between an opening and its closing bracket.
@@ -152,7 +126,7 @@ fn wrapped(
     ensures { λ r. ⌜ Wrote at (now (out .entry)) (now (opening .entry) ++ textBelow (nodeIn (now (kinds .entry)) (now (words .entry))) i 0 a ++ closing) r (now (out .exit)) ⌝ }
 {
     let opened = write(out, at, opening);
-    let inner = node_fmt(kinds, words, out, opened, i, Part { of: a, under: 0 });
+    let inner = node_fmt(kinds, words, out, opened, i, a, 0);
     put(out, inner, b')')
 }
 
@@ -169,7 +143,7 @@ fn power(
     requires { ⌜ at ≤ pastLongest ⌝ }
     ensures { λ r. ⌜ Wrote at (now (out .entry)) (textBelow (nodeIn (now (kinds .entry)) (now (words .entry))) i 3 a ++ hat ++ decimal e) r (now (out .exit)) ⌝ }
 {
-    let base = node_fmt(kinds, words, out, at, i, Part { of: a, under: 3 });
+    let base = node_fmt(kinds, words, out, at, i, a, 3);
     let hat = put(out, base, b'^');
     write_exponent(out, hat, e)
 }
@@ -178,12 +152,5 @@ fn power(
 pub fn text_in(kinds: &[u8; LIMIT], words: &[u64; LIMIT], root: u32, out: &mut [u8]) -> usize
     ensures { λ r. ⌜ Wrote 0 (now (out .entry)) (textOf (nodeIn (now (kinds .entry)) (now (words .entry))) root) r (now (out .exit)) ⌝ }
 {
-    node_fmt(
-        kinds,
-        words,
-        out,
-        0,
-        root as usize + 1,
-        Part { of: root, under: 0 },
-    )
+    node_fmt(kinds, words, out, 0, root as usize + 1, root, 0)
 }

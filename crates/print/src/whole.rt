@@ -10,8 +10,13 @@ use crate::walk::text_in;
 use low_bytes::TEXT_MAX;
 use pool::LIMIT;
 
-// How many bytes of a text are kept while its length is found. It decides nothing but the time that printing takes.
+// How many bytes of a text are kept while its length is found, and how many below a small root. They decide nothing but the time that printing takes: a
+// scratch is cleared at every call.
 const SCRATCH: usize = 16_384;
+
+const SMALL_SCRATCH: usize = 4_096;
+
+const SMALL_ROOT: u32 = 256;
 
 // The length of the text, or one past the most that a text has.
 pub fn text_length(kinds: &[u8; LIMIT], words: &[u64; LIMIT], root: u32) -> u32
@@ -51,6 +56,10 @@ fn print_by(
 pub fn print_into(kinds: &[u8; LIMIT], words: &[u64; LIMIT], root: u32, out: &mut [u8]) -> u32
     ensures { λ r. ⌜ Printed (textOf (nodeIn (now (kinds .entry)) (now (words .entry))) root) (now (out .entry)) r (now (out .exit)) ⌝ }
 {
+    if root < SMALL_ROOT {
+        let mut small = [0u8; SMALL_SCRATCH];
+        return print_by(kinds, words, root, &mut small, out);
+    }
     let mut scratch = [0u8; SCRATCH];
     print_by(kinds, words, root, &mut scratch, out)
 }
