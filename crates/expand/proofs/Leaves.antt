@@ -1,13 +1,13 @@
--- The point at which a variable is expanded, as the code has it.
+-- The point at which a variable is expanded, as the code's words have it.
 -- Assumes nothing.
-use mathlib.Core.Path.{_≡_, sym, ap, _∙_}
-use Prim.Native.Nat.{ℕ}
-use Rattle.pool.specs.Pool.{Pool}
-use Rattle.taylor.specs.Work.{Result}
-use Rattle.taylor.specs.Expand.{pointNode}
-use Rattle.expand.specs.Points.{pointOf}
-use Rattle.expand.specs.declared.point.Point.{Point}
+use mathlib.Core.Path.{_≡_, refl}
+use mathlib.Core.Logic.{_≢_}
+use Prim.Native.Nat.{ℕ, zero, suc}
+use Rattle.literal.specs.Literal.{signed}
+use Rattle.taylor.specs.Expand.{point}
+use Rattle.expand.specs.Asked.{pointIn}
 
--- the node of the point that was given
-pub at-point : (v : ℕ) (P : Pool) {q p : Point} {o : Result ℕ} → q ≡ p → o ≡ pointNode v (pointOf p) P → o ≡ pointNode v (pointOf q) P
-at-point v P e h = h ∙ sym (ap (λ (q : Point). pointNode v (pointOf q) P) e)
+-- a word that is not 0 says that there is one
+pub point-there : (m w : ℕ) → m ≢ 0 → pointIn m w ≡ point (signed w)
+point-there zero w h = absurd (h refl)
+point-there (suc m) w h = refl

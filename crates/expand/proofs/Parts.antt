@@ -12,17 +12,11 @@ use Rattle.taylor.specs.Work.{Work}
 use Rattle.taylor.specs.Expansion.{Expansion, addTo, times, quotient, exponential, logarithm, power}
 use Rattle.taylor.specs.Expand.{State, Went, Walk, bind, lifted, lift, Point, ofVariable, expandNode}
 use Rattle.expand.specs.Points.{leafWork}
-use Rattle.expand.specs.Nodes.{visits, Visited, nodeWork}
-use Rattle.expand.specs.declared.node.Parts.{Parts}
-use Rattle.expand.specs.declared.node.Parts.the-variants.{None, One, Two}
+use Rattle.expand.specs.Nodes.{Parts, no-part, one-part, two-parts, visits, Visited, nodeWork}
 
 -- the parts of the node that was found are kept
-pub parts-kept : (marks : List ℕ) {node n : Node} → node ≡ n → Visited marks (visits node) → Visited marks (visits n)
-parts-kept marks e h = subst (λ (m : Node). Visited marks (visits m)) e h
-
--- where no part is visited, none need be kept
-pub none-visited : (marks : List ℕ) (node : Node) → visits node ≡ None → Visited marks (visits node)
-none-visited marks node e = rw e tt
+pub parts-kept : (marks : List ℕ) (rows : List (List ℕ)) {node n : Node} → node ≡ n → Visited marks rows (visits node) → Visited marks rows (visits n)
+parts-kept marks rows e h = subst (λ (m : Node). Visited marks rows (visits m)) e h
 
 module _ (v : ℕ) (x : Point) (order term : ℕ) where
   -- no part is walked
@@ -42,9 +36,9 @@ module _ (v : ℕ) (x : Point) (order term : ℕ) where
     pub works : (part : ℕ → Expansion) (P : Pool) → nodeWork v x order part term node P ≡ next (part a) (part b) P
 
   abbrev Step : Node → Parts → Type 0
-  Step node None = NoPart node
-  Step node (One a) = OnePart node a
-  Step node (Two a b) = TwoParts node a b
+  Step node no-part = NoPart node
+  Step node (one-part a) = OnePart node a
+  Step node (two-parts a b) = TwoParts node a b
 
   step : (node : Node) → Step node (visits node)
   step Empty = record { walks = λ down part S. refl }
@@ -63,10 +57,10 @@ module _ (v : ℕ) (x : Point) (order term : ℕ) where
   step (Max a b) = record { walks = λ down part S. refl }
 
   module _ (node : Node) (down : ℕ → Walk) (S : State) where
-    pub none-made : (part : ℕ → Expansion) → visits node ≡ None → lift (nodeWork v x order part term node) S ≡ expandNode v x order down term node S
+    pub none-made : (part : ℕ → Expansion) → visits node ≡ no-part → lift (nodeWork v x order part term node) S ≡ expandNode v x order down term node S
     none-made part e = (subst (Step node) e (step node)) .walks down part S
 
-    module _ {a : ℕ} (e : visits node ≡ One a) where
+    module _ {a : ℕ} (e : visits node ≡ one-part a) where
       the-one : OnePart node a
       the-one = subst (Step node) e (step node)
 
@@ -78,7 +72,7 @@ module _ (v : ℕ) (x : Point) (order term : ℕ) where
           ap (lifted (T .results)) (the-one .works part (T .pool))
           ∙ sym (the-one .walks down S ∙ ap (λ (w : Went). bind w (λ s. lift (the-one .next s))) h)
 
-    module _ {a b : ℕ} (e : visits node ≡ Two a b) where
+    module _ {a b : ℕ} (e : visits node ≡ two-parts a b) where
       the-two : TwoParts node a b
       the-two = subst (Step node) e (step node)
 

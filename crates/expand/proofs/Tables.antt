@@ -1,4 +1,4 @@
--- The code's two tables of kept expansions, read and written: they stand for the kept results entry by entry.
+-- The code's two tables of kept expansions, read and written: they stand for the kept results entry by entry, and for nothing past their end.
 -- Assumes nothing.
 use mathlib.Core.Bool.{Bool, true, false}
 use mathlib.Core.Path.{_≡_, refl, sym, ap, _∙_}
@@ -6,81 +6,95 @@ use mathlib.Core.Logic.{_≢_}
 use mathlib.Core.List.{List, [], _∷_}
 use Prim.Native.Nat.{ℕ, zero, suc, _≤_, _<_}
 use native.Mathlib.Omega.{arith}
-use lib.ListN.{length, getD, set, replicate, length-set, length-replicate}
+use lib.ListN.{length, drop, getD, set, replicate, length-set, length-replicate}
 use lib.Seq.{getD-set-same}
 use borrow.Author.Tests.{le-leb, lt-leb}
 use Rattle.pool.specs.Pool.{limit}
 use Rattle.taylor.specs.Work.{at}
 use Rattle.taylor.specs.Expansion.{Expansion}
 use Rattle.taylor.specs.Expand.{Kept, nothing, kept}
-use Rattle.taylor_base.specs.Answers.{expansionOf, Given}
+use Rattle.taylor_base.specs.Answers.{terms, expansionOf, Given}
 use Rattle.taylor_base.specs.declared.answer.Expansion as coded
-use Rattle.expand.specs.Tables.{constantMark, rowOf, keptOf, resultsOf, expansionAt, markOf, Sized, Loaded, Stored}
-
-uneven : (n : ℕ) → suc n ≡ 0 → ⊥
-uneven n h = omega arith
-
-less : (a b : ℕ) → suc a ≡ suc b → a ≡ b
-less a b h = omega arith
+use Rattle.expand.specs.Tables.{constantMark, rowOf, keptOf, keptFor, resultsOf, expansionAt, markOf, Sized, Loaded, Stored, Ready}
 
 -- a mark that is not 0 is that of an expansion
 kept-if-marked : (m : ℕ) (row : List ℕ) → m ≢ 0 → keptOf m row ≡ kept (rowOf m row)
 kept-if-marked zero row h = absurd (h refl)
 kept-if-marked (suc m) row h = refl
 
-results-read : (marks : List ℕ) (rows : List (List ℕ)) (i : ℕ) → length marks ≡ length rows → getD (resultsOf marks rows) i nothing ≡ keptOf (getD marks i 0) (getD rows i [])
-unfolding resultsOf
-results-read [] rows i h = refl
-results-read (m ∷ marks) [] i h = absurd (uneven (length marks) h)
-results-read (m ∷ marks) (row ∷ rows) zero h = refl
-results-read (m ∷ marks) (row ∷ rows) (suc i) h = results-read marks rows i (less (length marks) (length rows) h)
+no-place : (i : ℕ) → i < 0 → ⊥
+no-place i l = omega arith
 
-results-written : (marks : List ℕ) (rows : List (List ℕ)) (i m : ℕ) (row : List ℕ) → resultsOf (set marks i m) (set rows i row) ≡ set (resultsOf marks rows) i (keptOf m row)
-unfolding resultsOf
-results-written [] rows i m row = refl
-results-written (n ∷ marks) [] zero m row = refl
-results-written (n ∷ marks) [] (suc i) m row = refl
-results-written (n ∷ marks) (other ∷ rows) zero m row = refl
-results-written (n ∷ marks) (other ∷ rows) (suc i) m row = ap (λ (l : List Kept). keptOf n other ∷ l) (results-written marks rows i m row)
+less : (i n : ℕ) → suc i < suc n → i < n
+less i n l = omega arith
 
-results-long : (marks : List ℕ) (rows : List (List ℕ)) → length marks ≡ length rows → length (resultsOf marks rows) ≡ length marks
-unfolding resultsOf
-results-long [] rows h = refl
-results-long (m ∷ marks) [] h = absurd (uneven (length marks) h)
-results-long (m ∷ marks) (row ∷ rows) h = ap suc (results-long marks rows (less (length marks) (length rows) h))
+of-the-rest : {A : Type 0} (s : List A) (i : ℕ) (d : A) → getD (drop 1 s) i d ≡ getD s (suc i) d
+of-the-rest [] i d = refl
+of-the-rest (x ∷ s) i d = refl
 
--- at first nothing is kept
-pub none-kept : (n : ℕ) (row : List ℕ) → resultsOf (replicate n 0) (replicate n row) ≡ replicate n nothing
-unfolding resultsOf
-none-kept zero row = refl
-none-kept (suc n) row = ap (λ (l : List Kept). nothing ∷ l) (none-kept n row)
+kept-read : (n : ℕ) (marks : List ℕ) (rows : List (List ℕ)) (i : ℕ) → i < n → getD (keptFor n marks rows) i nothing ≡ keptOf (getD marks i 0) (getD rows i [])
+unfolding keptFor
+kept-read zero marks rows i l = absurd (no-place i l)
+kept-read (suc n) marks rows zero l = refl
+kept-read (suc n) marks rows (suc i) l =
+    rw (← of-the-rest marks i 0, ← of-the-rest rows i []) (kept-read n (drop 1 marks) (drop 1 rows) i (less i n l))
 
-pub blank-sized : (row : List ℕ) → Sized (replicate limit 0) (replicate limit row)
-blank-sized row = record { marks-long = length-replicate {A = ℕ} limit 0; rows-long = length-replicate {A = List ℕ} limit row }
+kept-written : (n : ℕ) (marks : List ℕ) (rows : List (List ℕ)) (i m : ℕ) (row : List ℕ) → i < length marks → i < length rows → keptFor n (set marks i m) (set rows i row) ≡ set (keptFor n marks rows) i (keptOf m row)
+unfolding keptFor
+kept-written zero marks rows i m row l k = refl
+kept-written (suc n) [] rows i m row l k = absurd (no-place i l)
+kept-written (suc n) (x ∷ marks) [] i m row l k = absurd (no-place i k)
+kept-written (suc n) (x ∷ marks) (y ∷ rows) zero m row l k = refl
+kept-written (suc n) (x ∷ marks) (y ∷ rows) (suc i) m row l k =
+    ap (λ (s : List Kept). keptOf x y ∷ s) (kept-written n marks rows i m row (less i (length marks) l) (less i (length rows) k))
 
-module _ {marks : List ℕ} {rows : List (List ℕ)} (sized : Sized marks rows) where
-  pub even : length marks ≡ length rows
-  even = sized .marks-long ∙ sym (sized .rows-long)
+kept-for-each : (n : ℕ) (marks : List ℕ) (rows : List (List ℕ)) → length (keptFor n marks rows) ≡ n
+unfolding keptFor
+kept-for-each zero marks rows = refl
+kept-for-each (suc n) marks rows = ap suc (kept-for-each n (drop 1 marks) (drop 1 rows))
 
+kept-for-none : (n size : ℕ) (row : List ℕ) → keptFor n (replicate size 0) (replicate size row) ≡ replicate n nothing
+unfolding keptFor
+kept-for-none zero size row = refl
+kept-for-none (suc n) zero row = ap (λ (s : List Kept). nothing ∷ s) (kept-for-none n zero row)
+kept-for-none (suc n) (suc size) row = ap (λ (s : List Kept). nothing ∷ s) (kept-for-none n size row)
+
+-- tables of any size in which nothing is kept: a walk may begin with them
+module _ (size : ℕ) (row : List ℕ) where
+  pub none-kept : resultsOf (replicate size 0) (replicate size row) ≡ replicate limit nothing
+  none-kept = kept-for-none limit size row
+
+  pub blank-ready : {i order : ℕ} → i < size → size ≤ limit → order < terms → Ready i order (replicate size 0) (replicate size row)
+  blank-ready {i} l m o =
+      let long : length (replicate {A = ℕ} size 0) ≡ size = length-replicate {A = ℕ} size 0 in
+      record {
+        within = omega arith;
+        most = omega arith;
+        small = o;
+        sized = record { marks-long = refl; rows-long = length-replicate {A = List ℕ} size row ∙ sym long };
+      }
+
+module _ (marks : List ℕ) (rows : List (List ℕ)) where
   pub kept-long : length (resultsOf marks rows) ≡ limit
-  kept-long = results-long marks rows even ∙ sized .marks-long
+  kept-long = kept-for-each limit marks rows
 
-  -- a mark that is not 0 stands for the expansion beside it
-  pub kept-at : (i : ℕ) → getD marks i 0 ≢ 0 → getD (resultsOf marks rows) i nothing ≡ kept (expansionAt marks rows i)
-  kept-at i h = results-read marks rows i even ∙ kept-if-marked (getD marks i 0) (getD rows i []) h
+  module _ (i : ℕ) (within : i < limit) where
+    -- a mark that is not 0 stands for the expansion beside it
+    pub kept-at : getD marks i 0 ≢ 0 → getD (resultsOf marks rows) i nothing ≡ kept (expansionAt marks rows i)
+    kept-at h = kept-read limit marks rows i within ∙ kept-if-marked (getD marks i 0) (getD rows i []) h
 
-  pub nothing-at : (i : ℕ) → getD marks i 0 ≡ 0 → getD (resultsOf marks rows) i nothing ≡ nothing
-  nothing-at i e = results-read marks rows i even ∙ ap (λ (m : ℕ). keptOf m (getD rows i [])) e
+    pub nothing-at : getD marks i 0 ≡ 0 → getD (resultsOf marks rows) i nothing ≡ nothing
+    nothing-at e = kept-read limit marks rows i within ∙ ap (λ (m : ℕ). keptOf m (getD rows i [])) e
 
-  -- what is kept is marked, and is what stands there
-  pub is-marked : (i : ℕ) {e : Expansion} → getD (resultsOf marks rows) i nothing ≡ kept e → getD marks i 0 ≢ 0
-  is-marked i {e} h z = let w : _≡_ {A = ℕ} 0 1 = cc (nothing-at i z) in omega arith
+    -- what is kept is marked, and is what stands there
+    pub is-marked : {e : Expansion} → getD (resultsOf marks rows) i nothing ≡ kept e → getD marks i 0 ≢ 0
+    is-marked {e} h z = let w : _≡_ {A = ℕ} 0 1 = cc (nothing-at z) in omega arith
 
-  pub stands-there : (i : ℕ) {e : Expansion} → getD (resultsOf marks rows) i nothing ≡ kept e → expansionAt marks rows i ≡ e
-  stands-there i {e} h = same (sym (kept-at i (is-marked i h)) ∙ h)
-    where
-      same : {d f : Expansion} → kept d ≡ kept f → d ≡ f
-      same p = cc
+    pub stands-there : {e : Expansion} → getD (resultsOf marks rows) i nothing ≡ kept e → expansionAt marks rows i ≡ e
+    stands-there {e} h = same (sym (kept-at (is-marked h)) ∙ h)
+      where
+        same : {d f : Expansion} → kept d ≡ kept f → d ≡ f
+        same p = cc
 
 -- reading: a mark below that of a constant is a list's length
 module _ (marks : List ℕ) (rows : List (List ℕ)) (i : ℕ) where
@@ -111,17 +125,16 @@ module _ (e : coded.Expansion) (g : Given e) where
   kept-row : keptOf (markOf e) (e .coeffs) ≡ kept (expansionOf e)
   kept-row = kept-if-marked (markOf e) (e .coeffs) (mark-some (e .constant) refl) ∙ ap kept (marked-row (e .constant) refl)
 
-  pub stored : {marks : List ℕ} {rows : List (List ℕ)} (i : ℕ) {m : ℕ} → Sized marks rows → i < limit → m ≡ markOf e → Stored marks rows i e (set marks i m) (set rows i (e .coeffs))
+  pub stored :
+      {marks : List ℕ} {rows : List (List ℕ)} (i : ℕ) {m : ℕ}
+      → Sized (length marks) marks rows → i < length marks → m ≡ markOf e → Stored marks rows i e (set marks i m) (set rows i (e .coeffs))
   stored {marks} {rows} i {m} z l same =
-      let in-marks : i < length marks = omega (arith, z .marks-long) in
       let in-rows : i < length rows = omega (arith, z .rows-long) in
       rw same
       (record {
-        is = results-written marks rows i (markOf e) (e .coeffs) ∙ ap (λ (k : Kept). set (resultsOf marks rows) i k) kept-row;
-        there = rw (getD-set-same marks i (markOf e) 0 in-marks, getD-set-same rows i (e .coeffs) [] in-rows) (marked-row (e .constant) refl);
-        sized =
-            record {
-              marks-long = length-set marks i (markOf e) ∙ z .marks-long;
-              rows-long = length-set rows i (e .coeffs) ∙ z .rows-long;
-            };
+        is =
+            kept-written limit marks rows i (markOf e) (e .coeffs) l in-rows
+            ∙ ap (λ (k : Kept). set (resultsOf marks rows) i k) kept-row;
+        there = rw (getD-set-same marks i (markOf e) 0 l, getD-set-same rows i (e .coeffs) [] in-rows) (marked-row (e .constant) refl);
+        sized = record { marks-long = length-set marks i (markOf e); rows-long = length-set rows i (e .coeffs) ∙ z .rows-long };
       })

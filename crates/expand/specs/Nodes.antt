@@ -1,9 +1,11 @@
--- The expansion of a node, of those that are kept for its parts.
+-- The expansion of a node, of those that are kept for its parts, as the code goes about it. No part of what an expansion means.
 -- Assumes nothing.
-use Prim.Native.Nat.{ℕ}
+use mathlib.Core.Path.{_≡_}
+use Prim.Native.Nat.{ℕ, zero, suc, _≤_}
 use lib.Dec.{eqb}
 use mathlib.Core.List.{List}
 use Rattle.refusals.specs.Refusals.{brokenPool, maxReached}
+use Rattle.pool.specs.declared.parts.CountedParts.{CountedParts}
 use Rattle.pool.specs.declared.node.Node.{Node}
 use Rattle.pool.specs.declared.node.Node.the-variants.{Empty, Variable, Lit, Add, Mul, Div, Exp, Log, Pow, Max}
 use Rattle.taylor.specs.Work.{Work, yield, refuse}
@@ -11,27 +13,41 @@ use Rattle.taylor.specs.Expansion.{Expansion, Constant, addTo, times, quotient,
 use Rattle.taylor.specs.Expand.{Point}
 use Rattle.expand.specs.Points.{leafWork}
 use Rattle.expand.specs.Tables.{Marked}
-use Rattle.expand.specs.declared.node.Parts.{Parts}
-use Rattle.expand.specs.declared.node.Parts.the-variants.{None, One, Two}
+
+pub data Parts : Type 0 where
+  no-part : Parts
+  one-part : ℕ → Parts
+  two-parts : ℕ → ℕ → Parts
 
 -- the parts that are visited before the node: at a Max the walk ends
 abbrev pub visits : Node → Parts
-visits Empty = None
-visits (Variable v) = None
-visits (Lit z) = None
-visits (Add a b) = Two a b
-visits (Mul a b) = Two a b
-visits (Div a b) = Two a b
-visits (Exp a) = One a
-visits (Log a) = One a
-visits (Pow a e) = One a
-visits (Max a b) = None
+visits Empty = no-part
+visits (Variable v) = no-part
+visits (Lit z) = no-part
+visits (Add a b) = two-parts a b
+visits (Mul a b) = two-parts a b
+visits (Div a b) = two-parts a b
+visits (Exp a) = one-part a
+visits (Log a) = one-part a
+visits (Pow a e) = one-part a
+visits (Max a b) = no-part
+
+-- the code's parts: their count, and the left or only one first
+abbrev pub partsFor : ℕ → ℕ → ℕ → Parts
+partsFor zero a b = no-part
+partsFor (suc zero) a b = one-part a
+partsFor (suc (suc n)) a b = two-parts a b
+
+-- the code tells of these parts
+pub record Told (p : CountedParts) (parts : Parts) : Type 0 where
+  pub is : partsFor (p .count) (p .left) (p .right) ≡ parts
+  pub most : p .count ≤ 2
 
 -- expansions are kept for them
-abbrev pub Visited : List ℕ → Parts → Type 0
-Visited marks None = Unit {0}
-Visited marks (One a) = Marked marks a
-Visited marks (Two a b) = Marked marks a × Marked marks b
+abbrev pub Visited : List ℕ → List (List ℕ) → Parts → Type 0
+Visited marks rows no-part = Unit {0}
+Visited marks rows (one-part a) = Marked marks rows a
+Visited marks rows (two-parts a b) = Marked marks rows a × Marked marks rows b
 
 -- match term, where `part` has the expansions of the parts
 abbrev pub nodeWork : ℕ → Point → ℕ → (ℕ → Expansion) → ℕ → Node → Work Expansion

@@ -1,47 +1,76 @@
 // The expansion of a node, of those of its parts.
-ghost use mathlib.Core.Path.{_≡_};
 ghost use Prim.Native.Nat.{_<_};
 ghost use lib.Dec.{eqb};
+ghost use lib.ListN.{length};
+ghost use Rattle.pool.specs.Nodes.{decode};
 ghost use Rattle.pool.specs.Made.{poolOf};
 ghost use Rattle.taylor.specs.Expand.{bind, lift, keep};
 ghost use Rattle.taylor_base.specs.Answers.{terms, Answers};
-ghost use Rattle.expand.specs.Points.{pointOf, leafWork};
-ghost use Rattle.expand.specs.Nodes.{visits, nodeWork, Visited};
-ghost use Rattle.expand.specs.Tables.{expansionAt, Ready, Walks, stateOf};
+ghost use Rattle.expand.specs.Points.{leafWork};
+ghost use Rattle.expand.specs.Asked.{askedVariable, askedOrder, askedPoint};
+ghost use Rattle.expand.specs.Nodes.{visits, nodeWork, Visited, Told, no-part, one-part, two-parts};
+ghost use Rattle.expand.specs.Tables.{expansionAt, Ready};
+ghost use Rattle.expand.specs.Walks.{Walks, stateOf};
 use crate::kept::keep_answer;
 use crate::kept::load;
-use crate::point::Asked;
 use crate::point::variable_in;
+use pool::CountedParts;
 use pool::LIMIT;
 use pool::Made;
 use pool::Node;
 use pool::Room;
 use taylor_base::Expanded;
-use taylor_base::Status;
 use taylor_base::TERMS;
 use taylor_base::answer_of;
 
-// The parts of a node that are visited before it.
-pub enum Parts {
-    None,
-    One(u32),
-    Two(u32, u32),
+// The parts of a node of which none is visited.
+fn no_part() -> CountedParts
+    ensures { λ r. ⌜ Told r no-part ⌝ }
+{
+    CountedParts {
+        count: 0,
+        left: 0,
+        right: 0,
+    }
 }
 
-pub fn visited(node: Node) -> Parts
-    ensures { λ r. ⌜ r ≡ visits node ⌝ }
+// The only part.
+fn one_part(a: u32) -> CountedParts
+    ensures { λ r. ⌜ Told r (one-part a) ⌝ }
+{
+    CountedParts {
+        count: 1,
+        left: a,
+        right: 0,
+    }
+}
+
+// Both parts, left before right.
+fn two_parts(a: u32, b: u32) -> CountedParts
+    ensures { λ r. ⌜ Told r (two-parts a b) ⌝ }
+{
+    CountedParts {
+        count: 2,
+        left: a,
+        right: b,
+    }
+}
+
+// The parts of a node that are visited before it.
+pub fn visited(node: Node) -> CountedParts
+    ensures { λ r. ⌜ Told r (visits node) ⌝ }
 {
     match node {
-        Node::Empty => Parts::None,
-        Node::Variable(_) => Parts::None,
-        Node::Lit(_) => Parts::None,
-        Node::Add(a, b) => Parts::Two(a, b),
-        Node::Mul(a, b) => Parts::Two(a, b),
-        Node::Div(a, b) => Parts::Two(a, b),
-        Node::Exp(a) => Parts::One(a),
-        Node::Log(a) => Parts::One(a),
-        Node::Pow(a, _) => Parts::One(a),
-        Node::Max(_, _) => Parts::None,
+        Node::Empty => no_part(),
+        Node::Variable(_) => no_part(),
+        Node::Lit(_) => no_part(),
+        Node::Add(a, b) => two_parts(a, b),
+        Node::Mul(a, b) => two_parts(a, b),
+        Node::Div(a, b) => two_parts(a, b),
+        Node::Exp(a) => one_part(a),
+        Node::Log(a) => one_part(a),
+        Node::Pow(a, _) => one_part(a),
+        Node::Max(_, _) => no_part(),
     }
 }
 
@@ -52,13 +81,13 @@ fn leaf_in(
     room: Room,
     v: u32,
     term: u32,
-    asked: Asked,
+    asked: &[u64; 4],
 ) -> Expanded
-    requires { ⌜ asked .order < terms ⌝ }
-    ensures { λ r. ⌜ Answers r (now (kinds .exit)) (now (words .exit)) (leafWork (eqb v (asked .var)) term (asked .var) (pointOf (asked .point)) (asked .order) (poolOf (now (kinds .entry)) (now (words .entry)) room)) ⌝ }
+    requires { ⌜ askedOrder (now asked) < terms ⌝ }
+    ensures { λ r. ⌜ Answers r (now (kinds .exit)) (now (words .exit)) (leafWork (eqb v (askedVariable (now (asked .entry)))) term (askedVariable (now (asked .entry))) (askedPoint (now (asked .entry))) (askedOrder (now (asked .entry))) (poolOf (now (kinds .entry)) (now (words .entry)) room)) ⌝ }
 {
-    if v == asked.var {
-        return variable_in(kinds, words, room, asked);
+    if v as u64 == asked[0] {
+        return variable_in(kinds, words, room, v, asked);
     }
     answer_of(Made::Node { node: term, room })
 }
@@ -67,15 +96,15 @@ fn leaf_in(
 fn node_in(
     kinds: &mut [u8; LIMIT],
     words: &mut [u64; LIMIT],
-    marks: &[u8; LIMIT],
-    rows: &[[u32; TERMS]; LIMIT],
+    marks: &[u8],
+    rows: &[[u32; TERMS]],
     room: Room,
     term: u32,
     node: Node,
-    asked: Asked,
+    asked: &[u64; 4],
 ) -> Expanded
-    requires { ⌜ (asked .order < terms) × Visited (now marks) (visits node) ⌝ }
-    ensures { λ r. ⌜ Answers r (now (kinds .exit)) (now (words .exit)) (nodeWork (asked .var) (pointOf (asked .point)) (asked .order) (expansionAt (now (marks .entry)) (now (rows .entry))) term node (poolOf (now (kinds .entry)) (now (words .entry)) room)) ⌝ }
+    requires { ⌜ (askedOrder (now asked) < terms) × Visited (now marks) (now rows) (visits node) ⌝ }
+    ensures { λ r. ⌜ Answers r (now (kinds .exit)) (now (words .exit)) (nodeWork (askedVariable (now (asked .entry))) (askedPoint (now (asked .entry))) (askedOrder (now (asked .entry))) (expansionAt (now (marks .entry)) (now (rows .entry))) term node (poolOf (now (kinds .entry)) (now (words .entry)) room)) ⌝ }
 {
     match node {
         Node::Empty => answer_of(Made::Refused(refusals::BROKEN_POOL)),
@@ -103,21 +132,24 @@ fn node_in(
     }
 }
 
-// The expansion of the node `term` is made and kept.
+// The expansion of the node `term`, which has that kind and word, is made and kept.
 pub fn join_in(
     kinds: &mut [u8; LIMIT],
     words: &mut [u64; LIMIT],
-    marks: &mut [u8; LIMIT],
-    rows: &mut [[u32; TERMS]; LIMIT],
-    room: Room,
+    marks: &mut [u8],
+    rows: &mut [[u32; TERMS]],
+    room: &mut u64,
     term: u32,
-    node: Node,
-    asked: Asked,
-) -> Status
-    requires { ⌜ Ready term (asked .order) (now marks) (now rows) ⌝ }
-    requires { ⌜ Visited (now marks) (visits node) ⌝ }
-    ensures { λ r. ⌜ Walks r (now (kinds .exit)) (now (words .exit)) (now (marks .exit)) (now (rows .exit)) term (bind (lift (nodeWork (asked .var) (pointOf (asked .point)) (asked .order) (expansionAt (now (marks .entry)) (now (rows .entry))) term node) (stateOf (now (kinds .entry)) (now (words .entry)) (now (marks .entry)) (now (rows .entry)) room)) (keep term)) ⌝ }
+    kind: u8,
+    word: u64,
+    asked: &[u64; 4],
+) -> u64
+    requires { ⌜ Ready term (askedOrder (now asked)) (now marks) (now rows) ⌝ }
+    requires { ⌜ Visited (now marks) (now rows) (visits (decode kind word)) ⌝ }
+    ensures { λ r. ⌜ Walks (length (now (marks .entry))) r (now (room .exit)) (now (kinds .exit)) (now (words .exit)) (now (marks .exit)) (now (rows .exit)) term (bind (lift (nodeWork (askedVariable (now (asked .entry))) (askedPoint (now (asked .entry))) (askedOrder (now (asked .entry))) (expansionAt (now (marks .entry)) (now (rows .entry))) term (decode kind word)) (stateOf (now (kinds .entry)) (now (words .entry)) (now (marks .entry)) (now (rows .entry)) (now (room .entry)))) (keep term)) ⌝ }
 {
-    let answer = node_in(kinds, words, marks, rows, room, term, node, asked);
-    keep_answer(marks, rows, term, answer)
+    let from = Room { word: *room };
+    let node = pool::decode(kind, word);
+    let answer = node_in(kinds, words, marks, rows, from, term, node, asked);
+    keep_answer(marks, rows, room, term, answer)
 }

@@ -5,17 +5,17 @@ use Rattle.expand.proofs.Tables.{list-loaded, constant-loaded}
 use Rattle.expand.proofs.kept.load.Statement.{statement}
 use Rattle.expand.proofs.kept.load.Tie as tie
 
-element-copy-out-mark : tie.Need-element-copy-out-mark
-element-copy-out-mark c = search needs
+shared-slice-read-mark : tie.Need-shared-slice-read-mark
+shared-slice-read-mark c = search needs
 
 mul-coeffs : tie.Need-mul-coeffs
 mul-coeffs c = search needs
 
-element-copy-out-coeffs : tie.Need-element-copy-out-coeffs
-element-copy-out-coeffs c = search needs
+shared-slice-copy-out-coeffs : tie.Need-shared-slice-copy-out-coeffs
+shared-slice-copy-out-coeffs c = search needs
 
-cast-t15 : tie.Need-cast-t15
-cast-t15 c = search needs
+cast-t13 : tie.Need-cast-t13
+cast-t13 c = search needs
 
 returns : tie.Need-returns
 returns c =
@@ -30,4 +30,10 @@ returns-2 c =
 pub load-spec : {M : Type 1} → statement M
 load-spec =
     tie.close
-    (tie.spec element-copy-out-mark mul-coeffs element-copy-out-coeffs cast-t15 returns returns-2)
+    (tie.spec
+    shared-slice-read-mark
+    mul-coeffs
+    shared-slice-copy-out-coeffs
+    cast-t13
+    returns
+    returns-2)

@@ -25,12 +25,18 @@ returns c =
     refusal-answers (point .result) (point .last .0) (point .last .1 .0) (c .answer-of .ensures) (c .before .enum-told .given .1)
     (stopped (point .last .0) (point .last .1 .0) _ (c .before .enum-told .given .1) (point .ensures))
 
+element-copy-out-order : tie.Need-element-copy-out-order
+element-copy-out-order c = search needs
+
+cast-order : tie.Need-cast-order
+cast-order c = search needs
+
 var-in-requires : tie.Need-var-in-requires
 var-in-requires c κs = search needs
 
 returns-2 : tie.Need-returns-2
 returns-2 c =
-    let at-x = c .before .before .before .before in
+    let at-x = c .before .before .before .before .before in
     let point = at-x .before .before .point-in in
     answers-same (c .var-in .ensures) (onward (point .last .0) (point .last .1 .0) _ (at-x .x .given .1) (point .ensures) refl)
 
@@ -43,5 +49,7 @@ variable-in-spec =
     enum-told
     answer-of-requires
     returns
+    element-copy-out-order
+    cast-order
     var-in-requires
     returns-2)
