@@ -28,21 +28,21 @@ pub enum Operation {
 use Operation::*;
 
 /// Sizes are terms of a polynomial; those of expansions, of one in Horner's form, are chosen for the pool's 4,096 nodes.
-pub const OPERATIONS: [(Operation, &str, [u64; 3]); 14] = [
-    (Build, "build", [25, 100, 300]),
-    (Derive, "derive", [25, 100, 300]),
-    (Substitute, "substitute", [25, 100, 300]),
-    (Evaluate, "evaluate", [25, 100, 300]),
-    (Print, "print", [25, 100, 300]),
-    (ExpandAt(8), "expand8_at", [10, 30, 80]),
-    (ExpandAt(24), "expand24_at", [3, 7, 14]),
-    (Expand(8), "expand8", [10, 30, 80]),
-    (Expand(24), "expand24", [3, 7, 14]),
-    (ExpandMixed(8), "mixed8", [3, 6, 10]),
-    (Write, "write", [25, 100, 300]),
-    (Read, "read", [25, 100, 300]),
-    (Strip, "strip", [25, 100, 300]),
-    (RunStrip, "run_strip", [25, 100, 300]),
+pub const OPERATIONS: [(Operation, &str, &[u64]); 14] = [
+    (Build, "build", &[25, 100, 300]),
+    (Derive, "derive", &[25, 100, 300]),
+    (Substitute, "substitute", &[25, 100, 300]),
+    (Evaluate, "evaluate", &[25, 100, 300]),
+    (Print, "print", &[25, 100, 300]),
+    (ExpandAt(8), "expand8_at", &[4, 12, 40, 80]),
+    (ExpandAt(24), "expand24_at", &[3, 7, 14]),
+    (Expand(8), "expand8", &[4, 12, 40, 80]),
+    (Expand(24), "expand24", &[3, 7, 14]),
+    (ExpandMixed(8), "mixed8", &[3, 6, 10]),
+    (Write, "write", &[25, 100, 300]),
+    (Read, "read", &[25, 100, 300]),
+    (Strip, "strip", &[25, 100, 300]),
+    (RunStrip, "run_strip", &[25, 100, 300]),
 ];
 
 /// How many points an expression is evaluated at, and a strip run.

@@ -51,7 +51,12 @@ fn constructor(time: Duration, pool: &mut Pool, call: fn(&mut Pool) -> u64) -> f
     })
 }
 
+extern "C" {
+    fn moved() -> i32;
+}
+
 pub fn compare(time: Duration) {
+    println!("the code moved by {} bytes", unsafe { moved() });
     println!("pool                  check ns    C loop ns   ratio  |  var ns  in checks |  add ns  in checks");
     let pools = [
         ("empty (1 node)", filled(1)),

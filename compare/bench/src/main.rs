@@ -1,5 +1,5 @@
 //! Times of this engine beside the Rust's, of the pool check beside a plain C loop, and of key strips beside plain C. README.md of compare/ says how to run it.
-//! Usage: bunlayog-bench [MILLISECONDS] | once SIDE OPERATION SIZE [RUNS] | cases | stack
+//! Usage: bunlayog-bench [MILLISECONDS] | check [MILLISECONDS] | once SIDE OPERATION SIZE [RUNS] | cases | stack
 #![allow(dead_code, unused_imports, clippy::all)]
 
 #[path = "../../src/around.rs"]
@@ -49,7 +49,7 @@ fn compare(time: Duration) {
     println!("operation    size   engine µs     Rust µs   ratio   growth: engine    Rust   ratio");
     for (operation, name, sizes) in OPERATIONS {
         let mut least = None;
-        for size in sizes {
+        for &size in sizes {
             let (ours, theirs) = times(operation, size, time);
             let (first, rust_first) = *least.get_or_insert((ours, theirs));
             print!("{name:12} {size:4} {:11.2}", ours / 1e3);
@@ -96,7 +96,12 @@ fn main() {
         let within = stack::measure();
         std::process::exit(if within { 0 } else { 1 });
     }
-    let time = Duration::from_millis(args.first().map_or(300, |a| a.parse().expect("milliseconds")));
+    let checks_alone = args.first().is_some_and(|a| a == "check");
+    let time = args.get(checks_alone as usize).map_or(300, |a| a.parse().expect("milliseconds"));
+    let time = Duration::from_millis(time);
+    if checks_alone {
+        return checks::compare(time);
+    }
     compare(time);
     checks::compare(time);
     strips::compare(time);
