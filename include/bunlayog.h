@@ -28,11 +28,11 @@
  *   run_strip                                           1,128
  *   lit, var and the constructors                      81,880
  *   the other operations on expansions                 86,616
- *   write, read                                       368,784
+ *   write, read                                       369,104
  *   strip                                             516,040
  *   substitute_var, derive, evaluate, evaluate_residue,
- *   print                                           1,478,280
- *   taylor_coeffs, taylor_coeffs_at                 1,764,040
+ *   print                                           1,054,472
+ *   taylor_coeffs, taylor_coeffs_at                 1,175,016
  *
  * The archive is for x86-64 Linux. It calls memcpy and memset and nothing else, and has no data that can be written.
  */
