@@ -16,7 +16,7 @@ timeout 300 valgrind --tool=callgrind --callgrind-out-file="$out/counts" --combi
 
 # The bounds in instructions, with what was counted:
 # - every call looks at both tables of 4,096 entries and copies them: 200,000 (165,000 counted);
-# - a walk visits each node that it reaches once: 1,000 for each (40 to 790 counted), which work for each two of 4,096 nodes would exceed;
+# - a walk visits each node that it reaches once: 1,000 for each (40 to 790 counted, where it is not refused at once), which work for each two of 4,096 nodes would exceed;
 # - what works on expansions appends as many nodes as there is room for: 500 for each of 4,096 (260 counted);
 # - a text is made up to 65,536 bytes: 150 for each (94 counted);
 # - whether a strip can be made is known from the nodes, each looked at once, so that 127 doublings are refused as soon as a chain. What is made costs 50 for each byte
