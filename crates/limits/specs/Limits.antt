@@ -162,7 +162,7 @@ pub record Working : Type 0 where
   -- 12. "A folded literal leaves the literal range."
   pub sum-greatest : called (onTwo two.Add 0 1) (lent (literal 9007199254740990 ∷ literal 1 ∷ [])) ≡ gives 2
   pub sum-above : called (onTwo two.Add 0 1) (lent (literal 9007199254740991 ∷ literal 1 ∷ [])) ≡ refuses 12
-  -- "The factorials 0! to 18! are a constant table .. From 19! on the answer is 12"
+  -- "From 19! on the answer is 12"
   pub derivative-18 : called (onIndex indexed.Derivative (listOf 25) 18) x0 ≡ gives 36
   pub derivative-19 : called (onIndex indexed.Derivative (listOf 25) 19) x0 ≡ refuses 12
   -- 13. "An exponent sum is above 4,294,967,295.": (x1 × x0) × x0^4294967294, then from x0^4294967295

@@ -1,4 +1,4 @@
--- The source's fold makes the literals that the table of factorials has: i - 1 factors are multiplied up to the literal (i - 1)!, so the product with i is i!.
+-- The source's fold makes the literals of the factorials: i - 1 factors are multiplied up to the literal (i - 1)!, so the product with i is i!.
 -- Assumes nothing.
 use mathlib.Core.Bool.{Bool, true, false, cond}
 use mathlib.Core.Path.{_≡_, refl, sym, ap, _∙_}
@@ -185,7 +185,7 @@ folds (suc todo) j acc P h =
     bind-after (factor acc (suc j) P) (fold factor (suc (suc j)) todo) (fold source (suc (suc j)) todo) (next-literal acc j P h) (λ a Q l. folds todo (suc j) a Q l)
     ∙ ap (λ (x : Result ℕ). bind x (fold source (suc (suc j)) todo)) (sym (next-same acc j P h))
 
--- the derivative with the table is the source's
+-- the derivative by factorials is the source's
 pub derivative-is : (cs : List ℕ) (k : ℕ) (P : Pool) → Long P → derivativeOf cs k P ≡ derivative (Polynomial cs) k P
 unfolding factorialOf
 derivative-is cs k P long =

@@ -1,4 +1,4 @@
--- "The factorials 0! to 18! are a constant table; the literals of the source's fold are appended all the same."
+-- "`derivative` of a list multiplies by a factorial .. the literals of the source's fold are appended all the same": its products, given as factorials.
 -- Assumes nothing.
 use mathlib.Core.Bool.{Bool, true, false}
 use mathlib.Core.List.{List}

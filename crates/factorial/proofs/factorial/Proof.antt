@@ -1,30 +1,41 @@
--- `factorial::factorial` meets its contract: its table is what the definition computes, its last entry is a literal, and the first factorial past it is none.
+-- `factorial::factorial` meets its contract: the product of i factors is i!, and one past the literals refuses n!. The measure is how many factorials that are literals are left.
 -- Assumes nothing.
-use borrow.Author.Needs.{needs}
-use Rattle.literal.proofs.Folds.{refuses}
-use Rattle.factorial.specs.Factorial.{factorialOf}
-use Rattle.factorial.proofs.Growth.{literal-below, no-literal-from}
-use Rattle.factorial.proofs.Table.{factorialsFrom, entry-fits, entry-folds}
+use Prim.Native.Nat.{_-_}
+use native.Mathlib.Omega.{arith}
+use Rattle.factorial.proofs.Growth.{literalFactorials}
+use Rattle.factorial.proofs.Running.{RunningProduct, at-first, turn-is-below-nineteen, product-fits, next-product, product-past-the-literals, last-fits, last-product}
 use Rattle.factorial.proofs.factorial.Statement.{statement}
 use Rattle.factorial.proofs.factorial.Tie as tie
 
-mul-t5 : tie.Need-mul-t5
-mul-t5 c = search needs
+abbrev Inv-loop : tie.InvT-loop
+Inv-loop n product₀ i₀ product i = RunningProduct n product i
 
-array-read-t8 : tie.Need-array-read-t8
-array-read-t8 c = search needs
+abbrev μ-loop : tie.MeasureT-loop
+μ-loop n product₀ i₀ product i = literalFactorials - i
 
-cast-t9 : tie.Need-cast-t9
-unfolding factorialOf factorialsFrom
-cast-t9 c = entry-fits _ _ (c .if1 .taken) (literal-below _ _ tt (c .if1 .taken))
+loop-holds : tie.Need-loop-holds Inv-loop μ-loop
+loop-holds c = at-first (c .args .n)
 
-returns : tie.Need-returns
-unfolding factorialOf factorialsFrom
-returns c = entry-folds _ _ (c .if1 .taken) (literal-below _ _ tt (c .if1 .taken))
+add-i : tie.Need-add-i Inv-loop μ-loop
+add-i c = omega (arith, turn-is-below-nineteen (c .before .loop .inv))
 
-returns-2 : tie.Need-returns-2
-unfolding factorialOf
-returns-2 c = refuses _ (no-literal-from _ _ tt (c .if1 .left))
+mul-product : tie.Need-mul-product Inv-loop μ-loop
+mul-product c = omega (arith, product-fits (c .before .loop .inv))
+
+loop-again : tie.Need-loop-again Inv-loop μ-loop
+loop-again c = next-product (c .before .before .loop .inv) (c .before .loop-test .taken) (c .if1 .left)
+
+loop-less : tie.Need-loop-less Inv-loop μ-loop
+loop-less c = omega (arith, turn-is-below-nineteen (c .before .before .loop .inv))
+
+returns : tie.Need-returns Inv-loop μ-loop
+returns c = product-past-the-literals (c .before .before .loop .inv) (c .before .loop-test .taken) (c .if1 .taken)
+
+cast-t5 : tie.Need-cast-t5 Inv-loop μ-loop
+cast-t5 c = last-fits (c .before .loop .inv)
+
+returns-2 : tie.Need-returns-2 Inv-loop μ-loop
+returns-2 c = last-product (c .before .loop .inv) (c .loop-test .left)
 
 pub factorial-spec : {M : Type 1} → statement M
-factorial-spec = tie.close (tie.spec mul-t5 array-read-t8 cast-t9 returns returns-2)
+factorial-spec = tie.close (tie.spec Inv-loop μ-loop loop-holds add-i mul-product returns loop-less loop-again cast-t5 returns-2)
