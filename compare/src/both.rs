@@ -97,6 +97,13 @@ impl Both {
         oracle::raw(kind, word)
     }
 
+    /// x0 until the pool has so many nodes.
+    pub fn fill(&mut self, to: usize) {
+        while counted::count() < to {
+            self.raw(1, 0);
+        }
+    }
+
     /// Forgets the nodes from a number on, on both sides.
     pub fn forget_from(&mut self, count: usize) {
         counted::forget_from(count);

@@ -319,9 +319,7 @@ pub fn run() -> Met {
         both.raw(*kind, *word);
     });
     made_on(&mut both, calls);
-    (pool.entries.len()..LIMIT).for_each(|_| {
-        both.raw(1, 0);
-    });
+    both.fill(LIMIT);
     made_on(&mut both, full);
     damage::one_too_many(&mut both);
     both.forget_from(0);

@@ -1,4 +1,4 @@
-//! The examples of document 01, the tests of the Rust whose numbers are whole and examples of docs/DIFFERENCES.md, by name, on both sides.
+//! The examples of document 01, the tests of the Rust whose numbers are whole, examples of docs/DIFFERENCES.md and of the requests, by name, on both sides.
 use crate::both::Both;
 use crate::call::{Answer, Call, Given, Series};
 use crate::counted::{self, LIMIT};
@@ -6,7 +6,7 @@ use crate::number::{Number, F64};
 use crate::ppl;
 use crate::symbolic::SymGenFun;
 use crate::univariate_taylor::{TaylorExpansion, TESTS};
-use crate::{strip_examples, whole};
+use crate::{factorial_examples, strip_examples, whole};
 use std::panic::{catch_unwind, AssertUnwindSafe};
 use Call::*;
 
@@ -24,7 +24,7 @@ fn expansion(both: &mut Both, call: Call) -> Series {
     }
 }
 
-fn text(both: &mut Both, root: u64) -> String {
+pub fn text(both: &mut Both, root: u64) -> String {
     match both.call(&Print { root, room: 65_535 }) {
         Ok(Given::Bytes(bytes)) => String::from_utf8(bytes).expect("letters and digits"),
         answer => panic!("a text: {answer:?}"),
@@ -67,11 +67,9 @@ fn power(both: &mut Both, exponent: u32) -> Answer {
 }
 
 fn full_pool(both: &mut Both) -> (u64, u64) {
-    let (x0, zero) = (x0(both), lit(both, 0));
-    (2..LIMIT).for_each(|_| {
-        both.raw(1, 0);
-    });
-    (x0, zero)
+    let given = (x0(both), lit(both, 0));
+    both.fill(LIMIT);
+    given
 }
 
 fn at(both: &mut Both, root: u64, point: i64) -> String {
@@ -384,6 +382,8 @@ pub fn all() {
     run(&mut both, &WHOLE_TESTS);
     println!("Examples of docs/DIFFERENCES.md, on both sides:");
     run(&mut both, &DIFFERENCES);
+    println!("C-15, on both sides:");
+    run(&mut both, &factorial_examples::DERIVATIVES);
     println!("C-20, on both sides:");
     run(&mut both, &strip_examples::MAKING);
     run(&mut both, &strip_examples::RUNNING);

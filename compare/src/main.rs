@@ -14,6 +14,7 @@ mod damage;
 mod directed;
 mod engine;
 mod examples;
+mod factorial_examples;
 mod file;
 mod list;
 mod machine;

@@ -24,11 +24,13 @@ pub enum Operation {
     Expand(u64),
     /// A quotient of an exp and a log, which have their recurrences.
     ExpandMixed(u64),
+    /// Of a list of 25 entries x0, its size the order: a factorial times a coefficient.
+    ListDerivative,
 }
 use Operation::*;
 
-/// Sizes are terms of a polynomial; those of expansions, of one in Horner's form, are chosen for the pool's 4,096 nodes.
-pub const OPERATIONS: [(Operation, &str, &[u64]); 14] = [
+/// Sizes are terms of a polynomial; those of expansions, of one in Horner's form, are chosen for the pool's 4,096 nodes. 18! is the last factorial that is a literal.
+pub const OPERATIONS: [(Operation, &str, &[u64]); 15] = [
     (Build, "build", &[25, 100, 300]),
     (Derive, "derive", &[25, 100, 300]),
     (Substitute, "substitute", &[25, 100, 300]),
@@ -39,6 +41,7 @@ pub const OPERATIONS: [(Operation, &str, &[u64]); 14] = [
     (Expand(8), "expand8", &[4, 12, 40, 80]),
     (Expand(24), "expand24", &[3, 7, 14]),
     (ExpandMixed(8), "mixed8", &[3, 6, 10]),
+    (ListDerivative, "derivative", &[3, 6, 12, 18]),
     (Write, "write", &[25, 100, 300]),
     (Read, "read", &[25, 100, 300]),
     (Strip, "strip", &[25, 100, 300]),
@@ -122,6 +125,7 @@ impl Engine {
             Build => 0,
             ExpandAt(_) | Expand(_) => horner(&mut pool, size),
             ExpandMixed(_) => mixed(&mut pool, size),
+            ListDerivative => pool.var(0),
             _ => polynomial(&mut pool, size),
         };
         let mut value = 0;
@@ -140,7 +144,8 @@ impl Engine {
             let length = pool.strip(root, &mut file);
             file.truncate(length);
         }
-        let expansion = Expansion { order: 0, coeffs: [0; LIST] };
+        // the list that is derived, and the place for the answers of expansions
+        let expansion = Expansion { order: LIST as u64, coeffs: [root; LIST] };
         Engine { operation, size, start: pool.count, pool, root, value, out: vec![0; TEXT_MAX], file, node: 0, bits: 0, expansion }
     }
 }
@@ -163,11 +168,12 @@ impl Side for Engine {
             RunStrip => self.bits = (0..POINTS).fold(0, |bits, j| bits ^ engine::run_strip(&self.file, &[point(j)])),
             ExpandAt(order) => self.expansion = pool.expand(self.root, Some(1), order),
             Expand(order) | ExpandMixed(order) => self.expansion = pool.expand(self.root, None, order),
+            ListDerivative => self.node = pool.derivative(&self.expansion, self.size),
         }
     }
     fn answer(&mut self) -> Vec<u8> {
         match self.operation {
-            Build | Derive | Substitute | Read => {
+            Build | Derive | Substitute | Read | ListDerivative => {
                 let length = self.pool.print(self.node, &mut self.out);
                 self.out[..length].to_vec()
             }
@@ -198,6 +204,7 @@ pub struct Rust {
     root: Expression,
     value: Expression,
     given: Option<Expression>,
+    list: TaylorExpansion<Expression>,
     expansion: Option<TaylorExpansion<Expression>>,
     text: String,
     bits: u64,
@@ -242,7 +249,8 @@ impl Rust {
             }
             _ => rust_polynomial(size),
         };
-        Rust { operation, size, root, value, given: None, expansion: None, text: String::with_capacity(TEXT_MAX), bits: 0 }
+        let list = TaylorExpansion::from_coefficients(vec![SymGenFun::var(Var(0)); LIST]);
+        Rust { operation, size, root, value, given: None, list, expansion: None, text: String::with_capacity(TEXT_MAX), bits: 0 }
     }
 }
 
@@ -262,11 +270,12 @@ impl Side for Rust {
             Write | Read | Strip | RunStrip => {}
             ExpandAt(order) => self.expansion = Some(self.root.taylor_coeffs_at(Var(0), &Whole(1), order as usize)),
             Expand(order) | ExpandMixed(order) => self.expansion = Some(self.root.taylor_coeffs(Var(0), order as usize)),
+            ListDerivative => self.given = Some(self.list.derivative(self.size as usize)),
         }
     }
     fn answer(&mut self) -> Vec<u8> {
         match self.operation {
-            Build | Derive | Substitute => self.given.as_ref().unwrap().to_string().into_bytes(),
+            Build | Derive | Substitute | ListDerivative => self.given.as_ref().unwrap().to_string().into_bytes(),
             Evaluate => self.bits.to_le_bytes().to_vec(),
             Print => self.text.clone().into_bytes(),
             Write | Read | Strip | RunStrip => Vec::new(),

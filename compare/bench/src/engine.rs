@@ -200,6 +200,9 @@ impl Pool {
     pub fn plain_strip(&self, root: u64, out: &mut [u8]) -> usize {
         given!(self, plain_strip, root, out.as_mut_ptr(), out.len()) as usize
     }
+    pub fn derivative(&mut self, e: &Expansion, index: u64) -> u64 {
+        made!(self, bunlayog_taylor_derivative, e.order, e.coeffs.as_ptr(), index)
+    }
     /// The expansion of an expression by variable 0, at a point where one is given.
     pub fn expand(&mut self, root: u64, point: Option<i64>, order: u64) -> Expansion {
         let mut given = Expansion { order: 0, coeffs: [0; LIST] };
