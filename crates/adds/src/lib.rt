@@ -1,4 +1,6 @@
 // The constructor `add`: which rule holds, and what it builds.
+#![tactic(auto)]
+
 mod made;
 mod rule;
 

@@ -10,7 +10,7 @@ use pool::LIMIT;
 use views::Shape;
 
 // What is to be built; numbers of nodes are u32, literals i64.
-#[derive(Drop)]
+#[derive(Clone, Copy)]
 pub enum AddRule {
     // the node itself
     Same(u32),

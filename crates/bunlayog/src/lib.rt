@@ -1,4 +1,6 @@
 // The entry points as C functions: include/bunlayog.h declares them. Each answers 0 or the refusal number of document 01.
+#![tactic(auto)]
+
 pub mod build;
 pub mod expansion_entries;
 pub mod expansion_one;

@@ -1,4 +1,6 @@
 // An entry point's answer in C's terms: what it gives goes to its place, and a refusal leaves the place as it was. The number is 0 or the refusal.
+#![tactic(auto)]
+
 ghost use Rattle.std.specs.Prelude.{◌≡◌};
 ghost use Rattle.c_answers.specs.Interface.{number_of, node_or, value_in_c, written_number, length_or};
 ghost use Rattle.c_answers.specs.Values.{bits_in_c};

@@ -1,4 +1,6 @@
 // The constructor that is called for each kind, at the full depth.
+#![tactic(auto)]
+
 mod one;
 mod two;
 

@@ -6,7 +6,7 @@ ghost use Rattle.constructor_calls.specs.Calls.{one_work};
 use constructors::DEPTH;
 use pool::{LIMIT, Made, Room};
 
-#[derive(Drop)]
+#[derive(Clone, Copy)]
 pub enum One {
     Neg,
     Exp,

@@ -6,7 +6,7 @@ ghost use Rattle.constructor_calls.specs.Calls.{two_work};
 use constructors::DEPTH;
 use pool::{LIMIT, Made, Room};
 
-#[derive(Drop)]
+#[derive(Clone, Copy)]
 pub enum Two {
     Add,
     Mul,

@@ -9,7 +9,7 @@ use constructors::DEPTH;
 use pool::{LIMIT, Made, Room};
 
 // The kinds of nodes with two parts that have a derivative.
-#[derive(Drop)]
+#[derive(Clone, Copy)]
 pub enum Two {
     Add,
     Mul,
@@ -17,7 +17,7 @@ pub enum Two {
 }
 
 // The kinds of nodes with one part.
-#[derive(Drop)]
+#[derive(Clone, Copy)]
 pub enum One {
     Exp,
     Log,

@@ -8,7 +8,7 @@ use crate::rules::{One, Two};
 use pool::Node;
 
 // A refusal, a number, or the rule of a node of one part or of two.
-#[derive(Drop)]
+#[derive(Clone, Copy)]
 pub enum Work {
     Refused(u32),
     Leaf(i64),

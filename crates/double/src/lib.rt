@@ -1,11 +1,13 @@
 // Doubles by document 01's rules: each operation rounds once, in a fixed order.
+#![tactic(auto)]
+
 ghost use Rattle.std.specs.Prelude.{◌≡◌};
 ghost use Rattle.std.specs.Float.{binary64};
 ghost use Rattle.std.specs.Float.Ieee.{add, mul, div, to_bits, nan_bits, of_bits};
 ghost use Rattle.double.specs.Double.{double_of, pow_of, max_of};
 
 // What an evaluation gives: a double, or the refusal number of document 01.
-#[derive(Drop)]
+#[derive(Clone, Copy)]
 pub enum Valued {
     Double(f64),
     Refused(u32),

@@ -1,4 +1,6 @@
 // The entry points of the constructors: what is lent is checked, then the constructor works. The other operations have theirs in the crates engine_*.
+#![tactic(auto)]
+
 mod leaf;
 mod one;
 mod two;

@@ -1,4 +1,6 @@
 // `taylor_coeffs` and `taylor_coeffs_at` as calls from outside.
+#![tactic(auto)]
+
 ghost use Rattle.std.specs.Prelude.{◌≡◌};
 ghost use Rattle.lent.specs.Call.{returned};
 ghost use Rattle.taylor.specs.Expand.{none, point};

@@ -1,4 +1,6 @@
 // The node file as calls from outside: writing from a root, and reading into the pool.
+#![tactic(auto)]
+
 ghost use Rattle.std.specs.Prelude.{◌≡◌};
 ghost use Rattle.shape.specs.File.{read_file};
 ghost use Rattle.lent.specs.Call.{returned, on_pool};

@@ -1,4 +1,6 @@
 // The expansion of a variable, and what is read of an expansion that is given: its order, and the expansion of given coefficients.
+#![tactic(auto)]
+
 mod read;
 mod variable;
 

@@ -6,7 +6,7 @@ ghost use Rattle.engine_given.specs.First.{first_refusal};
 use lent_series::{Outcome, Series};
 
 // A number of coefficients, or the refusal number.
-#[derive(Drop)]
+#[derive(Clone, Copy)]
 pub enum Counted {
     Count(u64),
     Refused(u32),

@@ -1,4 +1,6 @@
 // A coefficient or a derivative of an expansion, by its index, as calls from outside.
+#![tactic(auto)]
+
 ghost use Rattle.std.specs.Prelude.{◌≡◌, length};
 ghost use Rattle.pool.specs.Made.{made, pool_of};
 ghost use Rattle.pool.specs.Pool.{limit};
@@ -11,7 +13,7 @@ use lent_series::{ENDLESS, Series};
 use pool::{LIMIT, Made, Room};
 use taylor_base::Expansion;
 
-#[derive(Drop)]
+#[derive(Clone, Copy)]
 pub enum Indexed {
     Coeff,
     Derivative,

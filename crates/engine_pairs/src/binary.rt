@@ -12,7 +12,7 @@ use lent_series::{ENDLESS, Outcome, Series};
 use pool::{LIMIT, Room};
 use taylor_base::{Expanded, Expansion};
 
-#[derive(Drop)]
+#[derive(Clone, Copy)]
 pub enum Binary {
     Add,
     Sub,

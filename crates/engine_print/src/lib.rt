@@ -1,4 +1,6 @@
 // Printing as a call from outside.
+#![tactic(auto)]
+
 ghost use Rattle.std.specs.Prelude.{◌≡◌};
 ghost use Rattle.engine_print.specs.Printing.{print_call};
 ghost use Rattle.lent.specs.Writing.{put};

@@ -1,4 +1,6 @@
 // The operations on one expansion as calls from outside.
+#![tactic(auto)]
+
 ghost use Rattle.std.specs.Prelude.{◌≡◌};
 ghost use Rattle.pool.specs.Made.{pool_of};
 ghost use Rattle.lent.specs.Call.{returned};
@@ -10,7 +12,7 @@ use lent_series::{Outcome, Series};
 use pool::{LIMIT, Room};
 use taylor_base::{Expanded, Expansion};
 
-#[derive(Drop)]
+#[derive(Clone, Copy)]
 pub enum Unary {
     Neg,
     Exp,

@@ -1,4 +1,6 @@
 // Key strips as calls from outside.
+#![tactic(auto)]
+
 ghost use Rattle.std.specs.Prelude.{◌≡◌};
 ghost use Rattle.lent.specs.Writing.{put};
 ghost use Rattle.engine_strip.specs.Strips.{strip_call, run_strip_call};

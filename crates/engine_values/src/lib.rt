@@ -1,4 +1,6 @@
 // Evaluation as calls from outside.
+#![tactic(auto)]
+
 ghost use Rattle.std.specs.Prelude.{◌≡◌};
 ghost use Rattle.engine_values.specs.Values.{evaluate_call, evaluate_residue_call, are_residues};
 

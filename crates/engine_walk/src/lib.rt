@@ -1,4 +1,6 @@
 // Substitution and derivation as calls from outside.
+#![tactic(auto)]
+
 ghost use Rattle.std.specs.Prelude.{◌≡◌};
 ghost use Rattle.lent.specs.Call.{returned, on_pool};
 ghost use Rattle.engine_walk.specs.Walks.{substitute_work, derive_work};

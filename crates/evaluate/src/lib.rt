@@ -1,4 +1,6 @@
 // Evaluation as doubles: a walk from the root to the parts. Each visited node's value is kept, so that a shared part is evaluated once.
+#![tactic(auto)]
+
 ghost use Rattle.std.specs.Prelude.{◌≡◌, ◌<◌, get_or};
 ghost use Rattle.std.specs.Float.{nan};
 ghost use Rattle.pool.specs.Pool.{limit, node_in};
@@ -21,7 +23,7 @@ pub fn value_of_variable(values: &[f64], v: u32) -> Valued
 }
 
 // What is done with the values of two parts.
-#[derive(Drop)]
+#[derive(Clone, Copy)]
 pub enum Binary {
     Add,
     Mul,

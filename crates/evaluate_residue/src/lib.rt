@@ -1,4 +1,6 @@
 // Evaluation by residues: a walk from the root to the parts. Each visited node's residue is kept, so that a shared part is evaluated once.
+#![tactic(auto)]
+
 ghost use Rattle.std.specs.Prelude.{◌≡◌, ◌<◌};
 ghost use Rattle.residue.specs.Residue.{Modulus};
 ghost use Rattle.pool.specs.Pool.{limit, node_in};

@@ -1,1 +1,2 @@
 // The starred examples of document 01, as one proved statement; there is no code here.
+#![tactic(auto)]

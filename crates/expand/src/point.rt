@@ -10,7 +10,7 @@ use pool::{LIMIT, Made, Node, Room};
 use taylor_base::{Expanded, answer_of};
 
 // Where an expansion is made: at the variable itself, or at a number.
-#[derive(Drop)]
+#[derive(Clone, Copy)]
 pub enum Point {
     None,
     At(i64),

@@ -1,4 +1,6 @@
 // Factorials as literals.
+#![tactic(auto)]
+
 ghost use Rattle.std.specs.Prelude.{◌≡◌, pos};
 ghost use Rattle.literal.specs.Literal.{folded};
 ghost use Rattle.factorial.specs.Factorial.{factorial_of};

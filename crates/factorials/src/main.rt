@@ -1,4 +1,6 @@
 // Shows factorials: 0! to 20!, and that of the greatest number there is, 2^64 - 1. Expected are Python's math.factorial, and 12 from 19! on by document 01.
+#![tactic(auto)]
+
 use libc::STDOUT_FILENO;
 use literal::Folded;
 

@@ -1,4 +1,6 @@
 // The inputs of the programs, standard input, nodes.bin and a strip's file, read to their end. Each read's own answer says whether it failed.
+#![tactic(auto)]
+
 ghost use Rattle.std.specs.Prelude.{◌≤◌, length};
 ghost use Rattle.inputs.specs.Rooms.{Within, More, Decides};
 
@@ -13,7 +15,7 @@ pub const FILE_ROOM: usize = 4 + 9 * LIMIT + 1;
 pub const STRIP_ROOM: usize = TEXT_MAX + 1;
 
 // How many bytes were read; that there is no such file; or that reading failed, which standard error has been told.
-#[derive(Drop)]
+#[derive(Clone, Copy)]
 pub enum Input {
     Bytes(usize),
     Missing,

@@ -12,7 +12,7 @@ use pool::Node;
 pub const LINE_ROOM: usize = 32;
 
 // The place behind the line in the output, and the next key's place in the strip.
-#[derive(Drop)]
+#[derive(Clone, Copy)]
 pub struct KeyLine {
     pub end: usize,
     pub next: usize,

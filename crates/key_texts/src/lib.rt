@@ -1,4 +1,6 @@
 // What the programs of the key strips print: the keys of a strip, and the answer of a run.
+#![tactic(auto)]
+
 mod answer;
 mod keys;
 

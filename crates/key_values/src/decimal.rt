@@ -12,7 +12,7 @@ use sheet_line::Number;
 const DIGITS: usize = 15;
 
 // A value that was read, or none.
-#[derive(Drop)]
+#[derive(Clone, Copy)]
 pub enum Value {
     None,
     Double(f64),

@@ -11,7 +11,7 @@ use sheet_line::Number;
 pub const LINE_MAX: usize = 131_074;
 
 // How many values the table has now, or that the line is no list of values.
-#[derive(Drop)]
+#[derive(Clone, Copy)]
 pub enum Values {
     Usage,
     Count(usize),

@@ -1,4 +1,6 @@
 // The program `keys`: runs the strip in the file that its argument names, over the values on the line of standard input.
+#![tactic(auto)]
+
 use double::Valued;
 use engine_values::VALUES_MAX;
 use inputs::{Input, STRIP_ROOM};

@@ -1,4 +1,6 @@
 // What a caller lends: both tables of the pool are tested and taken in, and after an accepted call the new entries are put back.
+#![tactic(auto)]
+
 ghost use Rattle.std.specs.Prelude.{◌≡◌, true, [], ◌∷◌, leb, length, replicate, ◌≤◌};
 ghost use Rattle.pool.specs.Pool.{limit, is_pool};
 ghost use Rattle.pool.specs.Made.{made};
@@ -16,14 +18,14 @@ use pool::{LIMIT, Made};
 pub use rules::is_pool;
 
 // What a call from outside gives: a node number, or the refusal number.
-#[derive(Drop)]
+#[derive(Clone, Copy)]
 pub enum Answer {
     Node(u64),
     Refused(u32),
 }
 
 // What a call that fills an output gives: how many bytes were written, or the refusal number.
-#[derive(Drop)]
+#[derive(Clone, Copy)]
 pub enum Written {
     Length(u64),
     Refused(u32),

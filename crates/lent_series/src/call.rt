@@ -11,7 +11,7 @@ use pool::{LIMIT, Made};
 use taylor_base::{Expanded, Status, TERMS};
 
 // 0 and an expansion, or the refusal number and zeros.
-#[derive(Drop)]
+#[derive(Clone, Copy)]
 pub struct Outcome {
     pub number: u32,
     pub series: Series,

@@ -1,4 +1,6 @@
 // Expansions as a caller lends and gets them, and the end of a call that gives one.
+#![tactic(auto)]
+
 mod call;
 mod series;
 

@@ -11,7 +11,7 @@ use taylor_base::{Expansion, TERMS};
 pub const ENDLESS: u64 = 0xffff_ffff_ffff_ffff;
 
 // A list of `order` coefficients, or a constant, which stands in coeffs[0] and whose order is ENDLESS.
-#[derive(Drop)]
+#[derive(Clone, Copy)]
 pub struct Series {
     pub order: u64,
     pub coeffs: [u64; TERMS],

@@ -1,5 +1,7 @@
 // The program `listing`: the keys of the strip in the file that its argument names, a line each.
 // Nothing is printed before the whole strip is tested.
+#![tactic(auto)]
+
 use inputs::{Input, STRIP_ROOM};
 use key_texts::LINE_ROOM;
 

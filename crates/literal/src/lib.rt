@@ -1,4 +1,6 @@
 // Literals: whole numbers from -(2^53 - 1) to 2^53 - 1, held as an i64 and stored as a word.
+#![tactic(auto)]
+
 ghost use Rattle.std.specs.Prelude.{◌≡◌, ◌+◌, nat_abs, neg_ℤ, ◌+ℤ◌, ◌*ℤ◌};
 ghost use Rattle.literal.specs.Literal.{is_literal, is_zero, is_one, folded, exp_of, log_of, signed, word};
 
@@ -6,7 +8,7 @@ ghost use Rattle.literal.specs.Literal.{is_literal, is_zero, is_one, folded, exp
 pub const LITERAL_MAX: u64 = 9_007_199_254_740_991;
 
 // A folded literal, or the refusal number of document 01.
-#[derive(Drop)]
+#[derive(Clone, Copy)]
 pub enum Folded {
     Value(i64),
     Refused(u32),

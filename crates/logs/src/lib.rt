@@ -1,4 +1,6 @@
 // The constructors `log`, `div` and `max`: which rule holds, and what it builds.
+#![tactic(auto)]
+
 mod made;
 mod rule;
 

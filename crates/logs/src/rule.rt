@@ -10,7 +10,7 @@ use pool::LIMIT;
 use views::Shape;
 
 // What `log` has to build.
-#[derive(Drop)]
+#[derive(Clone, Copy)]
 pub enum LogRule {
     // lit(0)
     Zero,
@@ -23,7 +23,7 @@ pub enum LogRule {
 }
 
 // What `div` has to build.
-#[derive(Drop)]
+#[derive(Clone, Copy)]
 pub enum DivRule {
     // lit(0)
     Zero,

@@ -1,4 +1,6 @@
 // Bytes in lent tables: numbers with the low byte first, and an output that is written from a position on.
+#![tactic(auto)]
+
 mod number;
 mod output;
 

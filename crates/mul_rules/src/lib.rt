@@ -1,4 +1,6 @@
 // Which rule of `mul` holds for two nodes: the groups of the Rust's table, tried in its order. Nothing is written.
+#![tactic(auto)]
+
 ghost use Rattle.std.specs.Prelude.{◌≡◌};
 ghost use Rattle.pool.specs.Pool.{node_in};
 ghost use Rattle.views.specs.Shapes.{shape_of};
@@ -10,7 +12,7 @@ use pool::LIMIT;
 use views::Shape;
 
 // What is to be built; numbers of nodes and exponents are u32, literals i64.
-#[derive(Drop)]
+#[derive(Clone, Copy)]
 pub enum MulRule {
     // lit(0)
     Zero,
@@ -37,21 +39,21 @@ pub enum MulRule {
 }
 
 // One group of rules: it decides, or the next group is tried.
-#[derive(Drop)]
+#[derive(Clone, Copy)]
 pub enum Tried {
     Is(MulRule),
     Next,
 }
 
 // What `if let Lit(z) = ..` of the Rust finds.
-#[derive(Drop)]
+#[derive(Clone, Copy)]
 pub enum LitSeen {
     Lit(i64),
     Not,
 }
 
 // What `if let Exp(a) = ..` of the Rust finds.
-#[derive(Drop)]
+#[derive(Clone, Copy)]
 pub enum ExpSeen {
     Exp(u32),
     Not,

@@ -1,4 +1,6 @@
 // The constructors `mul`, `exp`, `pow` and `neg`: which rule holds, and what it builds.
+#![tactic(auto)]
+
 mod made;
 mod neg;
 mod power;

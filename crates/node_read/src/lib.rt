@@ -1,4 +1,6 @@
 // nodes.bin read into a pool: its length, its entries and their order are looked at, and then the nodes are appended.
+#![tactic(auto)]
+
 ghost use Rattle.std.specs.Prelude.{◌≡◌, ◌+◌, ◌≤◌, eqb, get_or};
 ghost use Rattle.pool.specs.Pool.{limit, node_in, each};
 ghost use Rattle.pool.specs.Made.{next_of, made, pool_of};
@@ -12,7 +14,7 @@ ghost use Rattle.node_read.specs.Reads.{accepted_size, HasEntries, Zeros, Entere
 use pool::{LIMIT, Made, Node, Parts, ROWS, Room};
 
 // What the test of a node file gives: how many entries it has, or the refusal number.
-#[derive(Drop)]
+#[derive(Clone, Copy)]
 pub enum Tested {
     Entries(usize),
     Refused(u32),

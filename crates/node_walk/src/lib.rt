@@ -1,4 +1,6 @@
 // The writing order of nodes.bin: the walk that numbers the nodes reachable from the roots.
+#![tactic(auto)]
+
 ghost use Rattle.std.specs.Prelude.{◌<◌};
 ghost use Rattle.pool.specs.Pool.{limit, node_in};
 ghost use Rattle.shape.specs.Order.{numbered};

@@ -1,4 +1,6 @@
 // nodes.bin written from one root into a lent output.
+#![tactic(auto)]
+
 ghost use Rattle.std.specs.Prelude.{◌≡◌, [], ◌∷◌, map, ◌+◌, ◌*◌, ◌<◌, ◌≤◌, length, get_or};
 ghost use Rattle.std.proofs.lemmas.List.Edits.{sets};
 ghost use Rattle.pool.specs.Nodes.{kind_of, parts};
@@ -12,7 +14,7 @@ ghost use Rattle.node_write.specs.Output.{HasRoots, file_output, file_into};
 use pool::{LIMIT, Node, Parts};
 
 // What writing gives: how many bytes the file has, or that the output is too short.
-#[derive(Drop)]
+#[derive(Clone, Copy)]
 pub enum FileLength {
     Bytes(u64),
     NoRoom,

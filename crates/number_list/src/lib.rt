@@ -1,4 +1,6 @@
 // A list of numbers in a text, and whether two tables are equal: what the program `replay` reads and compares with.
+#![tactic(auto)]
+
 mod numbers;
 mod same;
 mod tables;

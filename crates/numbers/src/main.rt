@@ -1,4 +1,6 @@
 // Shows the numbers at work: folded literals, residues, doubles, factorials, and the names of variables, a line each.
+#![tactic(auto)]
+
 use libc::STDOUT_FILENO;
 use literal::Folded;
 use residue::Divided;

@@ -1,4 +1,6 @@
 // What the programs print. Each function answers whether all of it was written; where not, standard error is told.
+#![tactic(auto)]
+
 use libc::STDOUT_FILENO;
 
 // Bytes to standard output.

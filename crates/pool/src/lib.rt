@@ -1,4 +1,6 @@
 // The pool of expressions: nodes, and the two tables that hold them.
+#![tactic(auto)]
+
 mod halves;
 mod node;
 mod parts;

@@ -11,7 +11,7 @@ pub const EXPONENT_MIN: u32 = 2;
 pub const HALF: u64 = 0x1_0000_0000;
 
 // An unfolded node; parts are node numbers. Empty stands for what is no node.
-#[derive(Drop)]
+#[derive(Clone, Copy)]
 pub enum Node {
     Empty,
     Variable(u32),

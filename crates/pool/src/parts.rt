@@ -6,7 +6,7 @@ ghost use Rattle.pool.specs.Parts.{parts_in, Counted, with_parts};
 use crate::node::Node;
 
 // A node's parts, the left or only part first.
-#[derive(Drop)]
+#[derive(Clone, Copy)]
 pub enum Parts {
     None,
     One(u32),
@@ -31,7 +31,7 @@ pub fn parts_of(node: Node) -> Parts
 }
 
 // The parts of a node and how many they are: a loop goes over them, with one call for all.
-#[derive(Drop)]
+#[derive(Clone, Copy)]
 pub struct CountedParts {
     pub count: u32,
     pub left: u32,

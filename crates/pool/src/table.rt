@@ -10,7 +10,7 @@ pub const LIMIT: usize = 4096;
 
 // The room in a pool: the number of the next node in the low half of a word, and the number at which there is no room in the high half. It is one word
 // since it is handed on with every node: two numbers, stored one by one and then read as one, take a processor longer.
-#[derive(Drop)]
+#[derive(Clone, Copy)]
 pub struct Room {
     pub word: u64,
 }
@@ -32,7 +32,7 @@ pub fn next_of(room: Room) -> u32
 }
 
 // What a constructor gives: a node and the room left, or the refusal number.
-#[derive(Drop)]
+#[derive(Clone, Copy)]
 pub enum Made {
     Node { node: u32, room: Room },
     Refused(u32),

@@ -1,4 +1,6 @@
 // Printing: how long the text is, and the text itself.
+#![tactic(auto)]
+
 mod output;
 mod walk;
 mod whole;

@@ -1,4 +1,6 @@
 // Whether a node that meets a test is reached: what holds of each node up to the root is kept in a table, the smaller numbers first.
+#![tactic(auto)]
+
 ghost use Rattle.std.specs.Prelude.{◌≡◌, ◌≤◌, length};
 ghost use Rattle.pool.specs.Nodes.{parts};
 ghost use Rattle.pool.specs.Pool.{limit, node_in};
@@ -8,7 +10,7 @@ ghost use Rattle.reached.specs.Kept.{test_of, kept_below, FoundBelow};
 use pool::{LIMIT, Node, Parts};
 
 // What is looked for.
-#[derive(Drop)]
+#[derive(Clone, Copy)]
 pub enum Test {
     Max,
     ExpOrLog,

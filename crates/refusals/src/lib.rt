@@ -1,4 +1,6 @@
 // The refusal numbers of document 01, and those that document 02 adds, by name. specs/Refusals.antt has the same names and the papers' words for each.
+#![tactic(auto)]
+
 pub const BROKEN_POOL: u32 = 1;
 
 pub const UNKNOWN_NODE: u32 = 2;

@@ -39,7 +39,7 @@ pub const RUN_STRIP_ALIKE: u64 = 51;
 const FIRST_EXPANSION: u64 = 30;
 
 // How an operation is made and its answer compared.
-#[derive(Drop)]
+#[derive(Clone, Copy)]
 enum Group {
     Node,
     Value,

@@ -10,7 +10,7 @@ use number_list::next;
 pub const UNLISTED: u32 = 99;
 
 // 0 and the answer, or the refusal number and 0.
-#[derive(Drop)]
+#[derive(Clone, Copy)]
 pub struct Got {
     pub number: u64,
     pub value: u64,

@@ -1,4 +1,6 @@
 // The calls of the list on nodes, values, texts, files and strips: each reads its arguments, asks the engine, and compares the answer with the one listed.
+#![tactic(auto)]
+
 mod builds;
 mod checks;
 mod got;

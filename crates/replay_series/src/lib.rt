@@ -1,4 +1,6 @@
 // The calls of the list on expansions: each reads its arguments, asks the engine, and compares the answer with the one listed.
+#![tactic(auto)]
+
 mod expansions;
 mod given;
 mod operations;

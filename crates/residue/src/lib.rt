@@ -1,4 +1,6 @@
 // Residues of a modulus, which need not be prime: of a literal, sum, product, power, quotient.
+#![tactic(auto)]
+
 ghost use Rattle.std.specs.Prelude.{◌≡◌, ◌<◌};
 ghost use Rattle.residue.specs.Residue.{Modulus, residue, sum_of, product_of, power_of, quotient_of};
 
@@ -8,7 +10,7 @@ pub const MODULUS_MAX: u64 = 2_147_483_647;
 pub const MODULUS: u64 = MODULUS_MAX;
 
 // A quotient, or the refusal number of document 01.
-#[derive(Drop)]
+#[derive(Clone, Copy)]
 pub enum Divided {
     Residue(u64),
     Refused(u32),

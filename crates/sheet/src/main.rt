@@ -1,6 +1,8 @@
 // The program `sheet`: the coefficient sheet of the expression in nodes.bin, for one line from standard input.
 // Its whole text is known before a byte of it is printed; the pieces, asked for in order, are proved to be that text.
 // An input that cannot be read is named on standard error, and then nothing is printed.
+#![tactic(auto)]
+
 ghost use Rattle.inputs.specs.Rooms.{Within};
 
 use inputs::{FILE_ROOM, Input};

@@ -1,4 +1,6 @@
 // The input line of the coefficient sheet, read byte by byte: variable, order and, if wanted, point.
+#![tactic(auto)]
+
 ghost use Rattle.std.specs.Prelude.{◌≡◌, [], ◌∷◌, ◌≤◌};
 ghost use Rattle.sheet_text.specs.Line.{digits_from, decimal_of, point_of, line_of, parse};
 ghost use Rattle.sheet_line.specs.Cut.{cut_at, cut, cut_number, cut_whole, cut_line};
@@ -11,28 +13,28 @@ const CUT: u64 = 0x20_0000_0000_0000;
 pub const LINE_MAX: usize = 64;
 
 // The point, if the line has one.
-#[derive(Drop)]
+#[derive(Clone, Copy)]
 pub enum Place {
     None,
     At(i64),
 }
 
 // What a line asks for, or that it has not the form.
-#[derive(Drop)]
+#[derive(Clone, Copy)]
 pub enum Line {
     Usage,
     Asks { var: u64, order: u64, place: Place },
 }
 
 // A number that was read, or none.
-#[derive(Drop)]
+#[derive(Clone, Copy)]
 pub enum Number {
     None,
     Value(u64),
 }
 
 // The same with a sign.
-#[derive(Drop)]
+#[derive(Clone, Copy)]
 enum Whole {
     None,
     Value(i64),

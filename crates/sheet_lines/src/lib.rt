@@ -1,4 +1,6 @@
 // The whole sheet of a file and a line, known before a byte of it is printed.
+#![tactic(auto)]
+
 mod answer;
 mod prepare;
 mod rooms;

@@ -10,7 +10,7 @@ use expand::Point;
 use taylor_base::TERMS;
 
 // What a sheet is: `usage`, a refusal, or coefficients.
-#[derive(Drop)]
+#[derive(Clone, Copy)]
 pub enum Verdict {
     Usage,
     Refused(u32),
@@ -18,7 +18,7 @@ pub enum Verdict {
 }
 
 // A sheet: what its first line says, and how many coefficients follow, which are nodes of a pool.
-#[derive(Drop)]
+#[derive(Clone, Copy)]
 pub struct Page {
     pub verdict: Verdict,
     pub var: u32,

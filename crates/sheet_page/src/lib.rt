@@ -1,4 +1,6 @@
 // A sheet that is known to be whole, and its pieces.
+#![tactic(auto)]
+
 mod first;
 mod pieces;
 

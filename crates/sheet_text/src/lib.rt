@@ -1,1 +1,2 @@
 // The definition of the coefficient sheet, in specs/; there is no code here.
+#![tactic(auto)]

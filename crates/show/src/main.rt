@@ -1,4 +1,6 @@
 // The program `show`: the expression in nodes.bin as text, for an author who wants to look at a file.
+#![tactic(auto)]
+
 use inputs::{FILE_ROOM, Input};
 use lent::{Answer, Written};
 use pool::LIMIT;

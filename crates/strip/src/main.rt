@@ -1,5 +1,7 @@
 // The program `strip`: the key strip of the expression in nodes.bin, as bytes for a stack calculator.
 // Standard output has the strip and nothing else; a refusal is said on standard error, and then nothing is printed.
+#![tactic(auto)]
+
 use inputs::{FILE_ROOM, Input};
 use lent::{Answer, Written};
 use pool::LIMIT;

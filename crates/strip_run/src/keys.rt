@@ -44,7 +44,7 @@ fn key_of(code: u8, x: u64) -> Node
 }
 
 // A key and the place after it.
-#[derive(Drop)]
+#[derive(Clone, Copy)]
 pub struct Key {
     pub node: Node,
     pub next: usize,

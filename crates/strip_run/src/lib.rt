@@ -1,4 +1,6 @@
 // The machine of the key strips: a strip of any bytes is tested, and one that passes runs.
+#![tactic(auto)]
+
 mod keys;
 mod operands;
 mod running;

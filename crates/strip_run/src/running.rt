@@ -19,7 +19,7 @@ use key_strip::PLACES;
 const HELD: usize = PLACES as usize;
 
 // What a key gives, which is then topmost, the value below it, the place after the key, and the places then in use.
-#[derive(Drop)]
+#[derive(Clone, Copy)]
 pub struct Moved {
     pub found: Valued,
     pub below: f64,

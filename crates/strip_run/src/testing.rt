@@ -8,7 +8,7 @@ use key_strip::PLACES;
 use pool::EXPONENT_MIN;
 
 // What the test of a key gives: the place after it and the places then in use, or that it is none, a value is missing or there is no place.
-#[derive(Drop)]
+#[derive(Clone, Copy)]
 pub enum Tested {
     On { next: usize, depth: usize },
     Wrong,

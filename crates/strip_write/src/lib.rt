@@ -1,4 +1,6 @@
 // Key strips: what the strip of a root needs, and the strip itself.
+#![tactic(auto)]
+
 mod need;
 mod writer;
 

@@ -15,7 +15,7 @@ const PAST_PLACES: u32 = PLACES + 1;
 const PAST_LONGEST: u32 = TEXT_MAX as u32 + 1;
 
 // What a strip needs.
-#[derive(Drop)]
+#[derive(Clone, Copy)]
 pub struct Need {
     pub places: u32,
     pub length: u32,

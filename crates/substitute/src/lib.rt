@@ -1,4 +1,6 @@
 // `substitute_with` of the source: a walk from a node to its parts, with each visited node's result kept.
+#![tactic(auto)]
+
 mod rebuild;
 mod walk;
 mod work;

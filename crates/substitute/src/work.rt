@@ -8,7 +8,7 @@ use constructor_calls::{One, Two};
 use pool::Node;
 
 // A refusal, the node that is put, or a node of one part or of two to be rebuilt.
-#[derive(Drop)]
+#[derive(Clone, Copy)]
 pub enum Work {
     Refused(u32),
     Leaf(u32),

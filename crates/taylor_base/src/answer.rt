@@ -11,7 +11,7 @@ use pool::{LIMIT, Made, Room};
 pub const TERMS: usize = 25;
 
 // A constant, which stands in coeffs[0], or a list of len coefficients.
-#[derive(Drop)]
+#[derive(Clone, Copy)]
 pub struct Expansion {
     pub constant: bool,
     pub len: u32,
@@ -19,14 +19,14 @@ pub struct Expansion {
 }
 
 // The room that is left, or the refusal number.
-#[derive(Drop)]
+#[derive(Clone, Copy)]
 pub enum Status {
     Done(Room),
     Refused(u32),
 }
 
 // What an operation gives: an expansion and the room left, or the refusal number.
-#[derive(Drop)]
+#[derive(Clone, Copy)]
 pub struct Expanded {
     pub status: Status,
     pub expansion: Expansion,

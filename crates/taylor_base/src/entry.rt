@@ -10,7 +10,7 @@ use constructors::DEPTH;
 use pool::{LIMIT, Made, Room};
 
 // What to make of an entry u of the one list and w of the other.
-#[derive(Drop)]
+#[derive(Clone, Copy)]
 pub enum Entry {
     // w + u
     Sum,

@@ -1,4 +1,6 @@
 // Expansions by value, and what is done to them entry by entry: sums, differences, negatives, and products and quotients with a constant.
+#![tactic(auto)]
+
 mod answer;
 mod entry;
 mod sums;

@@ -1,4 +1,6 @@
 // `derivative` of an expansion: a factorial times a coefficient.
+#![tactic(auto)]
+
 ghost use Rattle.std.specs.Prelude.{◌≡◌, ◌≤◌, ◌<◌, length};
 ghost use Rattle.pool.specs.Pool.{limit};
 ghost use Rattle.pool.specs.Made.{made, pool_of};

@@ -1,1 +1,2 @@
 // What the definitions of the expansions promise of every pool, proved in proofs/; there is no code here.
+#![tactic(auto)]

@@ -1,4 +1,6 @@
 // Products of expansions, their powers, and the substitution of one into another.
+#![tactic(auto)]
+
 mod power;
 mod product;
 mod subst;

@@ -11,7 +11,7 @@ use pool::{LIMIT, Made, Room};
 use taylor_base::Expansion;
 
 // What is done with an entry x of the one list and y of the other.
-#[derive(Drop)]
+#[derive(Clone, Copy)]
 pub enum Term {
     // sum + x * y
     Plus,

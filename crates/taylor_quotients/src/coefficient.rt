@@ -12,7 +12,7 @@ use taylor_base::{Expansion, at, from_in};
 use taylor_products::{Term, fold_in};
 
 // What the coefficients of an answer are.
-#[derive(Drop)]
+#[derive(Clone, Copy)]
 pub enum Recurrence {
     // of a constant over the list ws
     OfConstant { scale: u32, zero: u32 },

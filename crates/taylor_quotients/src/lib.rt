@@ -1,4 +1,6 @@
 // Quotients of expansions, and their exponentials and logarithms.
+#![tactic(auto)]
+
 mod coefficient;
 mod exp;
 mod log;

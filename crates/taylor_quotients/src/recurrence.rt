@@ -12,7 +12,7 @@ use pool::{LIMIT, Made, Room};
 use taylor_base::{Expanded, Expansion, Status, TERMS, answer_of, at, from_in};
 
 // What is made.
-#[derive(Drop)]
+#[derive(Clone, Copy)]
 pub enum Operation {
     // a constant over the list ws
     ConstantOver(u32),

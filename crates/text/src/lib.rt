@@ -1,4 +1,6 @@
 // Numbers and variables as text, byte by byte.
+#![tactic(auto)]
+
 ghost use Rattle.std.specs.Prelude.{◌≡◌, ◌∷◌, ◌+◌, ◌<◌};
 ghost use Rattle.text.specs.Text.{Contains, content, decimal, signed_decimal, display, letters, letter_a};
 
@@ -9,7 +11,7 @@ pub const ROOM: usize = 24;
 pub const LETTERS: u64 = 26;
 
 // The bytes of a short text stand at the end of the array, from start on.
-#[derive(Drop)]
+#[derive(Clone, Copy)]
 pub struct Text {
     pub bytes: [u8; ROOM],
     pub start: usize,

@@ -1,4 +1,6 @@
 // What the rules of the constructors look at in a node.
+#![tactic(auto)]
+
 ghost use Rattle.std.specs.Prelude.{◌≡◌};
 ghost use Rattle.pool.specs.Pool.{node_in};
 ghost use Rattle.views.specs.Shapes.{shape_of};
@@ -6,7 +8,7 @@ ghost use Rattle.views.specs.Shapes.{shape_of};
 use pool::{LIMIT, Node};
 
 // A node as the rules see it: five kinds matter to them.
-#[derive(Drop)]
+#[derive(Clone, Copy)]
 pub enum Shape {
     Lit(i64),
     Add(u32, u32),
