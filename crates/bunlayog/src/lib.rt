@@ -7,7 +7,7 @@ pub mod expansion_one;
 pub mod expansion_two;
 pub mod expansion_walk;
 pub mod file;
-pub mod print;
+pub mod printing;
 pub mod strip;
 pub mod values;
 pub mod walk;

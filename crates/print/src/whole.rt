@@ -46,7 +46,7 @@ fn print_by(
         text_in(kinds, words, root, out);
         return length as u32;
     }
-    bytes::copy(&scratch[..length], out);
+    out[..length].copy_from_slice(&scratch[..length]);
     length as u32
 }
 

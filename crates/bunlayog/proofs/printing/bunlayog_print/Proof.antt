@@ -2,8 +2,8 @@
 -- Assumes nothing.
 use borrow.Author.Rules.{rules}
 use Rattle.c_answers.proofs.InC.{written_in_c_lem}
-use Rattle.bunlayog.proofs.print.bunlayog_print.Statement.{statement}
-use Rattle.bunlayog.proofs.print.bunlayog_print.Tie as tie
+use Rattle.bunlayog.proofs.printing.bunlayog_print.Statement.{statement}
+use Rattle.bunlayog.proofs.printing.bunlayog_print.Tie as tie
 
 print_requires : tie.Need-print-requires
 print_requires c κs = search rules
