@@ -1,0 +1,29 @@
+-- `residue::power` meets its contract. The loop's invariant: the product so far times the base to the exponent left is the whole power, modulo m.
+-- The measure is the exponent left. Assumes nothing.
+use mathlib.Core.Logic.{⊎_elim}
+use native.Mathlib.Omega.{arith}
+use Rattle.residue.proofs.Congruence.{product_fits}
+use Rattle.residue.proofs.Squaring.{Squares, squares_begin, squares_odd, squares_even, squares_end}
+use Rattle.residue.proofs.power.Goals as goal
+
+pub loop-n-init : goal.loop-n-init
+loop-n-init c = squares_begin c.args.m c.args.a c.args.e c.requires.modulus.least c.requires.a_lt_m
+
+pub overflow_mul-acc : goal.overflow_mul-acc
+overflow_mul-acc c = product_fits c.requires.modulus c.loop-n.acc c.loop-n.b (omega arith) (omega arith)
+
+pub overflow_mul-b : goal.overflow_mul-b
+overflow_mul-b c = product_fits c.requires.modulus c.loop-n.b c.loop-n.b (omega arith) (omega arith)
+
+pub loop-n-preserved : goal.loop-n-preserved
+loop-n-preserved c =
+    let start = c.args in
+    ⊎_elim
+    (λ odd. rw odd.1 (squares_odd start.m start.a start.e c.loop-n.acc c.loop-n.b c.loop-n.n odd.0.taken c.loop-n.invariant))
+    (λ even. rw even.1 (squares_even start.m start.a start.e c.loop-n.acc c.loop-n.b c.loop-n.n even.0.left c.loop-n.invariant))
+    c.if-n-eq1.branch
+
+pub returns : goal.returns
+returns c =
+    let start = c.args in
+    squares_end start.m start.a start.e c.loop-n.acc c.loop-n.b c.loop-n.n (omega arith) c.loop-n.invariant
