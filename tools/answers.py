@@ -267,7 +267,7 @@ def rewrite(body, f, place, said, var="c", need=None, used=None):
                 said.append(f"no step {left[0]} at {p}")
                 return ".".join([var] + left)
             new = [n] + left[1:]
-        return ".".join([var] + new)
+        return ".".join([var] + ["type_inv" if x == "type-inv" else x for x in new])
 
     pattern = re.compile(r"(?<![\w'.₀-₉-])(" + W + r")((?:\.(?!\.)" + W + r")*)")
     out = []

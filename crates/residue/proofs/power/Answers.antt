@@ -5,6 +5,7 @@ use native.Mathlib.Omega.{arith}
 use Rattle.residue.proofs.Congruence.{product_fits}
 use Rattle.residue.proofs.Squaring.{Squares, squares_begin, squares_odd, squares_even, squares_end}
 use Rattle.residue.proofs.power.Goals as goal
+use Rattle.residue.proofs.power.Goals.{then-n-eq1, else-n-eq1}
 
 pub loop-n-init : goal.loop-n-init
 loop-n-init c = squares_begin c.args.m c.args.a c.args.e c.requires.modulus.least c.requires.a_lt_m
@@ -18,10 +19,10 @@ overflow_mul-b c = product_fits c.requires.modulus c.loop-n.b c.loop-n.b (omega 
 pub loop-n-preserved : goal.loop-n-preserved
 loop-n-preserved c =
     let start = c.args in
-    ⊎_elim
-    (λ odd. rw odd.1 (squares_odd start.m start.a start.e c.loop-n.acc c.loop-n.b c.loop-n.n odd.0.taken c.loop-n.invariant))
-    (λ even. rw even.1 (squares_even start.m start.a start.e c.loop-n.acc c.loop-n.b c.loop-n.n even.0.left c.loop-n.invariant))
-    c.if-n-eq1.branch
+    elim c.if-n-eq1.branch [
+      then-n-eq1 w ↦ rw w.acc-is (squares_odd start.m start.a start.e c.loop-n.acc c.loop-n.b c.loop-n.n w.if-n-eq1.true c.loop-n.invariant)
+      | else-n-eq1 w ↦ rw w.acc-is (squares_even start.m start.a start.e c.loop-n.acc c.loop-n.b c.loop-n.n w.if-n-eq1.false c.loop-n.invariant)
+    ]
 
 pub returns : goal.returns
 returns c =

@@ -23,10 +23,10 @@ pub overflow_mul-result : goal.overflow_mul-result
 overflow_mul-result c =
     let x = c.in-Residue.x in
     product_fits c.requires.modulus c.args.a x (le_of_lt c.requires.a_lt_m)
-    (le_of_lt (quotient_exact c.args.m 1 c.args.d x c.requires.modulus.least (inverse_is c.before)).below)
+    (le_of_lt (quotient_exact c.args.m 1 c.args.d x c.requires.modulus.least (inverse_is (goal.at.overflow_mul-result c).In-Residue)).below)
 
 pub returns : goal.returns
 returns c =
     sym
     (quotient_by_inverse c.args.m c.args.a c.args.d c.in-Residue.x
-    c.requires.modulus.least c.requires.a_lt_m (inverse_is c.before))
+    c.requires.modulus.least c.requires.a_lt_m (inverse_is (goal.at.returns c).In-Residue))
