@@ -2,7 +2,7 @@
 ghost use Rattle.std.specs.Prelude.{◌≡◌};
 ghost use Rattle.constructors.specs.Terms.{skip, return};
 ghost use Rattle.constructors.specs.Patterns.{lit_in, add_in};
-ghost use Rattle.constructors.specs.Tables.{addTable};
+ghost use Rattle.constructors.specs.Tables.{add_table};
 ghost use Rattle.pool.specs.Pool.{node_in};
 ghost use Rattle.adds.specs.Rule.{add_term};
 
@@ -27,7 +27,7 @@ pub enum AddRule {
 }
 
 pub fn add_rule(kinds: &[u8; LIMIT], words: &[u64; LIMIT], lhs: u32, rhs: u32) -> AddRule
-    ensures { add_term result ≡ addTable (node_in kinds.now words.now) lhs rhs }
+    ensures { add_term result ≡ add_table (node_in kinds.now words.now) lhs rhs }
 {
     let shape = views::shape_at(kinds, words, lhs);
     match shape {
@@ -41,7 +41,7 @@ pub fn add_rule(kinds: &[u8; LIMIT], words: &[u64; LIMIT], lhs: u32, rhs: u32) -
 fn lit_rule(kinds: &[u8; LIMIT], words: &[u64; LIMIT], lhs: u32, rhs: u32, a: i64) -> AddRule
     requires lhs_value { lit_in (node_in kinds.now words.now lhs) ≡ return a }
     requires lhs_value_2 { add_in (node_in kinds.now words.now lhs) ≡ skip }
-    ensures { add_term result ≡ addTable (node_in kinds.now words.now) lhs rhs }
+    ensures { add_term result ≡ add_table (node_in kinds.now words.now) lhs rhs }
 {
     if literal::is_zero(a) {
         return AddRule::Same(rhs);
@@ -75,7 +75,7 @@ fn sum_rule(
 ) -> AddRule
     requires lhs_value { lit_in (node_in kinds.now words.now lhs) ≡ skip }
     requires lhs_value_2 { add_in (node_in kinds.now words.now lhs) ≡ return (a, b) }
-    ensures { add_term result ≡ addTable (node_in kinds.now words.now) lhs rhs }
+    ensures { add_term result ≡ add_table (node_in kinds.now words.now) lhs rhs }
 {
     let shape = views::shape_at(kinds, words, rhs);
     match shape {
@@ -108,7 +108,7 @@ fn sums_rule(
     requires lhs_value_2 { add_in (node_in kinds.now words.now lhs) ≡ return (a, b) }
     requires rhs_value { lit_in (node_in kinds.now words.now rhs) ≡ skip }
     requires rhs_value_2 { add_in (node_in kinds.now words.now rhs) ≡ return (c, d) }
-    ensures { add_term result ≡ addTable (node_in kinds.now words.now) lhs rhs }
+    ensures { add_term result ≡ add_table (node_in kinds.now words.now) lhs rhs }
 {
     let shape = views::shape_at(kinds, words, d);
     let Shape::Lit(x) = views::shape_at(kinds, words, b) else {
@@ -127,7 +127,7 @@ fn sums_rule(
 fn other_rule(kinds: &[u8; LIMIT], words: &[u64; LIMIT], lhs: u32, rhs: u32) -> AddRule
     requires lhs_value { lit_in (node_in kinds.now words.now lhs) ≡ skip }
     requires lhs_value_2 { add_in (node_in kinds.now words.now lhs) ≡ skip }
-    ensures { add_term result ≡ addTable (node_in kinds.now words.now) lhs rhs }
+    ensures { add_term result ≡ add_table (node_in kinds.now words.now) lhs rhs }
 {
     let Shape::Lit(b) = views::shape_at(kinds, words, rhs) else {
         return AddRule::Plain(lhs, rhs);

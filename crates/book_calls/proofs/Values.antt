@@ -19,7 +19,7 @@ use Rattle.book.specs.Formula.{Formula, #, ◌⊗◌, ◌⊘◌, Exp, Log, work}
 use Rattle.meaning.specs.Model.{Algebra, Model, Distributive}
 use Rattle.meaning.specs.Value.{Values, value}
 use Rattle.taylor_meaning.specs.Series.{series, Fractions}
-use Rattle.taylor_meaning.specs.Coefficients.{MeansSeries, asSeries}
+use Rattle.taylor_meaning.specs.Coefficients.{MeansSeries, as_series}
 use Rattle.taylor_meaning.proofs.Theorems.{expansion_means}
 use Rattle.book_meaning.proofs.Working.{Stands}
 use Rattle.book_meaning.proofs.Recurrences.{worked_has_its_value}
@@ -119,14 +119,14 @@ module _ {A : Algebra} (M : Model A) (D : Distributive A) (fractions : Fractions
     module _ (from v order : ℕ) (words : (i : ℕ) → get_or ws i 0 < 2 ^ 64) where
       pub coeffs_call_means :
           Answered (expand_work from v none order) ks ws n r ks' ws' n'
-          → MeansSeries A env (lent_pool ks ws n) (suc order) (value (series A) (asSeries A env v none) (node_at (lent_pool ks ws n)) from) (given r.series) (lent_pool ks' ws' n')
+          → MeansSeries A env (lent_pool ks ws n) (suc order) (value (series A) (as_series A env v none) (node_at (lent_pool ks ws n)) from) (given r.series) (lent_pool ks' ws' n')
       coeffs_call_means =
-          expansion_holds from v order none (λ Q e. MeansSeries A env (lent_pool ks ws n) (suc order) (value (series A) (asSeries A env v none) (node_at (lent_pool ks ws n)) from) e Q)
+          expansion_holds from v order none (λ Q e. MeansSeries A env (lent_pool ks ws n) (suc order) (value (series A) (as_series A env v none) (node_at (lent_pool ks ws n)) from) e Q)
           (λ keeps inside known small e Q eq. expansion_means M env keeps D v known none order fractions words from inside eq)
 
       pub coeffs_at_call_means :
           (z : ℤ) → Answered (expand_work from v (point z) order) ks ws n r ks' ws' n'
-          → MeansSeries A env (lent_pool ks ws n) (suc order) (value (series A) (asSeries A env v (point z)) (node_at (lent_pool ks ws n)) from) (given r.series) (lent_pool ks' ws' n')
+          → MeansSeries A env (lent_pool ks ws n) (suc order) (value (series A) (as_series A env v (point z)) (node_at (lent_pool ks ws n)) from) (given r.series) (lent_pool ks' ws' n')
       coeffs_at_call_means z =
-          expansion_holds from v order (point z) (λ Q e. MeansSeries A env (lent_pool ks ws n) (suc order) (value (series A) (asSeries A env v (point z)) (node_at (lent_pool ks ws n)) from) e Q)
+          expansion_holds from v order (point z) (λ Q e. MeansSeries A env (lent_pool ks ws n) (suc order) (value (series A) (as_series A env v (point z)) (node_at (lent_pool ks ws n)) from) e Q)
           (λ keeps inside known small e Q eq. expansion_means M env keeps D v known (point z) order fractions words from inside eq)

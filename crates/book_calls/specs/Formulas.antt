@@ -9,7 +9,7 @@ use Rattle.book.specs.Formula.{Formula, #, whole, ◌⊗◌, ◌⊘◌, Exp, Log
 use Rattle.book.specs.Book.{list, constant, product_book, scaled_book, quotient_book, exp_book, log_book}
 use Rattle.meaning.specs.Model.{Algebra}
 use Rattle.meaning.specs.Value.{Values, value}
-use Rattle.book_meaning.specs.Value.{formulaValue}
+use Rattle.book_meaning.specs.Value.{formula_value}
 
 -- v = u × w
 abbrev pub product_formula : (u w : Expansion) → ℕ → Formula
@@ -37,4 +37,4 @@ log_formula (Polynomial us) v k = log_book (list us) (list (nodes_of v)) k
 
 -- coefficient k of v, in the pool Q, has the value of formula k, for each that there is
 abbrev pub HasValues : (A : Algebra) → Values A → Pool → Expansion → (ℕ → Formula) → Type 0
-HasValues A env Q v formula = (k : ℕ) → k < length (nodes_of v) → value A env (node_at Q) (at (nodes_of v) k) ≡ formulaValue A (value A env (node_at Q)) (formula k)
+HasValues A env Q v formula = (k : ℕ) → k < length (nodes_of v) → value A env (node_at Q) (at (nodes_of v) k) ≡ formula_value A (value A env (node_at Q)) (formula k)

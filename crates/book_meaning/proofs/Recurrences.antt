@@ -22,7 +22,7 @@ use Rattle.meaning.specs.Model.{Algebra, Model, Distributive}
 use Rattle.meaning.specs.Value.{Values, value}
 use Rattle.meaning.proofs.Running.{Has, has_later, has_same, Is}
 use Rattle.taylor_meaning.specs.Series.{Fractions}
-use Rattle.book_meaning.specs.Value.{formulaValue, Shared}
+use Rattle.book_meaning.specs.Value.{formula_value, Shared}
 use Rattle.book_meaning.proofs.Soundness.{related_formulas_have_one_value}
 use Rattle.book_meaning.proofs.Working.{Names, names_more, Stands, formula_kept, work_has_its_value}
 
@@ -66,10 +66,10 @@ module _ {A : Algebra} (M : Model A) (env : Values A) where
   pub record Valued (fs : List Formula) (xs : List ℕ) (P Q : Pool) : Type 0 where
     pub keeps : Keeps Q
     pub grown : Grown P Q
-    pub each : (i : ℕ) → i < length fs → Has A env Q (at xs i) (formulaValue A (val Q) (get_or fs i (whole 0)))
+    pub each : (i : ℕ) → i < length fs → Has A env Q (at xs i) (formula_value A (val Q) (get_or fs i (whole 0)))
 
   -- one formula that was worked, its nodes having the values that they have in the end
-  pub worked_has_its_value : (f : Formula) (P : Pool) {c : ℕ} {Q : Pool} → Keeps P → Stands P f → work f P ≡ done c Q → val Q c ≡ formulaValue A (val Q) f
+  pub worked_has_its_value : (f : Formula) (P : Pool) {c : ℕ} {Q : Pool} → Keeps P → Stands P f → work f P ≡ done c Q → val Q c ≡ formula_value A (val Q) f
   worked_has_its_value f P k h e = let g = accepted (work_has_its_value M env f P k h) e in g.is.is ∙ sym (formula_kept A env k g.grown f h)
 
   -- one formula more, worked first
@@ -86,7 +86,7 @@ module _ {A : Algebra} (M : Model A) (env : Values A) where
     first_stands : Stands P f
     first_stands = names_more first_known f (named 0 (omega arith))
 
-    first_gave : Gave P (Is A env (formulaValue A (val P) f)) c B
+    first_gave : Gave P (Is A env (formula_value A (val P) f)) c B
     first_gave = accepted (work_has_its_value M env f P k first_stands) e
 
     below_then : (j : ℕ) → K j ⊎ (j ≡ c) → j < B.count
@@ -104,7 +104,7 @@ module _ {A : Algebra} (M : Model A) (env : Values A) where
     cons_valued : {Q : Pool} → Valued fs cs B Q → Valued (f ∷ fs) (c ∷ cs) P Q
     cons_valued {Q} tail = record { keeps = tail.keeps; grown = grown_by_both first_gave.grown tail.grown; each = each }
       where
-        each : (i : ℕ) → i < length (f ∷ fs) → Has A env Q (at (c ∷ cs) i) (formulaValue A (val Q) (get_or (f ∷ fs) i (whole 0)))
+        each : (i : ℕ) → i < length (f ∷ fs) → Has A env Q (at (c ∷ cs) i) (formula_value A (val Q) (get_or (f ∷ fs) i (whole 0)))
         each zero l =
             has_same (sym (formula_kept A env k (grown_by_both first_gave.grown tail.grown) f first_stands)) (has_later first_gave.keeps tail.grown first_gave.is)
         each (suc i) l = tail.each i (omega arith)
@@ -195,17 +195,17 @@ module _ {A : Algebra} (M : Model A) (env : Values A) where
         record {
           same = λ i l.
               let h = valued.each i (omega (arith, l, length-append shares (row ordered 0 n))) in
-              ap (formulaValue A (val Q)) (sym (get_or-append shares (row ordered 0 n) (whole 0) i l)) ∙ sym h.is ∙ ap (val Q) (get_or-append nodes cs 0 i (omega arith));
+              ap (formula_value A (val Q)) (sym (get_or-append shares (row ordered 0 n) (whole 0) i l)) ∙ sym h.is ∙ ap (val Q) (get_or-append nodes cs 0 i (omega arith));
         }
 
     -- coefficient k has the value of the recurrence in the Rust's order
-    pub coefficient_has_its_value : (k : ℕ) → k < n → val Q (at cs k) ≡ formulaValue A (val Q) (ordered k)
+    pub coefficient_has_its_value : (k : ℕ) → k < n → val Q (at cs k) ≡ formula_value A (val Q) (ordered k)
     unfolding all
     coefficient_has_its_value k l =
         let h = valued.each (length shares + k) (omega (arith, l, length-append shares (row ordered 0 n), row_long ordered 0 n)) in
-        ap (val Q) (sym (node_at_lem k)) ∙ h.is ∙ ap (formulaValue A (val Q)) (formula_at k l)
+        ap (val Q) (sym (node_at_lem k)) ∙ h.is ∙ ap (formula_value A (val Q)) (formula_at k l)
 
     -- and so of the book's, in every ring with fractions
-    pub coefficient_has_the_books_value : Distributive A → Fractions A → (k : ℕ) → k < n → val Q (at cs k) ≡ formulaValue A (val Q) (book k)
+    pub coefficient_has_the_books_value : Distributive A → Fractions A → (k : ℕ) → k < n → val Q (at cs k) ≡ formula_value A (val Q) (book k)
     coefficient_has_the_books_value D fractions k l =
         coefficient_has_its_value k l ∙ sym (related_formulas_have_one_value M D fractions (val Q) shared_have_their_values (follows.same k l))

@@ -15,7 +15,7 @@ use Rattle.book.specs.Recurrence.{Recurrence, WithZero, WithScale}
 use Rattle.meaning.specs.Model.{Algebra, Model, Distributive}
 use Rattle.meaning.specs.Value.{Values, value}
 use Rattle.taylor_meaning.specs.Series.{Fractions}
-use Rattle.book_meaning.specs.Value.{formulaValue}
+use Rattle.book_meaning.specs.Value.{formula_value}
 use Rattle.book_meaning.proofs.Working.{Names, Stands}
 use Rattle.book_meaning.proofs.Recurrences.{Earlier, given, shared, coefficient, coefficient_has_the_books_value}
 
@@ -60,7 +60,7 @@ module _ {A : Algebra} (M : Model A) (D : Distributive A) (fractions : Fractions
 
   -- the value of coefficient k is that of the formula
   abbrev pub HaveValues : (ℕ → Formula) → ℕ → List ℕ → Type 0
-  HaveValues book n cs = (k : ℕ) → k < n → value A env (node_at Q) (at cs k) ≡ formulaValue A (value A env (node_at Q)) (book k)
+  HaveValues book n cs = (k : ℕ) → k < n → value A env (node_at Q) (at cs k) ≡ formula_value A (value A env (node_at Q)) (book k)
 
   -- ---- products
   pub product_has_the_books_values :

@@ -18,7 +18,7 @@ use Rattle.pool.specs.declared.node.Node.TheVariants as node
 use Rattle.pool.specs.Nodes.{kind_of, word_of, greatest_exponent}
 use Rattle.pool.specs.Pool.{Pool, pool, Out, Result, done, refused, Work, Run, bind, yield, refuse, append, limit, node_at, node_in}
 use Rattle.constructors.specs.Terms.{Term, #, lit, lit-exp, lit-log, add, mul, exp, log, pow, Add, Mul, Div, Max, Exp, Log, Pow}
-use Rattle.constructors.specs.Tables.{addTable, mulTable, divTable, negTable, expTable, logTable, powTable, maxTable}
+use Rattle.constructors.specs.Tables.{add_table, mul_table, div_table, neg_table, exp_table, log_table, pow_table, max_table}
 use Rattle.constructors.specs.Build.{Calls, literal, if_exponent_fits, build, no_calls, deeper, calls}
 use Rattle.constructor_laws.specs.Grown.{SameBut, Grown, Grows}
 use Rattle.constructor_laws.proofs.Going.{Going, Ways, goes_from, bind_goes, then_goes, yield_goes, refuse_goes}
@@ -219,14 +219,14 @@ table_grows g table = record { grows = λ P. (build_grows g (table P)).grows P }
 pub deeper_grow : {c : Calls} → AllGrow c → AllGrow (deeper c)
 deeper_grow g =
     record {
-      add_at = λ lhs rhs. table_grows g (λ P. addTable (node_at P) lhs rhs);
-      mul_at = λ lhs rhs. table_grows g (λ P. mulTable (node_at P) lhs rhs);
-      div_at = λ lhs rhs. table_grows g (λ P. divTable (node_at P) lhs rhs);
-      max_at = λ lhs rhs. table_grows g (λ P. maxTable (node_at P) lhs rhs);
-      neg_at = λ arg. table_grows g (λ P. negTable (node_at P) arg);
-      exp_at_lem = λ arg. table_grows g (λ P. expTable (node_at P) arg);
-      log_at_lem = λ arg. table_grows g (λ P. logTable (node_at P) arg);
-      pow_at = λ base e. table_grows g (λ P. powTable (node_at P) base e);
+      add_at = λ lhs rhs. table_grows g (λ P. add_table (node_at P) lhs rhs);
+      mul_at = λ lhs rhs. table_grows g (λ P. mul_table (node_at P) lhs rhs);
+      div_at = λ lhs rhs. table_grows g (λ P. div_table (node_at P) lhs rhs);
+      max_at = λ lhs rhs. table_grows g (λ P. max_table (node_at P) lhs rhs);
+      neg_at = λ arg. table_grows g (λ P. neg_table (node_at P) arg);
+      exp_at_lem = λ arg. table_grows g (λ P. exp_table (node_at P) arg);
+      log_at_lem = λ arg. table_grows g (λ P. log_table (node_at P) arg);
+      pow_at = λ base e. table_grows g (λ P. pow_table (node_at P) base e);
     }
 
 none_grow : AllGrow no_calls

@@ -16,7 +16,7 @@ use Rattle.pool.specs.declared.node.Node.TheVariants as node
 use Rattle.pool.specs.Nodes.{greatest_variable, greatest_exponent}
 use Rattle.pool.specs.Pool.{Pool, Out, done, refused, Run, bind, yield, refuse, append, node_at}
 use Rattle.constructors.specs.Terms.{Term, #, lit, lit-exp, lit-log, add, mul, exp, log, pow, Add, Mul, Div, Max, Exp, Log, Pow}
-use Rattle.constructors.specs.Tables.{addTable, mulTable, divTable, negTable, expTable, logTable, powTable, maxTable}
+use Rattle.constructors.specs.Tables.{add_table, mul_table, div_table, neg_table, exp_table, log_table, pow_table, max_table}
 use Rattle.constructors.specs.Build.{Calls, literal, if_exponent_fits, build, no_calls, deeper, calls}
 use Rattle.constructor_laws.specs.Grown.{Grown}
 use Rattle.constructor_laws.specs.Keeps.{Keeps, Kept, KeptBy}
@@ -160,14 +160,14 @@ one_deeper k table sound n arg l = table_keeps k (λ at. table at arg) (λ m mor
 pub deeper_keep : {c : Calls} → AllKeep c → AllKeep (deeper c)
 deeper_keep k =
     record {
-      add_at = two_deeper k addTable add_sound;
-      mul_at = two_deeper k mulTable mul_sound;
-      div_at = two_deeper k divTable div_sound;
-      max_at = two_deeper k maxTable max_sound;
-      neg_at = one_deeper k negTable neg_sound;
-      exp_at_lem = one_deeper k expTable exp_sound;
-      log_at_lem = one_deeper k logTable log_sound;
-      pow_at = λ e. one_deeper k (λ at base. powTable at base e) (λ n at below base h. pow_sound n at below base h e);
+      add_at = two_deeper k add_table add_sound;
+      mul_at = two_deeper k mul_table mul_sound;
+      div_at = two_deeper k div_table div_sound;
+      max_at = two_deeper k max_table max_sound;
+      neg_at = one_deeper k neg_table neg_sound;
+      exp_at_lem = one_deeper k exp_table exp_sound;
+      log_at_lem = one_deeper k log_table log_sound;
+      pow_at = λ e. one_deeper k (λ at base. pow_table at base e) (λ n at below base h. pow_sound n at below base h e);
     }
 
 none_keep : AllKeep no_calls

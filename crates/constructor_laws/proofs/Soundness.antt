@@ -9,7 +9,7 @@ use Rattle.pool.specs.declared.node.Node.TheVariants as node
 use Rattle.pool.specs.Nodes.{parts, least_exponent}
 use Rattle.constructors.specs.Terms.{Term, #, lit, lit-exp, lit-log, add, mul, exp, log, pow, Add, Mul, Div, Max, Exp, Log, Pow}
 use Rattle.constructors.specs.Patterns.{lit_in, add_in, mul_in, exp_in, pow_in}
-use Rattle.constructors.specs.Tables.{addArms, addTable, mulLits, mulExps, mulLeft, mulPows, mulLast, mulTable, divTable, negTable, expArms, expTable, logArms, logTable, powTable, maxTable}
+use Rattle.constructors.specs.Tables.{add_arms, add_table, mul_lits, mul_exps, mul_left, mul_pows, mul_last, mul_table, div_table, neg_table, exp_arms, exp_table, log_arms, log_table, pow_table, max_table}
 use Rattle.constructor_laws.proofs.Rules.{AllBelow, PartsBelow}
 use Rattle.constructor_laws.proofs.Arms.{Gives, skips, return, ◌>>=◌, ◌&◌, swap, ◌>>◌, ◌or◌, inside, ◌then◌}
 
@@ -135,8 +135,8 @@ module _ (n : ℕ) (at : ℕ → Node) (below : PartsBelow n at) where
   -- ---- with two arguments
 
   module _ (lhs rhs : ℕ) (l : lhs < n) (r : rhs < n) where
-    add_arms_lem : Gives (Sound n) (addArms at lhs rhs)
-    unfolding addArms
+    add_arms_lem : Gives (Sound n) (add_arms at lhs rhs)
+    unfolding add_arms
     add_arms_lem =
         (lit? lhs >>= (λ a _. is_zero a >> return r))
         or (lit? rhs >>= (λ b _. is_zero b >> return l))
@@ -149,11 +149,11 @@ module _ (n : ℕ) (at : ℕ → Node) (below : PartsBelow n at) where
               or (lit? b >>= (λ _ _. return ((ha, r), hb)))
               or (lit? d >>= (λ _ _. return ((l, hc), hd))))))
 
-    pub add_sound : Sound n (addTable at lhs rhs)
+    pub add_sound : Sound n (add_table at lhs rhs)
     add_sound = add_arms_lem then (l, r)
 
-    mul_lits_lem : Gives (Sound n) (mulLits at lhs rhs)
-    unfolding mulLits
+    mul_lits_lem : Gives (Sound n) (mul_lits at lhs rhs)
+    unfolding mul_lits
     mul_lits_lem =
         (lit? lhs >>= (λ a _. is_zero a >> return tt))
         or (lit? rhs >>= (λ b _. is_zero b >> return tt))
@@ -163,8 +163,8 @@ module _ (n : ℕ) (at : ℕ → Node) (below : PartsBelow n at) where
         or (lit? lhs & lit? rhs >>= (λ _ _. return tt))
         or ((lit? lhs & mul? rhs) or swap (Both n) Any (mul? lhs & lit? rhs) >>= (λ (_, (b1, b2)) (_, (h1, h2)). inside (lit? b1 >>= (λ _ _. return (tt, h2)))))
 
-    mul_exps_lem : Gives (Sound n) (mulExps at lhs rhs)
-    unfolding mulExps
+    mul_exps_lem : Gives (Sound n) (mul_exps at lhs rhs)
+    unfolding mul_exps
     mul_exps_lem =
         ((mul? lhs & exp? rhs) or swap (Part n) (Both n) (exp? lhs & mul? rhs) >>= (λ ((a1, a2), b) ((h1, h2), hb). do
           inside (
@@ -177,67 +177,67 @@ module _ (n : ℕ) (at : ℕ → Node) (below : PartsBelow n at) where
               or (exp? a2 & exp? b1 >>= (λ _ h. return ((ha1, hb2), h)))
               or (exp? a2 & exp? b2 >>= (λ _ h. return ((ha1, hb1), h))))))
 
-    mul_left_lem : Gives (Sound n) (mulLeft at lhs rhs)
-    unfolding mulLeft
+    mul_left_lem : Gives (Sound n) (mul_left at lhs rhs)
+    unfolding mul_left
     mul_left_lem =
         (mul? lhs & mul? rhs >>= (λ ((a1, a2), (b1, b2)) ((ha1, ha2), (hb1, hb2)). inside (lit? a1 & lit? b1 >>= (λ _ _. return (tt, (ha2, hb2))))))
         or (mul? lhs >>= (λ (a1, a2) (h1, h2). inside (lit? a1 >>= (λ _ _. return (h1, (h2, r))))))
         or (mul? rhs >>= (λ (b1, b2) (h1, h2). inside (lit? b1 >>= (λ _ _. return (h1, (h2, l))))))
 
-    mul_pows_lem : Gives (Sound n) (mulPows at lhs rhs)
-    unfolding mulPows
+    mul_pows_lem : Gives (Sound n) (mul_pows at lhs rhs)
+    unfolding mul_pows
     mul_pows_lem =
         (mul? lhs >>= (λ (a1, a2) h. eqb a2 rhs >> return h))
         or (mul? lhs & pow? rhs >>= (λ ((a1, a2), (b, _)) (h, _). eqb a2 b >> return h))
         or (mul? lhs & pow? rhs >>= (λ ((a1, a2), (b, _)) ((h1, h2), _). inside (pow? a2 >>= (λ (a21, _) h. eqb a21 b >> return (h1, h)))))
 
-    mul_last_lem : Gives (Sound n) (mulLast at lhs rhs)
-    unfolding mulLast
+    mul_last_lem : Gives (Sound n) (mul_last at lhs rhs)
+    unfolding mul_last
     mul_last_lem = lit? rhs >>= (λ _ _. return (r, l))
 
-    pub mul_sound : Sound n (mulTable at lhs rhs)
+    pub mul_sound : Sound n (mul_table at lhs rhs)
     mul_sound = mul_lits_lem then mul_exps_lem then mul_left_lem then mul_pows_lem then mul_last_lem then (l, r)
 
-    pub div_sound : Sound n (divTable at lhs rhs)
-    unfolding divTable
+    pub div_sound : Sound n (div_table at lhs rhs)
+    unfolding div_table
     div_sound =
         ◌then◌ {H = Sound n}
         ((lit? lhs >>= (λ a _. is_zero a >> return tt))
         or (lit? rhs >>= (λ b _. is_one b >> return l)))
         (l, r)
 
-    pub max_sound : Sound n (maxTable at lhs rhs)
+    pub max_sound : Sound n (max_table at lhs rhs)
     max_sound = (l, r)
 
   -- ---- with one argument
 
   module _ (arg : ℕ) (h : arg < n) where
-    pub neg_sound : Sound n (negTable at arg)
+    pub neg_sound : Sound n (neg_table at arg)
     neg_sound = (tt, h)
 
-    exp_arms_lem : Gives (Sound n) (expArms at arg)
-    unfolding expArms
+    exp_arms_lem : Gives (Sound n) (exp_arms at arg)
+    unfolding exp_arms
     exp_arms_lem =
         (lit? arg >>= (λ a _. is_zero a >> return tt))
         or (lit? arg >>= (λ _ _. return tt))
         or (add? arg >>= (λ (a, b) (ha, hb). inside (lit? b >>= (λ _ _. return (tt, ha)))))
 
-    pub exp_sound : Sound n (expTable at arg)
+    pub exp_sound : Sound n (exp_table at arg)
     exp_sound = exp_arms_lem then h
 
-    log_arms_lem : Gives (Sound n) (logArms at arg)
-    unfolding logArms
+    log_arms_lem : Gives (Sound n) (log_arms at arg)
+    unfolding log_arms
     log_arms_lem =
         (lit? arg >>= (λ a _. is_one a >> return tt))
         or (lit? arg >>= (λ _ _. return tt))
         or (mul? arg >>= (λ (a, b) (ha, hb). inside (lit? a >>= (λ _ _. return (hb, tt)))))
 
-    pub log_sound : Sound n (logTable at arg)
+    pub log_sound : Sound n (log_table at arg)
     log_sound = log_arms_lem then h
 
     -- the exponents 0 and 1 return before a Pow is made
-    pub pow_sound : (e : ℕ) → Sound n (powTable at arg e)
-    unfolding powTable
+    pub pow_sound : (e : ℕ) → Sound n (pow_table at arg e)
+    unfolding pow_table
     pow_sound zero = tt
     pow_sound (suc zero) = h
     pow_sound (suc (suc e)) =

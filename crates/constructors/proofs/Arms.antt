@@ -1,11 +1,11 @@
 -- Each arm of the tables of `add` and `mul` returns what is said of it: both sides are computed.
 -- Assumes nothing.
 use mathlib.Core.Path.{refl}
-use Rattle.constructors.specs.Tables.{addArms, mulLits, mulExps, mulLeft, mulPows, mulLast}
+use Rattle.constructors.specs.Tables.{add_arms, mul_lits, mul_exps, mul_left, mul_pows, mul_last}
 use Rattle.constructors.specs.Arms.{AddArms, MulArms}
 
 pub add_arms_lem : AddArms
-unfolding addArms
+unfolding add_arms
 add_arms_lem =
     record {
       zero_left = refl;
@@ -25,7 +25,7 @@ add_arms_lem =
     }
 
 pub mul_arms : MulArms
-unfolding mulLits mulExps mulLeft mulPows mulLast
+unfolding mul_lits mul_exps mul_left mul_pows mul_last
 mul_arms =
     record {
       zero_left = refl;

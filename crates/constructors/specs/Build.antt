@@ -9,7 +9,7 @@ use Rattle.pool.specs.declared.node.Node.TheVariants as node
 use Rattle.pool.specs.Nodes.{greatest_exponent}
 use Rattle.pool.specs.Pool.{Run, ◌>>=◌, yield, refuse, append, node_at}
 use Rattle.constructors.specs.Terms.{Term, #, lit, lit-exp, lit-log, add, mul, exp, log, pow, Add, Mul, Div, Max, Exp, Log, Pow}
-use Rattle.constructors.specs.Tables.{addTable, mulTable, divTable, negTable, expTable, logTable, powTable, maxTable}
+use Rattle.constructors.specs.Tables.{add_table, mul_table, div_table, neg_table, exp_table, log_table, pow_table, max_table}
 
 -- the constructors at a depth
 pub record Calls : Type 0 where
@@ -98,14 +98,14 @@ no_calls =
 abbrev pub deeper : Calls → Calls
 deeper c =
     record {
-      add_at = λ lhs rhs P. build c (addTable (node_at P) lhs rhs) P;
-      mul_at = λ lhs rhs P. build c (mulTable (node_at P) lhs rhs) P;
-      div_at = λ lhs rhs P. build c (divTable (node_at P) lhs rhs) P;
-      max_at = λ lhs rhs P. build c (maxTable (node_at P) lhs rhs) P;
-      neg_at = λ arg P. build c (negTable (node_at P) arg) P;
-      exp_at_lem = λ arg P. build c (expTable (node_at P) arg) P;
-      log_at_lem = λ arg P. build c (logTable (node_at P) arg) P;
-      pow_at = λ base e P. build c (powTable (node_at P) base e) P;
+      add_at = λ lhs rhs P. build c (add_table (node_at P) lhs rhs) P;
+      mul_at = λ lhs rhs P. build c (mul_table (node_at P) lhs rhs) P;
+      div_at = λ lhs rhs P. build c (div_table (node_at P) lhs rhs) P;
+      max_at = λ lhs rhs P. build c (max_table (node_at P) lhs rhs) P;
+      neg_at = λ arg P. build c (neg_table (node_at P) arg) P;
+      exp_at_lem = λ arg P. build c (exp_table (node_at P) arg) P;
+      log_at_lem = λ arg P. build c (log_table (node_at P) arg) P;
+      pow_at = λ base e P. build c (pow_table (node_at P) base e) P;
     }
 
 unfoldable pub calls : ℕ → Calls

@@ -10,7 +10,7 @@ use Rattle.constructor_laws.specs.Keeps.{Keeps}
 use Rattle.taylor.specs.Expansion.{Expansion, quotient, exponential, logarithm}
 use Rattle.meaning.specs.Model.{Algebra}
 use Rattle.meaning.specs.Value.{Values}
-use Rattle.taylor_meaning.specs.Series.{minus, sum, Series, timesSeries, recurrence, overStep, expStep, logStep}
+use Rattle.taylor_meaning.specs.Series.{minus, sum, Series, times_series, recurrence, over_step, exp_step, log_step}
 use Rattle.taylor_meaning.specs.Book.{tilde}
 use Rattle.taylor_meaning.specs.Coefficients.{Long, InPool, coefficient}
 use Rattle.taylor_meaning.proofs.Sums.{sum_same}
@@ -33,7 +33,7 @@ module _ (env : Values A) {P : Pool} (keeps : Keeps P) (n : ℕ) (s : Expansion)
       → tilde A (coefficient A env Q e) (suc k) ≡ sum A (λ i. A.times (coefficient A env Q e (k - i)) (tilde A (coefficient A env P s) (suc i))) (suc k)
   exp_in_dual_residues {e} {Q} eq k l h =
       let means = exponential_means not_trivial.laws env keeps n s hs ls eq in
-      let v : Series A = recurrence A (expStep A u) in
+      let v : Series A = recurrence A (exp_step A u) in
       let same : (j : ℕ) → j < n → coefficient A env Q e j ≡ v j = λ j m. means.coefficients j (means.long j m) in
       ap (λ x. A.times (A.int (pos (suc k))) x) (same (suc k) l)
       ∙ (exp_book_lem A u).each k (not_trivial.divides k h)
@@ -45,7 +45,7 @@ module _ (env : Values A) {P : Pool} (keeps : Keeps P) (n : ℕ) (s : Expansion)
       → A.times (coefficient A env P s 0) (tilde A (coefficient A env Q e) (suc k)) ≡ minus A (tilde A (coefficient A env P s) (suc k)) (sum A (λ i. A.times (coefficient A env P s (k - i)) (tilde A (coefficient A env Q e) (suc i))) k)
   log_in_dual_residues {e} {Q} eq inverse k l h =
       let means = logarithm_means not_trivial.laws env keeps n s hs ls eq in
-      let v : Series A = recurrence A (logStep A u) in
+      let v : Series A = recurrence A (log_step A u) in
       let same : (j : ℕ) → j < n → coefficient A env Q e j ≡ v j = λ j m. means.coefficients j (means.long j m) in
       ap (λ x. A.times (u 0) (A.times (A.int (pos (suc k))) x)) (same (suc k) l)
       ∙ (log_book_lem A u).each k (dual_residues_divide fixed_modulus fixed_modulus_fits (u 0).0 (u 0).1 inverse) (not_trivial.divides k h)
@@ -54,11 +54,11 @@ module _ (env : Values A) {P : Pool} (keeps : Keeps P) (n : ℕ) (s : Expansion)
   -- (u / w) × w = u
   pub quotient_in_dual_residues :
       (t : Expansion) → InPool P t → Long n t → {e : Expansion} {Q : Pool} → quotient s t P ≡ done e Q → HasInverse fixed_modulus (coefficient A env P t 0).0.0
-      → (k : ℕ) → k < n → timesSeries A (coefficient A env Q e) (coefficient A env P t) k ≡ coefficient A env P s k
-  unfolding timesSeries
+      → (k : ℕ) → k < n → times_series A (coefficient A env Q e) (coefficient A env P t) k ≡ coefficient A env P s k
+  unfolding times_series
   quotient_in_dual_residues t ht lt {e} {Q} eq inverse k l =
       let w : Series A = coefficient A env P t in
-      let v : Series A = recurrence A (overStep A u w) in
+      let v : Series A = recurrence A (over_step A u w) in
       let means = quotient_means not_trivial.laws env keeps n s hs ls t ht lt not_trivial.ring not_trivial.fractions eq in
       sum_same A (λ j. A.times (coefficient A env Q e j) (w (k - j))) (λ j. A.times (v j) (w (k - j))) (suc k)
       (λ j m. ap (λ x. A.times x (w (k - j))) (means.coefficients j (means.long j (omega arith))))

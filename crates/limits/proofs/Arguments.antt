@@ -12,7 +12,7 @@ use Rattle.residue.specs.Residue.{fixed_modulus}
 use Rattle.pool.specs.Nodes.{decode, may_stand_at}
 use Rattle.pool.specs.Fold.{under, fold_nodes_within, fold_nodes}
 use Rattle.pool.specs.Pool.{append, node_in, each}
-use Rattle.constructors.specs.Tables.{addArms, mulLits, mulExps, mulLeft, mulPows, mulLast}
+use Rattle.constructors.specs.Tables.{add_arms, mul_lits, mul_exps, mul_left, mul_pows, mul_last}
 use Rattle.constructors.specs.Build.{build, calls}
 use Rattle.constructor_laws.proofs.Rules.{each_of}
 use Rattle.walks.specs.Walk.{walk_below}
@@ -42,7 +42,7 @@ unfolding node_in decode fold_nodes fold_nodes_within under
 residues_65536 = residue_with (variable 65535 ∷ []) variable_fits (replicate 65536 7) 0 (are_residues_lem 65536 7 refl (lit< tt))
 
 pub arguments : Arguments
-unfolding node_in decode may_stand_at each append calls build addArms mulLits mulExps mulLeft mulPows mulLast folded walk_below substitute_var derive expand_below of.each of.each_two of.fold of.fill times horner fold_nodes fold_nodes_within under
+unfolding node_in decode may_stand_at each append calls build add_arms mul_lits mul_exps mul_left mul_pows mul_last folded walk_below substitute_var derive expand_below of.each of.each_two of.fold of.fill times horner fold_nodes fold_nodes_within under
 arguments =
     record {
       node_0_of_1 = called_on _ refl _;

@@ -3,7 +3,7 @@
 use mathlib.Core.Path.{◌≡◌, refl}
 use Rattle.pool.specs.Nodes.{decode, may_stand_at}
 use Rattle.pool.specs.Pool.{append, node_in, is_pool, each}
-use Rattle.constructors.specs.Tables.{addArms}
+use Rattle.constructors.specs.Tables.{add_arms}
 use Rattle.constructors.specs.Build.{build, calls}
 use Rattle.constructor_calls.specs.declared.two.Two.TheVariants as two
 use Rattle.engine.specs.Build.{on_two}
@@ -14,11 +14,11 @@ use Rattle.limits.proofs.Pools.{full_by_rules}
 use Rattle.limits.proofs.Called.{called_by, refused_by, refused_on, called_on}
 
 count_4096 : called (on_two two.Add 0 1) full ≡ gives 0
-unfolding full node_in decode append calls build addArms
+unfolding full node_in decode append calls build add_arms
 count_4096 = called_by full full_by_rules (on_two two.Add 0 1)
 
 pub pools : Pools
-unfolding full is_pool node_in decode may_stand_at each append calls build addArms
+unfolding full is_pool node_in decode may_stand_at each append calls build add_arms
 pools =
     record {
       count_0 = called_on _ refl _;

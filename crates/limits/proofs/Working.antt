@@ -7,7 +7,7 @@ use Rattle.residue.proofs.Examples as residues
 use Rattle.pool.specs.Nodes.{decode, may_stand_at}
 use Rattle.pool.specs.Fold.{under, fold_nodes_within, fold_nodes}
 use Rattle.pool.specs.Pool.{append, node_in, each}
-use Rattle.constructors.specs.Tables.{addArms, mulLits, mulExps, mulLeft, mulPows, mulLast, powTable, expArms, logArms}
+use Rattle.constructors.specs.Tables.{add_arms, mul_lits, mul_exps, mul_left, mul_pows, mul_last, pow_table, exp_arms, log_arms}
 use Rattle.constructors.specs.Build.{build, calls}
 use Rattle.walks.specs.Walk.{walk_below}
 use Rattle.walks.specs.Derive.{derive}
@@ -20,7 +20,7 @@ use Rattle.limits.proofs.Pools.{full_by_rules}
 use Rattle.limits.proofs.Called.{called_by, called_on, expanded_on, evaluated_on, residue_on, printed_on}
 
 pub working : Working
-unfolding full node_in decode may_stand_at each append calls build addArms mulLits mulExps mulLeft mulPows mulLast powTable expArms logArms folded exp_of log_of walk_below derive expand_below of.fold residue fold_nodes fold_nodes_within under
+unfolding full node_in decode may_stand_at each append calls build add_arms mul_lits mul_exps mul_left mul_pows mul_last pow_table exp_arms log_arms folded exp_of log_of walk_below derive expand_below of.fold residue fold_nodes fold_nodes_within under
 working =
     record {
       max_derived = called_on _ refl _;

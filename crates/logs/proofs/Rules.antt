@@ -10,7 +10,7 @@ use Rattle.literal.specs.Literal.{is_zero, is_one}
 use Rattle.pool.specs.declared.node.Node.{Node}
 use Rattle.constructors.specs.Terms.{Term, #, lit, lit-log, add, log, Log, Div, Arm, skip, leave, return, ◌>>=◌, ◌>>◌}
 use Rattle.constructors.specs.Patterns.{lit_in, mul_in}
-use Rattle.constructors.specs.Tables.{logArms, logTable, divTable}
+use Rattle.constructors.specs.Tables.{log_arms, log_table, div_table}
 use Rattle.views.specs.Shapes.{shape_of}
 use Rattle.views.specs.declared.Shape.{Shape}
 use Rattle.views.specs.declared.Shape.TheVariants as shape
@@ -29,26 +29,26 @@ neither_found n seen k = (lit_missed n seen not_lit_or_mul tt k, mul_missed n se
 -- the table of `log`
 module _ (at : ℕ → Node) (arg : ℕ) where
   -- Lit(1), and another literal
-  pub log_of_one : {a : ℤ} → lit_in (at arg) ≡ return a → is_one a ≡ true → lit (pos 0) ≡ logTable at arg
-  unfolding logArms
+  pub log_of_one : {a : ℤ} → lit_in (at arg) ≡ return a → is_one a ≡ true → lit (pos 0) ≡ log_table at arg
+  unfolding log_arms
   log_of_one p g = simp (p, g)
 
-  pub log_of_lit : {a : ℤ} → lit_in (at arg) ≡ return a → is_one a ≡ false → lit-log a ≡ logTable at arg
-  unfolding logArms
+  pub log_of_lit : {a : ℤ} → lit_in (at arg) ≡ return a → is_one a ≡ false → lit-log a ≡ log_table at arg
+  unfolding log_arms
   log_of_lit p g = simp (p, g)
 
   -- Mul(a, b), with a literal at a and without
   module _ {a b : ℕ} (p : lit_in (at arg) ≡ skip) (s : mul_in (at arg) ≡ return (a, b)) where
-    pub log_of_product : {x : ℤ} → lit_in (at a) ≡ return x → add (log (# b)) (lit-log x) ≡ logTable at arg
-    unfolding logArms
+    pub log_of_product : {x : ℤ} → lit_in (at a) ≡ return x → add (log (# b)) (lit-log x) ≡ log_table at arg
+    unfolding log_arms
     log_of_product h = simp (p, s, h)
 
-    pub log_beside_product : lit_in (at a) ≡ skip → Log (# arg) ≡ logTable at arg
-    unfolding logArms
+    pub log_beside_product : lit_in (at a) ≡ skip → Log (# arg) ≡ log_table at arg
+    unfolding log_arms
     log_beside_product h = simp (p, s, h)
 
-  pub log_beside : lit_in (at arg) ≡ skip → mul_in (at arg) ≡ skip → Log (# arg) ≡ logTable at arg
-  unfolding logArms
+  pub log_beside : lit_in (at arg) ≡ skip → mul_in (at arg) ≡ skip → Log (# arg) ≡ log_table at arg
+  unfolding log_arms
   log_beside p s = simp (p, s)
 
 -- a literal's pattern with a guard, which returns or is skipped as the test says
@@ -72,15 +72,15 @@ module _ (test : ℤ → Bool) (t : Term) where
 -- the table of `div`
 module _ (at : ℕ → Node) (lhs rhs : ℕ) where
   -- (Lit(0), _)
-  pub zero_over : guarded is_zero (lit_in (at lhs)) ≡ true → lit (pos 0) ≡ divTable at lhs rhs
-  unfolding divTable
+  pub zero_over : guarded is_zero (lit_in (at lhs)) ≡ true → lit (pos 0) ≡ div_table at lhs rhs
+  unfolding div_table
   zero_over h = rw (guard_holds is_zero (lit (pos 0)) (lit_in (at lhs)) h)
 
   -- (_, Lit(1))
-  pub over_one : guarded is_zero (lit_in (at lhs)) ≡ false → guarded is_one (lit_in (at rhs)) ≡ true → # lhs ≡ divTable at lhs rhs
-  unfolding divTable
+  pub over_one : guarded is_zero (lit_in (at lhs)) ≡ false → guarded is_one (lit_in (at rhs)) ≡ true → # lhs ≡ div_table at lhs rhs
+  unfolding div_table
   over_one g h = rw (guard_fails is_zero (lit (pos 0)) (at lhs) g, guard_holds is_one (# lhs) (lit_in (at rhs)) h)
 
-  pub over_other : guarded is_zero (lit_in (at lhs)) ≡ false → guarded is_one (lit_in (at rhs)) ≡ false → Div (# lhs) (# rhs) ≡ divTable at lhs rhs
-  unfolding divTable
+  pub over_other : guarded is_zero (lit_in (at lhs)) ≡ false → guarded is_one (lit_in (at rhs)) ≡ false → Div (# lhs) (# rhs) ≡ div_table at lhs rhs
+  unfolding div_table
   over_other g h = rw (guard_fails is_zero (lit (pos 0)) (at lhs) g, guard_fails is_one (# lhs) (at rhs) h)

@@ -2,7 +2,7 @@
 ghost use Rattle.std.specs.Prelude.{◌≡◌};
 ghost use Rattle.literal.specs.Literal.{is_zero, is_one};
 ghost use Rattle.constructors.specs.Patterns.{lit_in};
-ghost use Rattle.constructors.specs.Tables.{logTable, divTable};
+ghost use Rattle.constructors.specs.Tables.{log_table, div_table};
 ghost use Rattle.pool.specs.Pool.{node_in};
 ghost use Rattle.logs.specs.Rule.{log_term, div_term, guarded};
 
@@ -34,7 +34,7 @@ pub enum DivRule {
 }
 
 pub fn log_rule(kinds: &[u8; LIMIT], words: &[u64; LIMIT], arg: u32) -> LogRule
-    ensures { log_term result ≡ logTable (node_in kinds.now words.now) arg }
+    ensures { log_term result ≡ log_table (node_in kinds.now words.now) arg }
 {
     let shape = views::shape_at(kinds, words, arg);
     match shape {
@@ -75,7 +75,7 @@ fn is_one_at(kinds: &[u8; LIMIT], words: &[u64; LIMIT], i: u32) -> bool
 }
 
 pub fn div_rule(kinds: &[u8; LIMIT], words: &[u64; LIMIT], lhs: u32, rhs: u32) -> DivRule
-    ensures { div_term result ≡ divTable (node_in kinds.now words.now) lhs rhs }
+    ensures { div_term result ≡ div_table (node_in kinds.now words.now) lhs rhs }
 {
     if is_zero_at(kinds, words, lhs) {
         return DivRule::Zero;

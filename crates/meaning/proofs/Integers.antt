@@ -4,7 +4,7 @@ use mathlib.Core.Path.{◌≡◌, refl, sym, ap, ◌∙◌}
 use Prim.Native.Nat.{zero}
 use lib.IntN.{ℤ, pos, neg_ℤ, ℤ_ind, ◌+ℤ◌, ◌*ℤ◌, +ℤ_comm, +ℤ_assoc, +ℤ_idr, +ℤ_idl, +ℤ_one, -ℤ_one, +ℤ_invl, +ℤ-neg_ℤ_cancel, *ℤ_comm, *ℤ-one, *ℤ-zero, zero-*ℤ, suc_ℤ-*ℤ, pred_ℤ-*ℤ, neg_ℤ-+ℤ, one}
 use Rattle.meaning.specs.Model.{Model, Distributive}
-use Rattle.meaning.specs.Value.{valueNode, value}
+use Rattle.meaning.specs.Value.{value_node, value}
 use Rattle.pool.specs.Fold.{under, fold_nodes_within, fold_nodes}
 use Rattle.meaning.specs.Integers.{integers}
 use Rattle.meaning.specs.Examples.{small_table}
@@ -96,5 +96,5 @@ integers_ring = record { distributes = times_plus }
 
 -- (2 + 5) × 3, computed
 computed : value integers (λ v. pos 5) small_table 4 ≡ pos 21
-unfolding fold_nodes fold_nodes_within under valueNode small_table
+unfolding fold_nodes fold_nodes_within under value_node small_table
 computed = refl

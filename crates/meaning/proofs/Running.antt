@@ -23,9 +23,9 @@ use Rattle.constructor_laws.proofs.Coding.{Fine}
 use Rattle.constructor_laws.proofs.Soundness.{Sound, add_sound, mul_sound, div_sound, max_sound, neg_sound, exp_sound, log_sound, pow_sound}
 use Rattle.constructor_laws.proofs.Giving.{Aims, Gives, ended, gives_weaker, gives_here, gives_next, append_gives}
 use Rattle.meaning.specs.Model.{Algebra, Model, power}
-use Rattle.meaning.specs.Value.{Values, valueNode, value}
+use Rattle.meaning.specs.Value.{Values, value_node, value}
 use Rattle.meaning.proofs.Values.{each_below, same_op, falling, node_same, value_law, value_kept}
-use Rattle.meaning.proofs.Terms.{zero_is, one_is, Runs, termValue, Right}
+use Rattle.meaning.proofs.Terms.{zero_is, one_is, Runs, term_value, Right}
 use Rattle.meaning.proofs.Tables.{add_right, mul_right, div_right, max_right, neg_right, exp_right, log_right, pow_right}
 
 -- a node of the value x
@@ -62,22 +62,22 @@ module _ (A : Algebra) (env : Values A) where
   abbrev val : Pool → ℕ → carrier
   val P i = value A env (node_at P) i
 
-  pub node_gives : {P : Pool} {x : Node} → Keeps P → Fine P.count x → Gives P (Is A env (valueNode A env (val P) x)) (append x P)
+  pub node_gives : {P : Pool} {x : Node} → Keeps P → Fine P.count x → Gives P (Is A env (value_node A env (val P) x)) (append x P)
   node_gives {P} {x} k fine = append_gives k fine (λ Q k_q g there read. record { below = there; is = is Q k_q g read })
     where
-      is : (Q : Pool) → Keeps Q → Grown P Q → node_at Q P.count ≡ x → val Q P.count ≡ valueNode A env (val P) x
+      is : (Q : Pool) → Keeps Q → Grown P Q → node_at Q P.count ≡ x → val Q P.count ≡ value_node A env (val P) x
       is Q k_q g read =
           value_law A env (node_at Q) (falling k_q) P.count
-          ∙ ap (valueNode A env (val Q)) read
+          ∙ ap (value_node A env (val Q)) read
           ∙ node_same A env (val Q) (val P) x (each_below (parts x) fine.below (value_kept A env k g))
 
   -- ---- literals
 
   picked_gives :
       {P : Pool} → Keeps P → (t : Bool) (z : ℤ) (k : ℕ) → (t ≡ true → is_literal z ≡ true) → Gives P (λ Q i. (t ≡ true) × Is A env (A.int z) Q i) (literal (cond t (Value z) (Refused k)) P)
-  unfolding valueNode
-  picked_gives {P} kP true z k fits = gives_weaker (λ Q i g h. (refl, h)) (node_gives {x = node.Lit z} kP (record { below = tt; range = fits refl }))
-  picked_gives kP false z k fits = ended
+  unfolding value_node
+  picked_gives {P} k_p true z k fits = gives_weaker (λ Q i g h. (refl, h)) (node_gives {x = node.Lit z} k_p (record { below = tt; range = fits refl }))
+  picked_gives k_p false z k fits = ended
 
   pub literal_gives : {P : Pool} → Keeps P → (z : ℤ) → Gives P (Is A env (A.int z)) (literal (folded z) P)
   unfolding folded
@@ -103,10 +103,10 @@ module _ (A : Algebra) (env : Values A) where
     pub pow_at : (e : ℕ) → OneMeans (λ base. c.pow_at base e) (λ x. power A x e)
 
   -- the plain nodes
-  plain_two : (make : ℕ → ℕ → Node) (op : carrier → carrier → carrier) → ((n a b : ℕ) → a < n → b < n → Fine n (make a b)) → ((f : ℕ → carrier) (a b : ℕ) → valueNode A env f (make a b) ≡ op (f a) (f b)) → TwoMean (λ a b. append (make a b)) op
+  plain_two : (make : ℕ → ℕ → Node) (op : carrier → carrier → carrier) → ((n a b : ℕ) → a < n → b < n → Fine n (make a b)) → ((f : ℕ → carrier) (a b : ℕ) → value_node A env f (make a b) ≡ op (f a) (f b)) → TwoMean (λ a b. append (make a b)) op
   plain_two make op fine law P k a b x y ha hb = is_same (law (val P) a b ∙ same_op op ha.is hb.is) (node_gives k (fine P.count a b ha.below hb.below))
 
-  plain_one : (make : ℕ → Node) (op : carrier → carrier) → ((n a : ℕ) → a < n → Fine n (make a)) → ((f : ℕ → carrier) (a : ℕ) → valueNode A env f (make a) ≡ op (f a)) → OneMeans (λ a. append (make a)) op
+  plain_one : (make : ℕ → Node) (op : carrier → carrier) → ((n a : ℕ) → a < n → Fine n (make a)) → ((f : ℕ → carrier) (a : ℕ) → value_node A env f (make a) ≡ op (f a)) → OneMeans (λ a. append (make a)) op
   plain_one make op fine law P k a x ha = is_same (law (val P) a ∙ ap op ha.is) (node_gives k (fine P.count a ha.below))
 
   -- 13. an exponent that is too large is refused
@@ -137,7 +137,7 @@ module _ {A : Algebra} (M : Model A) (env : Values A) where
 
     -- a term that was run: it is one that is not refused, and the answer has its value
     abbrev Ran : Term → Pool → ℕ → Type 0
-    Ran t Q i = Runs t × Is A env (termValue A val₀ t) Q i
+    Ran t Q i = Runs t × Is A env (term_value A val₀ t) Q i
 
     abbrev Builds : Term → Run → Type 0
     Builds t run = (P : Pool) → Keeps P → Grown P₀ P → Gives P (Ran t) (run P)
@@ -149,7 +149,7 @@ module _ {A : Algebra} (M : Model A) (env : Values A) where
         → Builds s left
         → Builds t right
         → (P : Pool) → Keeps P → Grown P₀ P
-        → Gives P (λ Q i. (Runs s × Runs t) × Is A env (op (termValue A val₀ s) (termValue A val₀ t)) Q i) (bind (left P) (λ a Q. bind (right Q) (λ b. make a b)))
+        → Gives P (λ Q i. (Runs s × Runs t) × Is A env (op (term_value A val₀ s) (term_value A val₀ t)) Q i) (bind (left P) (λ a Q. bind (right Q) (λ b. make a b)))
     both_ran op s t last first second P k g =
         gives_next (first P k g) (λ a Q k_q g_q ha.
         gives_next (second Q k_q (grown_by_both g g_q)) (λ b R k_r g_r hb.
@@ -160,11 +160,11 @@ module _ {A : Algebra} (M : Model A) (env : Values A) where
         → OneMeans A env make op
         → Builds t arg
         → (P : Pool) → Keeps P → Grown P₀ P
-        → Gives P (λ Q i. Runs t × Is A env (op (termValue A val₀ t)) Q i) (bind (arg P) (λ a. make a))
+        → Gives P (λ Q i. Runs t × Is A env (op (term_value A val₀ t)) Q i) (bind (arg P) (λ a. make a))
     one_ran op t last first P k g = gives_next (first P k g) (λ a Q k_q g_q ha. gives_weaker (λ U i g_u h. (ha.0, h)) (last Q k_q a _ ha.1))
 
     build_means : {c : Calls} → AllMean A env c → (t : Term) → Sound P₀.count t → Builds t (build c t)
-    unfolding build folded exp_of log_of valueNode
+    unfolding build folded exp_of log_of value_node
     build_means c (# a) h P k g = gives_here k (tt, has_first A env k₀ g h)
     build_means c (lit z) h P k g = gives_weaker (λ Q i g_q e. (tt, e)) (literal_gives A env k z)
     build_means c (lit-exp z) h P k g =
@@ -193,7 +193,7 @@ module _ {A : Algebra} (M : Model A) (env : Values A) where
     table_means : {c : Calls} {x y : carrier} {t : Term} → AllMean A env c → Sound P₀.count t → Right A val₀ x t → x ≡ y → Gives P₀ (Is A env y) (build c t P₀)
     table_means {t = t} c sound right same = gives_weaker (λ Q i g ran. has_same (right.same ran.0 ∙ same) ran.1) (build_means c t sound P₀ k₀ (grown_by_nothing P₀))
 
-    law_of : (i : ℕ) → val₀ i ≡ valueNode A env val₀ (node_at P₀ i)
+    law_of : (i : ℕ) → val₀ i ≡ value_node A env val₀ (node_at P₀ i)
     law_of = value_law A env (node_at P₀) (falling k₀)
 
   pub deeper_mean : {c : Calls} → AllMean A env c → AllMean A env (deeper c)

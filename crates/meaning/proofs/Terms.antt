@@ -14,7 +14,7 @@ use Rattle.constructors.specs.Terms.{Term, #, lit, lit-exp, lit-log, add, mul, e
 use Rattle.constructors.specs.Patterns.{lit_in, add_in, mul_in, exp_in, pow_in}
 use Rattle.constructor_laws.proofs.Arms.{Gives, skips, leaves, return}
 use Rattle.meaning.specs.Model.{Algebra, power}
-use Rattle.meaning.specs.Value.{Values, valueNode}
+use Rattle.meaning.specs.Value.{Values, value_node}
 
 -- ---- tests of literals
 
@@ -95,8 +95,8 @@ weaker f (return {x} h) = return (f x h)
 -- ---- what the patterns find, as values
 
 module _ (A : Algebra) (env : Values A) (at : ℕ → A.carrier) where
-  pub lit_found : (x : Node) → Gives (λ z. valueNode A env at x ≡ A.int z) (lit_in x)
-  unfolding valueNode
+  pub lit_found : (x : Node) → Gives (λ z. value_node A env at x ≡ A.int z) (lit_in x)
+  unfolding value_node
   lit_found node.Empty = skips
   lit_found (node.Variable v) = skips
   lit_found (node.Lit z) = return refl
@@ -108,8 +108,8 @@ module _ (A : Algebra) (env : Values A) (at : ℕ → A.carrier) where
   lit_found (node.Pow a e) = skips
   lit_found (node.Max a b) = skips
 
-  pub add_found : (x : Node) → Gives (λ p. valueNode A env at x ≡ A.plus (at p.0) (at p.1)) (add_in x)
-  unfolding valueNode
+  pub add_found : (x : Node) → Gives (λ p. value_node A env at x ≡ A.plus (at p.0) (at p.1)) (add_in x)
+  unfolding value_node
   add_found node.Empty = skips
   add_found (node.Variable v) = skips
   add_found (node.Lit z) = skips
@@ -121,8 +121,8 @@ module _ (A : Algebra) (env : Values A) (at : ℕ → A.carrier) where
   add_found (node.Pow a e) = skips
   add_found (node.Max a b) = skips
 
-  pub mul_found : (x : Node) → Gives (λ p. valueNode A env at x ≡ A.times (at p.0) (at p.1)) (mul_in x)
-  unfolding valueNode
+  pub mul_found : (x : Node) → Gives (λ p. value_node A env at x ≡ A.times (at p.0) (at p.1)) (mul_in x)
+  unfolding value_node
   mul_found node.Empty = skips
   mul_found (node.Variable v) = skips
   mul_found (node.Lit z) = skips
@@ -134,8 +134,8 @@ module _ (A : Algebra) (env : Values A) (at : ℕ → A.carrier) where
   mul_found (node.Pow a e) = skips
   mul_found (node.Max a b) = skips
 
-  pub exp_found : (x : Node) → Gives (λ a. valueNode A env at x ≡ A.exp (at a)) (exp_in x)
-  unfolding valueNode
+  pub exp_found : (x : Node) → Gives (λ a. value_node A env at x ≡ A.exp (at a)) (exp_in x)
+  unfolding value_node
   exp_found node.Empty = skips
   exp_found (node.Variable v) = skips
   exp_found (node.Lit z) = skips
@@ -147,8 +147,8 @@ module _ (A : Algebra) (env : Values A) (at : ℕ → A.carrier) where
   exp_found (node.Pow a e) = skips
   exp_found (node.Max a b) = skips
 
-  pub pow_found : (x : Node) → Gives (λ p. valueNode A env at x ≡ power A (at p.0) p.1) (pow_in x)
-  unfolding valueNode
+  pub pow_found : (x : Node) → Gives (λ p. value_node A env at x ≡ power A (at p.0) p.1) (pow_in x)
+  unfolding value_node
   pow_found node.Empty = skips
   pow_found (node.Variable v) = skips
   pow_found (node.Lit z) = skips

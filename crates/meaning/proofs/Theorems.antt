@@ -10,7 +10,7 @@ use Rattle.pool.specs.Pool.{Pool, Out, done, append, node_at}
 use Rattle.constructors.specs.Build.{calls, literal}
 use Rattle.constructor_laws.specs.Keeps.{Keeps}
 use Rattle.meaning.specs.Model.{Algebra, Model, power}
-use Rattle.meaning.specs.Value.{Values, valueNode, value, Means}
+use Rattle.meaning.specs.Value.{Values, value_node, value, Means}
 use Rattle.constructor_laws.proofs.Giving.{Gives, accepted}
 use Rattle.meaning.proofs.Values.{value_kept}
 use Rattle.meaning.proofs.Running.{Has, Is, node_gives, literal_gives, calls_mean}
@@ -28,7 +28,7 @@ module _ {A : Algebra} (M : Model A) (env : Values A) {P : Pool} (keeps : Keeps 
 
   module _ {i : ℕ} {Q : Pool} where
     pub var_means : (v : ℕ) → v ≤ greatest_variable → append (node.Variable v) P ≡ done i Q → Means A env P (env v) i Q
-    unfolding valueNode
+    unfolding value_node
     var_means v h e = meant {x = env v} (node_gives A env keeps (record { below = tt; range = h })) e
 
     pub lit_means : (z : ℤ) → literal (folded z) P ≡ done i Q → Means A env P (A.int z) i Q

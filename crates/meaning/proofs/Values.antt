@@ -21,7 +21,7 @@ use Rattle.shape.proofs.Lists.{here, further}
 use Rattle.meaning.specs.Model.{Algebra, power}
 use Rattle.pool.specs.Fold.{under, fold_nodes}
 use Rattle.pool.proofs.Folds.{below, same_at, visits}
-use Rattle.meaning.specs.Value.{Values, valueNode, value}
+use Rattle.meaning.specs.Value.{Values, value_node, value}
 
 -- a fact of each number in a list
 abbrev pub Each : (ℕ → Type 0) → List ℕ → Type 0
@@ -64,8 +64,8 @@ from_parts none node same at f i =
 
 module _ (A : Algebra) (env : Values A) where
   -- equal parts' values, one node's value
-  pub node_same : (f g : ℕ → A.carrier) (x : Node) → Each (λ a. f a ≡ g a) (parts x) → valueNode A env f x ≡ valueNode A env g x
-  unfolding valueNode
+  pub node_same : (f g : ℕ → A.carrier) (x : Node) → Each (λ a. f a ≡ g a) (parts x) → value_node A env f x ≡ value_node A env g x
+  unfolding value_node
   node_same f g Empty h = refl
   node_same f g (Variable v) h = refl
   node_same f g (Lit z) h = refl
@@ -81,8 +81,8 @@ module _ (A : Algebra) (env : Values A) where
   none = A.int (pos 0)
 
   -- a node's value, from its parts' values
-  pub value_law : (at : ℕ → Node) → Falling at → (i : ℕ) → value A env at i ≡ valueNode A env (value A env at) (at i)
-  value_law = from_parts none (valueNode A env) node_same
+  pub value_law : (at : ℕ → Node) → Falling at → (i : ℕ) → value A env at i ≡ value_node A env (value A env at) (at i)
+  value_law = from_parts none (value_node A env) node_same
 
   -- two tables with the same nodes at all numbers of which C holds, C going on to the parts
   closed_same :
@@ -92,11 +92,11 @@ module _ (A : Algebra) (env : Values A) where
       never : (i : ℕ) → i < 0 → ⊥
       never i h = omega arith
   closed_same {p} {q} C down same (suc k) i h c =
-      visits none (valueNode A env) q i
-      ∙ ap (valueNode A env (under none (value A env q) i)) (same i c)
+      visits none (value_node A env) q i
+      ∙ ap (value_node A env (under none (value A env q) i)) (same i c)
       ∙ node_same (under none (value A env q) i) (under none (value A env p) i) (p i)
       (each_from (parts (p i)) (down i c) (λ a d. same_at none (value A env q) (value A env p) i a (λ l. closed_same C down same k a (omega arith) d)))
-      ∙ sym (visits none (valueNode A env) p i)
+      ∙ sym (visits none (value_node A env) p i)
 
   -- a value goes by the reachable nodes alone
   pub reachable_same : (p q : ℕ → Node) (r : ℕ) → ((i : ℕ) → Reach p (r ∷ []) i → q i ≡ p i) → value A env q r ≡ value A env p r

@@ -8,11 +8,11 @@ use lib.IntN.{ℤ}
 use Rattle.pool.specs.declared.node.Node.{Node}
 use Rattle.constructors.specs.Terms.{Term, #, add, mul, exp, pow, Mul, Arm, skip, leave, return, ◌or◌, inside, ◌then◌}
 use Rattle.constructors.specs.Patterns.{lit_in, mul_in, exp_in, pow_in}
-use Rattle.constructors.specs.Tables.{mulLits, mulExps, mulLeft, mulPows, mulLast}
+use Rattle.constructors.specs.Tables.{mul_lits, mul_exps, mul_left, mul_pows, mul_last}
 use Rattle.views.specs.Shapes.{shape_of}
 use Rattle.views.specs.declared.Shape.TheVariants as shape
 use Rattle.views.proofs.Patterns.{lit_seen, mul_seen, exp_seen, pow_seen}
-use Rattle.mul_rules.specs.Rules.{mul_term, arm_of, two_lits, one_lit, oneExp, twoExps, litsAhead, litAhead, twoPows}
+use Rattle.mul_rules.specs.Rules.{mul_term, arm_of, two_lits, one_lit, one_exp, two_exps, lits_ahead, lit_ahead, two_pows}
 use Rattle.mul_rules.specs.declared.MulRule.{MulRule}
 use Rattle.mul_rules.specs.declared.Tried.{Tried}
 use Rattle.mul_rules.specs.declared.Tried.TheVariants.{Is, Next}
@@ -52,125 +52,125 @@ passes g next e f h = h ∙ ap (λ (m : Arm Term). m then next) (sym (ap arm_of 
 module _ (at : ℕ → Node) (lhs rhs : ℕ) where
   -- the table from a group on
   abbrev pub from_last : Term
-  from_last = mulLast at lhs rhs then Mul (# lhs) (# rhs)
+  from_last = mul_last at lhs rhs then Mul (# lhs) (# rhs)
 
   abbrev pub from_pows : Term
-  from_pows = mulPows at lhs rhs then from_last
+  from_pows = mul_pows at lhs rhs then from_last
 
   abbrev pub from_left : Term
-  from_left = mulLeft at lhs rhs then from_pows
+  from_left = mul_left at lhs rhs then from_pows
 
   abbrev pub from_exps : Term
-  from_exps = mulExps at lhs rhs then from_left
+  from_exps = mul_exps at lhs rhs then from_left
 
   -- ---- literal simplifications
-  pub lit_lit : {t : Arm Term} {a b : ℤ} → shape_of (at lhs) ≡ shape.Lit a → shape_of (at rhs) ≡ shape.Lit b → t ≡ inside (two_lits a b lhs rhs) → t ≡ inside (mulLits at lhs rhs)
-  unfolding mulLits two_lits
+  pub lit_lit : {t : Arm Term} {a b : ℤ} → shape_of (at lhs) ≡ shape.Lit a → shape_of (at rhs) ≡ shape.Lit b → t ≡ inside (two_lits a b lhs rhs) → t ≡ inside (mul_lits at lhs rhs)
+  unfolding mul_lits two_lits
   lit_lit l r h = h ∙ simp (lit_seen, mul_seen, exp_seen, l, r)
 
-  lit_any : {a : ℤ} (m : Arm (ℕ × ℕ)) → mul_in (at rhs) ≡ m → shape_of (at lhs) ≡ shape.Lit a → lit_in (at rhs) ≡ skip → inside (one_lit at a rhs) ≡ inside (mulLits at lhs rhs)
-  unfolding mulLits one_lit
+  lit_any : {a : ℤ} (m : Arm (ℕ × ℕ)) → mul_in (at rhs) ≡ m → shape_of (at lhs) ≡ shape.Lit a → lit_in (at rhs) ≡ skip → inside (one_lit at a rhs) ≡ inside (mul_lits at lhs rhs)
+  unfolding mul_lits one_lit
   lit_any skip e l r = simp (e, r, lit_seen (at lhs), mul_seen (at lhs), exp_seen (at lhs), l)
   lit_any leave e l r = simp (e, r, lit_seen (at lhs), mul_seen (at lhs), exp_seen (at lhs), l)
   lit_any (return p) e l r = simp (e, r, lit_seen (at lhs), mul_seen (at lhs), exp_seen (at lhs), l)
 
-  pub lit_other : {t : Arm Term} {a : ℤ} → shape_of (at lhs) ≡ shape.Lit a → lit_in (at rhs) ≡ skip → t ≡ inside (one_lit at a rhs) → t ≡ inside (mulLits at lhs rhs)
+  pub lit_other : {t : Arm Term} {a : ℤ} → shape_of (at lhs) ≡ shape.Lit a → lit_in (at rhs) ≡ skip → t ≡ inside (one_lit at a rhs) → t ≡ inside (mul_lits at lhs rhs)
   lit_other l r h = h ∙ lit_any (mul_in (at rhs)) refl l r
 
-  any_lit : {b : ℤ} (m : Arm (ℕ × ℕ)) → mul_in (at lhs) ≡ m → lit_in (at lhs) ≡ skip → exp_in (at lhs) ≡ skip → shape_of (at rhs) ≡ shape.Lit b → inside (one_lit at b lhs) ≡ inside (mulLits at lhs rhs)
-  unfolding mulLits one_lit
+  any_lit : {b : ℤ} (m : Arm (ℕ × ℕ)) → mul_in (at lhs) ≡ m → lit_in (at lhs) ≡ skip → exp_in (at lhs) ≡ skip → shape_of (at rhs) ≡ shape.Lit b → inside (one_lit at b lhs) ≡ inside (mul_lits at lhs rhs)
+  unfolding mul_lits one_lit
   any_lit skip e l x r = simp (e, l, x, lit_seen (at rhs), mul_seen (at rhs), exp_seen (at rhs), r)
   any_lit leave e l x r = simp (e, l, x, lit_seen (at rhs), mul_seen (at rhs), exp_seen (at rhs), r)
   any_lit (return p) e l x r = simp (e, l, x, lit_seen (at rhs), mul_seen (at rhs), exp_seen (at rhs), r)
 
-  pub other_lit : {t : Arm Term} {b : ℤ} → lit_in (at lhs) ≡ skip → exp_in (at lhs) ≡ skip → shape_of (at rhs) ≡ shape.Lit b → t ≡ inside (one_lit at b lhs) → t ≡ inside (mulLits at lhs rhs)
+  pub other_lit : {t : Arm Term} {b : ℤ} → lit_in (at lhs) ≡ skip → exp_in (at lhs) ≡ skip → shape_of (at rhs) ≡ shape.Lit b → t ≡ inside (one_lit at b lhs) → t ≡ inside (mul_lits at lhs rhs)
   other_lit l x r h = h ∙ any_lit (mul_in (at lhs)) refl l x r
 
-  pub exp_lit : {t : Arm Term} {a : ℕ} {b : ℤ} → shape_of (at lhs) ≡ shape.Exp a → shape_of (at rhs) ≡ shape.Lit b → t ≡ inside (one_lit at b lhs) → t ≡ inside (mulLits at lhs rhs)
-  unfolding mulLits one_lit
+  pub exp_lit : {t : Arm Term} {a : ℕ} {b : ℤ} → shape_of (at lhs) ≡ shape.Exp a → shape_of (at rhs) ≡ shape.Lit b → t ≡ inside (one_lit at b lhs) → t ≡ inside (mul_lits at lhs rhs)
+  unfolding mul_lits one_lit
   exp_lit l r h = h ∙ simp (lit_seen, mul_seen, exp_seen, l, r)
 
-  pub exp_exp : {a b : ℕ} → shape_of (at lhs) ≡ shape.Exp a → shape_of (at rhs) ≡ shape.Exp b → return (exp (add (# a) (# b))) ≡ inside (mulLits at lhs rhs)
-  unfolding mulLits
+  pub exp_exp : {a b : ℕ} → shape_of (at lhs) ≡ shape.Exp a → shape_of (at rhs) ≡ shape.Exp b → return (exp (add (# a) (# b))) ≡ inside (mul_lits at lhs rhs)
+  unfolding mul_lits
   exp_exp l r = simp (lit_seen, mul_seen, exp_seen, l, r)
 
-  pub exp_none : {a : ℕ} → shape_of (at lhs) ≡ shape.Exp a → lit_in (at rhs) ≡ skip → exp_in (at rhs) ≡ skip → leave ≡ inside (mulLits at lhs rhs)
-  unfolding mulLits
+  pub exp_none : {a : ℕ} → shape_of (at lhs) ≡ shape.Exp a → lit_in (at rhs) ≡ skip → exp_in (at rhs) ≡ skip → leave ≡ inside (mul_lits at lhs rhs)
+  unfolding mul_lits
   exp_none l r x = simp (r, x, lit_seen (at lhs), mul_seen (at lhs), exp_seen (at lhs), l)
 
-  any_none : (m : Arm (ℕ × ℕ)) → mul_in (at lhs) ≡ m → lit_in (at lhs) ≡ skip → exp_in (at lhs) ≡ skip → lit_in (at rhs) ≡ skip → leave ≡ inside (mulLits at lhs rhs)
-  unfolding mulLits
+  any_none : (m : Arm (ℕ × ℕ)) → mul_in (at lhs) ≡ m → lit_in (at lhs) ≡ skip → exp_in (at lhs) ≡ skip → lit_in (at rhs) ≡ skip → leave ≡ inside (mul_lits at lhs rhs)
+  unfolding mul_lits
   any_none skip e l x r = simp (e, l, x, r)
   any_none leave e l x r = simp (e, l, x, r)
   any_none (return p) e l x r = simp (e, l, x, r)
 
-  pub other_none : lit_in (at lhs) ≡ skip → exp_in (at lhs) ≡ skip → lit_in (at rhs) ≡ skip → leave ≡ inside (mulLits at lhs rhs)
+  pub other_none : lit_in (at lhs) ≡ skip → exp_in (at lhs) ≡ skip → lit_in (at rhs) ≡ skip → leave ≡ inside (mul_lits at lhs rhs)
   other_none l x r = any_none (mul_in (at lhs)) refl l x r
 
   -- ---- exp simplifications
-  pub mul_exp : {t : Arm Term} {a1 a2 b : ℕ} → shape_of (at lhs) ≡ shape.Mul a1 a2 → shape_of (at rhs) ≡ shape.Exp b → t ≡ inside (oneExp at a1 a2 b) → t ≡ inside (mulExps at lhs rhs)
-  unfolding mulExps oneExp
+  pub mul_exp : {t : Arm Term} {a1 a2 b : ℕ} → shape_of (at lhs) ≡ shape.Mul a1 a2 → shape_of (at rhs) ≡ shape.Exp b → t ≡ inside (one_exp at a1 a2 b) → t ≡ inside (mul_exps at lhs rhs)
+  unfolding mul_exps one_exp
   mul_exp l r h = h ∙ simp (mul_seen (at lhs), mul_seen (at rhs), exp_seen (at lhs), exp_seen (at rhs), l, r, entered)
 
-  pub exp_mul : {t : Arm Term} {a1 a2 b : ℕ} → shape_of (at lhs) ≡ shape.Exp b → shape_of (at rhs) ≡ shape.Mul a1 a2 → t ≡ inside (oneExp at a1 a2 b) → t ≡ inside (mulExps at lhs rhs)
-  unfolding mulExps oneExp
+  pub exp_mul : {t : Arm Term} {a1 a2 b : ℕ} → shape_of (at lhs) ≡ shape.Exp b → shape_of (at rhs) ≡ shape.Mul a1 a2 → t ≡ inside (one_exp at a1 a2 b) → t ≡ inside (mul_exps at lhs rhs)
+  unfolding mul_exps one_exp
   exp_mul l r h = h ∙ simp (mul_seen (at lhs), mul_seen (at rhs), exp_seen (at lhs), exp_seen (at rhs), l, r, entered)
 
-  pub mul_mul : {t : Arm Term} {a1 a2 b1 b2 : ℕ} → shape_of (at lhs) ≡ shape.Mul a1 a2 → shape_of (at rhs) ≡ shape.Mul b1 b2 → t ≡ inside (twoExps at a1 a2 b1 b2) → t ≡ inside (mulExps at lhs rhs)
-  unfolding mulExps twoExps
+  pub mul_mul : {t : Arm Term} {a1 a2 b1 b2 : ℕ} → shape_of (at lhs) ≡ shape.Mul a1 a2 → shape_of (at rhs) ≡ shape.Mul b1 b2 → t ≡ inside (two_exps at a1 a2 b1 b2) → t ≡ inside (mul_exps at lhs rhs)
+  unfolding mul_exps two_exps
   mul_mul l r h = h ∙ simp (mul_seen (at lhs), mul_seen (at rhs), exp_seen (at lhs), exp_seen (at rhs), l, r, braces)
 
-  pub mul_none : {a1 a2 : ℕ} → shape_of (at lhs) ≡ shape.Mul a1 a2 → mul_in (at rhs) ≡ skip → exp_in (at rhs) ≡ skip → leave ≡ inside (mulExps at lhs rhs)
-  unfolding mulExps
+  pub mul_none : {a1 a2 : ℕ} → shape_of (at lhs) ≡ shape.Mul a1 a2 → mul_in (at rhs) ≡ skip → exp_in (at rhs) ≡ skip → leave ≡ inside (mul_exps at lhs rhs)
+  unfolding mul_exps
   mul_none l r x = simp (r, x, mul_seen (at lhs), exp_seen (at lhs), l)
 
-  pub exp_no_mul : {b : ℕ} → shape_of (at lhs) ≡ shape.Exp b → mul_in (at rhs) ≡ skip → leave ≡ inside (mulExps at lhs rhs)
-  unfolding mulExps
+  pub exp_no_mul : {b : ℕ} → shape_of (at lhs) ≡ shape.Exp b → mul_in (at rhs) ≡ skip → leave ≡ inside (mul_exps at lhs rhs)
+  unfolding mul_exps
   exp_no_mul l r = simp (r, mul_seen (at lhs), exp_seen (at lhs), l)
 
-  pub no_mul_no_exp : mul_in (at lhs) ≡ skip → exp_in (at lhs) ≡ skip → leave ≡ inside (mulExps at lhs rhs)
-  unfolding mulExps
+  pub no_mul_no_exp : mul_in (at lhs) ≡ skip → exp_in (at lhs) ≡ skip → leave ≡ inside (mul_exps at lhs rhs)
+  unfolding mul_exps
   no_mul_no_exp l x = simp (l, x)
 
   -- ---- moving literals left
-  pub products : {t : Arm Term} {a1 a2 b1 b2 : ℕ} → shape_of (at lhs) ≡ shape.Mul a1 a2 → shape_of (at rhs) ≡ shape.Mul b1 b2 → t ≡ inside (litsAhead at a1 a2 b1 b2) → t ≡ inside (mulLeft at lhs rhs)
-  unfolding mulLeft litsAhead
+  pub products : {t : Arm Term} {a1 a2 b1 b2 : ℕ} → shape_of (at lhs) ≡ shape.Mul a1 a2 → shape_of (at rhs) ≡ shape.Mul b1 b2 → t ≡ inside (lits_ahead at a1 a2 b1 b2) → t ≡ inside (mul_left at lhs rhs)
+  unfolding mul_left lits_ahead
   products l r h = h ∙ simp (mul_seen (at lhs), mul_seen (at rhs), l, r, entered)
 
-  pub product_left : {t : Arm Term} {a1 a2 : ℕ} → shape_of (at lhs) ≡ shape.Mul a1 a2 → mul_in (at rhs) ≡ skip → t ≡ inside (litAhead at a1 a2 rhs) → t ≡ inside (mulLeft at lhs rhs)
-  unfolding mulLeft litAhead
+  pub product_left : {t : Arm Term} {a1 a2 : ℕ} → shape_of (at lhs) ≡ shape.Mul a1 a2 → mul_in (at rhs) ≡ skip → t ≡ inside (lit_ahead at a1 a2 rhs) → t ≡ inside (mul_left at lhs rhs)
+  unfolding mul_left lit_ahead
   product_left l r h = h ∙ simp (r, mul_seen (at lhs), l, entered)
 
-  pub product_right : {t : Arm Term} {b1 b2 : ℕ} → mul_in (at lhs) ≡ skip → shape_of (at rhs) ≡ shape.Mul b1 b2 → t ≡ inside (litAhead at b1 b2 lhs) → t ≡ inside (mulLeft at lhs rhs)
-  unfolding mulLeft litAhead
+  pub product_right : {t : Arm Term} {b1 b2 : ℕ} → mul_in (at lhs) ≡ skip → shape_of (at rhs) ≡ shape.Mul b1 b2 → t ≡ inside (lit_ahead at b1 b2 lhs) → t ≡ inside (mul_left at lhs rhs)
+  unfolding mul_left lit_ahead
   product_right l r h = h ∙ simp (l, mul_seen (at rhs), r, braces)
 
-  pub no_product : mul_in (at lhs) ≡ skip → mul_in (at rhs) ≡ skip → leave ≡ inside (mulLeft at lhs rhs)
-  unfolding mulLeft
+  pub no_product : mul_in (at lhs) ≡ skip → mul_in (at rhs) ≡ skip → leave ≡ inside (mul_left at lhs rhs)
+  unfolding mul_left
   no_product l r = simp (l, r)
 
   -- ---- pow simplifications
-  pub no_factors : mul_in (at lhs) ≡ skip → leave ≡ inside (mulPows at lhs rhs)
-  unfolding mulPows
+  pub no_factors : mul_in (at lhs) ≡ skip → leave ≡ inside (mul_pows at lhs rhs)
+  unfolding mul_pows
   no_factors l = simp l
 
-  pub same_factor : {a1 a2 : ℕ} → shape_of (at lhs) ≡ shape.Mul a1 a2 → eqb a2 rhs ≡ true → return (mul (# a1) (pow (# a2) 2)) ≡ inside (mulPows at lhs rhs)
-  unfolding mulPows
+  pub same_factor : {a1 a2 : ℕ} → shape_of (at lhs) ≡ shape.Mul a1 a2 → eqb a2 rhs ≡ true → return (mul (# a1) (pow (# a2) 2)) ≡ inside (mul_pows at lhs rhs)
+  unfolding mul_pows
   same_factor l e = simp (mul_seen (at lhs), l, e)
 
-  pub no_power : {a1 a2 : ℕ} → shape_of (at lhs) ≡ shape.Mul a1 a2 → eqb a2 rhs ≡ false → pow_in (at rhs) ≡ skip → leave ≡ inside (mulPows at lhs rhs)
-  unfolding mulPows
+  pub no_power : {a1 a2 : ℕ} → shape_of (at lhs) ≡ shape.Mul a1 a2 → eqb a2 rhs ≡ false → pow_in (at rhs) ≡ skip → leave ≡ inside (mul_pows at lhs rhs)
+  unfolding mul_pows
   no_power l e r = simp (r, mul_seen (at lhs), l, e)
 
-  pub mul_pow : {t : Arm Term} {a1 a2 b n : ℕ} → shape_of (at lhs) ≡ shape.Mul a1 a2 → eqb a2 rhs ≡ false → shape_of (at rhs) ≡ shape.Pow b n → t ≡ inside (twoPows at a1 a2 b n) → t ≡ inside (mulPows at lhs rhs)
-  unfolding mulPows twoPows
+  pub mul_pow : {t : Arm Term} {a1 a2 b n : ℕ} → shape_of (at lhs) ≡ shape.Mul a1 a2 → eqb a2 rhs ≡ false → shape_of (at rhs) ≡ shape.Pow b n → t ≡ inside (two_pows at a1 a2 b n) → t ≡ inside (mul_pows at lhs rhs)
+  unfolding mul_pows two_pows
   mul_pow l e r h = h ∙ simp (mul_seen (at lhs), pow_seen (at rhs), l, r, e, or_braces)
 
   -- ---- the last statements
   pub lit_last : {b : ℤ} → shape_of (at rhs) ≡ shape.Lit b → Mul (# rhs) (# lhs) ≡ from_last
-  unfolding mulLast
+  unfolding mul_last
   lit_last r = simp (lit_seen (at rhs), r)
 
   pub other_last : lit_in (at rhs) ≡ skip → Mul (# lhs) (# rhs) ≡ from_last
-  unfolding mulLast
+  unfolding mul_last
   other_last r = simp r

@@ -12,7 +12,7 @@ use Rattle.constructors.specs.Patterns.{lit_in, mul_in, exp_in, pow_in}
 use Rattle.views.specs.Shapes.{shape_of}
 use Rattle.views.specs.declared.Shape.TheVariants as shape
 use Rattle.views.proofs.Patterns.{mul_seen, pow_seen}
-use Rattle.mul_rules.specs.Rules.{two_lits, one_lit, oneExp, twoExps, litsAhead, litAhead, twoPows}
+use Rattle.mul_rules.specs.Rules.{two_lits, one_lit, one_exp, two_exps, lits_ahead, lit_ahead, two_pows}
 
 module _ (a b : ℤ) (lhs rhs : ℕ) where
   pub left_zero : is_zero a ≡ true → return (lit (pos 0)) ≡ inside (two_lits a b lhs rhs)
@@ -58,41 +58,41 @@ module _ (at : ℕ → Node) where
     scaled p q m z = simp (p, q, mul_seen (at other), m, z)
 
   module _ (a1 a2 b : ℕ) where
-    pub second_exp : {x : ℕ} → exp_in (at a2) ≡ return x → return (mul (# a1) (exp (add (# x) (# b)))) ≡ inside (oneExp at a1 a2 b)
-    unfolding oneExp
+    pub second_exp : {x : ℕ} → exp_in (at a2) ≡ return x → return (mul (# a1) (exp (add (# x) (# b)))) ≡ inside (one_exp at a1 a2 b)
+    unfolding one_exp
     second_exp p = simp p
 
-    pub first_exp : {x : ℕ} → exp_in (at a2) ≡ skip → exp_in (at a1) ≡ return x → return (mul (# a2) (exp (add (# x) (# b)))) ≡ inside (oneExp at a1 a2 b)
-    unfolding oneExp
+    pub first_exp : {x : ℕ} → exp_in (at a2) ≡ skip → exp_in (at a1) ≡ return x → return (mul (# a2) (exp (add (# x) (# b)))) ≡ inside (one_exp at a1 a2 b)
+    unfolding one_exp
     first_exp p q = simp (p, q)
 
-    pub no_exp : exp_in (at a2) ≡ skip → exp_in (at a1) ≡ skip → leave ≡ inside (oneExp at a1 a2 b)
-    unfolding oneExp
+    pub no_exp : exp_in (at a2) ≡ skip → exp_in (at a1) ≡ skip → leave ≡ inside (one_exp at a1 a2 b)
+    unfolding one_exp
     no_exp p q = simp (p, q)
 
   module _ (a1 a2 b1 b2 : ℕ) where
-    pub exp_1_1 : {x y : ℕ} → exp_in (at a1) ≡ return x → exp_in (at b1) ≡ return y → return (mul (mul (# a2) (# b2)) (exp (add (# x) (# y)))) ≡ inside (twoExps at a1 a2 b1 b2)
-    unfolding twoExps
+    pub exp_1_1 : {x y : ℕ} → exp_in (at a1) ≡ return x → exp_in (at b1) ≡ return y → return (mul (mul (# a2) (# b2)) (exp (add (# x) (# y)))) ≡ inside (two_exps at a1 a2 b1 b2)
+    unfolding two_exps
     exp_1_1 p r = simp (p, r)
 
-    pub exp_1_2 : {x y : ℕ} → exp_in (at a1) ≡ return x → exp_in (at b1) ≡ skip → exp_in (at b2) ≡ return y → return (mul (mul (# a2) (# b1)) (exp (add (# x) (# y)))) ≡ inside (twoExps at a1 a2 b1 b2)
-    unfolding twoExps
+    pub exp_1_2 : {x y : ℕ} → exp_in (at a1) ≡ return x → exp_in (at b1) ≡ skip → exp_in (at b2) ≡ return y → return (mul (mul (# a2) (# b1)) (exp (add (# x) (# y)))) ≡ inside (two_exps at a1 a2 b1 b2)
+    unfolding two_exps
     exp_1_2 p r s = simp (p, r, s)
 
-    pub exp_2_1 : {x y : ℕ} → exp_in (at a1) ≡ skip → exp_in (at a2) ≡ return x → exp_in (at b1) ≡ return y → return (mul (mul (# a1) (# b2)) (exp (add (# x) (# y)))) ≡ inside (twoExps at a1 a2 b1 b2)
-    unfolding twoExps
+    pub exp_2_1 : {x y : ℕ} → exp_in (at a1) ≡ skip → exp_in (at a2) ≡ return x → exp_in (at b1) ≡ return y → return (mul (mul (# a1) (# b2)) (exp (add (# x) (# y)))) ≡ inside (two_exps at a1 a2 b1 b2)
+    unfolding two_exps
     exp_2_1 p q r = simp (p, q, r)
 
-    pub exp_2_2 : {x y : ℕ} → exp_in (at a1) ≡ skip → exp_in (at a2) ≡ return x → exp_in (at b1) ≡ skip → exp_in (at b2) ≡ return y → return (mul (mul (# a1) (# b1)) (exp (add (# x) (# y)))) ≡ inside (twoExps at a1 a2 b1 b2)
-    unfolding twoExps
+    pub exp_2_2 : {x y : ℕ} → exp_in (at a1) ≡ skip → exp_in (at a2) ≡ return x → exp_in (at b1) ≡ skip → exp_in (at b2) ≡ return y → return (mul (mul (# a1) (# b1)) (exp (add (# x) (# y)))) ≡ inside (two_exps at a1 a2 b1 b2)
+    unfolding two_exps
     exp_2_2 p q r s = simp (p, q, r, s)
 
-    pub no_left_exp : exp_in (at a1) ≡ skip → exp_in (at a2) ≡ skip → leave ≡ inside (twoExps at a1 a2 b1 b2)
-    unfolding twoExps
+    pub no_left_exp : exp_in (at a1) ≡ skip → exp_in (at a2) ≡ skip → leave ≡ inside (two_exps at a1 a2 b1 b2)
+    unfolding two_exps
     no_left_exp p q = simp (p, q)
 
-    any_no_exp : (x y : Arm ℕ) → exp_in (at a1) ≡ x → exp_in (at a2) ≡ y → exp_in (at b1) ≡ skip → exp_in (at b2) ≡ skip → leave ≡ inside (twoExps at a1 a2 b1 b2)
-    unfolding twoExps
+    any_no_exp : (x y : Arm ℕ) → exp_in (at a1) ≡ x → exp_in (at a2) ≡ y → exp_in (at b1) ≡ skip → exp_in (at b2) ≡ skip → leave ≡ inside (two_exps at a1 a2 b1 b2)
+    unfolding two_exps
     any_no_exp skip skip p q r s = simp (p, q, r, s)
     any_no_exp skip leave p q r s = simp (p, q, r, s)
     any_no_exp skip (return y) p q r s = simp (p, q, r, s)
@@ -101,43 +101,43 @@ module _ (at : ℕ → Node) where
     any_no_exp (return x) leave p q r s = simp (p, q, r, s)
     any_no_exp (return x) (return y) p q r s = simp (p, q, r, s)
 
-    pub no_right_exp : exp_in (at b1) ≡ skip → exp_in (at b2) ≡ skip → leave ≡ inside (twoExps at a1 a2 b1 b2)
+    pub no_right_exp : exp_in (at b1) ≡ skip → exp_in (at b2) ≡ skip → leave ≡ inside (two_exps at a1 a2 b1 b2)
     no_right_exp r s = any_no_exp (exp_in (at a1)) (exp_in (at a2)) refl refl r s
 
-    pub left_not : lit_in (at a1) ≡ skip → leave ≡ inside (litsAhead at a1 a2 b1 b2)
-    unfolding litsAhead
+    pub left_not : lit_in (at a1) ≡ skip → leave ≡ inside (lits_ahead at a1 a2 b1 b2)
+    unfolding lits_ahead
     left_not p = simp p
 
-    pub right_not : {x : ℤ} → lit_in (at a1) ≡ return x → lit_in (at b1) ≡ skip → leave ≡ inside (litsAhead at a1 a2 b1 b2)
-    unfolding litsAhead
+    pub right_not : {x : ℤ} → lit_in (at a1) ≡ return x → lit_in (at b1) ≡ skip → leave ≡ inside (lits_ahead at a1 a2 b1 b2)
+    unfolding lits_ahead
     right_not p r = simp (p, r)
 
-    pub both_ahead : {x y : ℤ} → lit_in (at a1) ≡ return x → lit_in (at b1) ≡ return y → return (Mul (lit (x *ℤ y)) (mul (# a2) (# b2))) ≡ inside (litsAhead at a1 a2 b1 b2)
-    unfolding litsAhead
+    pub both_ahead : {x y : ℤ} → lit_in (at a1) ≡ return x → lit_in (at b1) ≡ return y → return (Mul (lit (x *ℤ y)) (mul (# a2) (# b2))) ≡ inside (lits_ahead at a1 a2 b1 b2)
+    unfolding lits_ahead
     both_ahead p r = simp (p, r)
 
   module _ (a1 a2 other : ℕ) where
-    pub none_ahead : lit_in (at a1) ≡ skip → leave ≡ inside (litAhead at a1 a2 other)
-    unfolding litAhead
+    pub none_ahead : lit_in (at a1) ≡ skip → leave ≡ inside (lit_ahead at a1 a2 other)
+    unfolding lit_ahead
     none_ahead p = simp p
 
-    pub one_ahead : {x : ℤ} → lit_in (at a1) ≡ return x → return (Mul (# a1) (mul (# a2) (# other))) ≡ inside (litAhead at a1 a2 other)
-    unfolding litAhead
+    pub one_ahead : {x : ℤ} → lit_in (at a1) ≡ return x → return (Mul (# a1) (mul (# a2) (# other))) ≡ inside (lit_ahead at a1 a2 other)
+    unfolding lit_ahead
     one_ahead p = simp p
 
   module _ (a1 a2 b n : ℕ) where
-    pub same_base : eqb a2 b ≡ true → return (mul (# a1) (pow (# a2) (n + 1))) ≡ inside (twoPows at a1 a2 b n)
-    unfolding twoPows
+    pub same_base : eqb a2 b ≡ true → return (mul (# a1) (pow (# a2) (n + 1))) ≡ inside (two_pows at a1 a2 b n)
+    unfolding two_pows
     same_base e = simp e
 
-    pub no_base : eqb a2 b ≡ false → pow_in (at a2) ≡ skip → leave ≡ inside (twoPows at a1 a2 b n)
-    unfolding twoPows
+    pub no_base : eqb a2 b ≡ false → pow_in (at a2) ≡ skip → leave ≡ inside (two_pows at a1 a2 b n)
+    unfolding two_pows
     no_base e p = simp (e, p)
 
-    pub both_pows : {a21 exp1 : ℕ} → eqb a2 b ≡ false → shape_of (at a2) ≡ shape.Pow a21 exp1 → eqb a21 b ≡ true → return (mul (# a1) (pow (# a21) (exp1 + n))) ≡ inside (twoPows at a1 a2 b n)
-    unfolding twoPows
+    pub both_pows : {a21 exp1 : ℕ} → eqb a2 b ≡ false → shape_of (at a2) ≡ shape.Pow a21 exp1 → eqb a21 b ≡ true → return (mul (# a1) (pow (# a21) (exp1 + n))) ≡ inside (two_pows at a1 a2 b n)
+    unfolding two_pows
     both_pows e p f = simp (e, pow_seen (at a2), p, f)
 
-    pub other_base : {a21 exp1 : ℕ} → eqb a2 b ≡ false → shape_of (at a2) ≡ shape.Pow a21 exp1 → eqb a21 b ≡ false → leave ≡ inside (twoPows at a1 a2 b n)
-    unfolding twoPows
+    pub other_base : {a21 exp1 : ℕ} → eqb a2 b ≡ false → shape_of (at a2) ≡ shape.Pow a21 exp1 → eqb a21 b ≡ false → leave ≡ inside (two_pows at a1 a2 b n)
+    unfolding two_pows
     other_base e p f = simp (e, pow_seen (at a2), p, f)

@@ -5,8 +5,8 @@ ghost use Rattle.std.specs.Prelude.{◌≡◌};
 ghost use Rattle.pool.specs.Pool.{node_in};
 ghost use Rattle.views.specs.Shapes.{shape_of};
 ghost use Rattle.constructors.specs.Terms.{#, Mul, inside, ◌then◌};
-ghost use Rattle.constructors.specs.Tables.{lit?, exp?, mulLits, mulExps, mulLeft, mulPows, mulLast, mulTable};
-ghost use Rattle.mul_rules.specs.Rules.{mul_term, arm_of, lit_arm, exp_arm, two_lits, one_lit, oneExp, twoExps, litsAhead, litAhead, twoPows};
+ghost use Rattle.constructors.specs.Tables.{lit?, exp?, mul_lits, mul_exps, mul_left, mul_pows, mul_last, mul_table};
+ghost use Rattle.mul_rules.specs.Rules.{mul_term, arm_of, lit_arm, exp_arm, two_lits, one_lit, one_exp, two_exps, lits_ahead, lit_ahead, two_pows};
 
 use pool::LIMIT;
 use views::Shape;
@@ -127,7 +127,7 @@ fn lits(
     right: Shape,
 ) -> Tried
     requires { (left ≡ shape_of (node_in kinds.now words.now lhs)) × (right ≡ shape_of (node_in kinds.now words.now rhs)) }
-    ensures { arm_of result ≡ inside (mulLits (node_in kinds.now words.now) lhs rhs) }
+    ensures { arm_of result ≡ inside (mul_lits (node_in kinds.now words.now) lhs rhs) }
 {
     match left {
         Shape::Lit(a) => match right {
@@ -148,7 +148,7 @@ fn lits(
 
 // A product of a1 and a2, which may have an Exp, and exp(b).
 fn one_exp(kinds: &[u8; LIMIT], words: &[u64; LIMIT], a1: u32, a2: u32, b: u32) -> Tried
-    ensures { arm_of result ≡ inside (oneExp (node_in kinds.now words.now) a1 a2 b) }
+    ensures { arm_of result ≡ inside (one_exp (node_in kinds.now words.now) a1 a2 b) }
 {
     if let ExpSeen::Exp(x) = exp_at(kinds, words, a2) {
         return Tried::Is(MulRule::OverExp(a1, x, b));
@@ -161,7 +161,7 @@ fn one_exp(kinds: &[u8; LIMIT], words: &[u64; LIMIT], a1: u32, a2: u32, b: u32) 
 
 // A product of a1 and a2, and one of b1 and b2: each may have an Exp.
 fn two_exps(kinds: &[u8; LIMIT], words: &[u64; LIMIT], a1: u32, a2: u32, b1: u32, b2: u32) -> Tried
-    ensures { arm_of result ≡ inside (twoExps (node_in kinds.now words.now) a1 a2 b1 b2) }
+    ensures { arm_of result ≡ inside (two_exps (node_in kinds.now words.now) a1 a2 b1 b2) }
 {
     if let ExpSeen::Exp(x) = exp_at(kinds, words, a1) {
         if let ExpSeen::Exp(y) = exp_at(kinds, words, b1) {
@@ -194,7 +194,7 @@ fn exps(
     right: Shape,
 ) -> Tried
     requires { (left ≡ shape_of (node_in kinds.now words.now lhs)) × (right ≡ shape_of (node_in kinds.now words.now rhs)) }
-    ensures { arm_of result ≡ inside (mulExps (node_in kinds.now words.now) lhs rhs) }
+    ensures { arm_of result ≡ inside (mul_exps (node_in kinds.now words.now) lhs rhs) }
 {
     match left {
         Shape::Mul(a1, a2) => match right {
@@ -219,7 +219,7 @@ fn lits_ahead(
     b1: u32,
     b2: u32,
 ) -> Tried
-    ensures { arm_of result ≡ inside (litsAhead (node_in kinds.now words.now) a1 a2 b1 b2) }
+    ensures { arm_of result ≡ inside (lits_ahead (node_in kinds.now words.now) a1 a2 b1 b2) }
 {
     let LitSeen::Lit(x) = lit_at(kinds, words, a1) else {
         return Tried::Next;
@@ -232,7 +232,7 @@ fn lits_ahead(
 
 // A product of a1 and a2, and another node: the product may start with a literal.
 fn lit_ahead(kinds: &[u8; LIMIT], words: &[u64; LIMIT], a1: u32, a2: u32, other: u32) -> Tried
-    ensures { arm_of result ≡ inside (litAhead (node_in kinds.now words.now) a1 a2 other) }
+    ensures { arm_of result ≡ inside (lit_ahead (node_in kinds.now words.now) a1 a2 other) }
 {
     let LitSeen::Lit(_) = lit_at(kinds, words, a1) else {
         return Tried::Next;
@@ -250,7 +250,7 @@ fn ahead(
     right: Shape,
 ) -> Tried
     requires { (left ≡ shape_of (node_in kinds.now words.now lhs)) × (right ≡ shape_of (node_in kinds.now words.now rhs)) }
-    ensures { arm_of result ≡ inside (mulLeft (node_in kinds.now words.now) lhs rhs) }
+    ensures { arm_of result ≡ inside (mul_left (node_in kinds.now words.now) lhs rhs) }
 {
     match left {
         Shape::Mul(a1, a2) => match right {
@@ -266,7 +266,7 @@ fn ahead(
 
 // A product of a1 and a2, and the power n of b.
 fn two_pows(kinds: &[u8; LIMIT], words: &[u64; LIMIT], a1: u32, a2: u32, b: u32, n: u32) -> Tried
-    ensures { arm_of result ≡ inside (twoPows (node_in kinds.now words.now) a1 a2 b n) }
+    ensures { arm_of result ≡ inside (two_pows (node_in kinds.now words.now) a1 a2 b n) }
 {
     if a2 == b {
         return Tried::Is(MulRule::Power(a1, a2, n, 1));
@@ -290,7 +290,7 @@ fn pows(
     right: Shape,
 ) -> Tried
     requires { (left ≡ shape_of (node_in kinds.now words.now lhs)) × (right ≡ shape_of (node_in kinds.now words.now rhs)) }
-    ensures { arm_of result ≡ inside (mulPows (node_in kinds.now words.now) lhs rhs) }
+    ensures { arm_of result ≡ inside (mul_pows (node_in kinds.now words.now) lhs rhs) }
 {
     let Shape::Mul(a1, a2) = left else {
         return Tried::Next;
@@ -307,7 +307,7 @@ fn pows(
 // The last statements.
 fn last(kinds: &[u8; LIMIT], words: &[u64; LIMIT], lhs: u32, rhs: u32, right: Shape) -> MulRule
     requires { right ≡ shape_of (node_in kinds.now words.now rhs) }
-    ensures { mul_term result ≡ (mulLast (node_in kinds.now words.now) lhs rhs then Mul (# lhs) (# rhs)) }
+    ensures { mul_term result ≡ (mul_last (node_in kinds.now words.now) lhs rhs then Mul (# lhs) (# rhs)) }
 {
     let Shape::Lit(_) = right else {
         return MulRule::Plain(lhs, rhs);
@@ -317,7 +317,7 @@ fn last(kinds: &[u8; LIMIT], words: &[u64; LIMIT], lhs: u32, rhs: u32, right: Sh
 
 // The groups in the Rust's order.
 pub fn mul_rule(kinds: &[u8; LIMIT], words: &[u64; LIMIT], lhs: u32, rhs: u32) -> MulRule
-    ensures { mul_term result ≡ mulTable (node_in kinds.now words.now) lhs rhs }
+    ensures { mul_term result ≡ mul_table (node_in kinds.now words.now) lhs rhs }
 {
     let left = views::shape_at(kinds, words, lhs);
     let right = views::shape_at(kinds, words, rhs);

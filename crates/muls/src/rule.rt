@@ -1,6 +1,6 @@
 // Which rule of `exp` holds: the pool is read, and nothing is made.
 ghost use Rattle.std.specs.Prelude.{◌≡◌};
-ghost use Rattle.constructors.specs.Tables.{expTable};
+ghost use Rattle.constructors.specs.Tables.{exp_table};
 ghost use Rattle.pool.specs.Pool.{node_in};
 ghost use Rattle.muls.specs.Rule.{exp_term};
 
@@ -21,7 +21,7 @@ pub enum ExpRule {
 }
 
 pub fn exp_rule(kinds: &[u8; LIMIT], words: &[u64; LIMIT], arg: u32) -> ExpRule
-    ensures { exp_term result ≡ expTable (node_in kinds.now words.now) arg }
+    ensures { exp_term result ≡ exp_table (node_in kinds.now words.now) arg }
 {
     let shape = views::shape_at(kinds, words, arg);
     match shape {

@@ -23,9 +23,9 @@ use Rattle.constructor_laws.specs.Keeps.{Keeps}
 use Rattle.walks.specs.EvaluateResidue.{one, both, value_of_variable, residue_node, residue_below, evaluate_residue}
 use Rattle.pool.proofs.Folds.{visits, below}
 use Rattle.meaning.specs.Model.{power}
-use Rattle.meaning.specs.Value.{Values, valueNode, value}
+use Rattle.meaning.specs.Value.{Values, value_node, value}
 use Rattle.meaning.proofs.Values.{Each, each_below, Falling, falling, value_law}
-use Rattle.residue_meaning.specs.Residues.{Residues, or_zero, residues, fromTable}
+use Rattle.residue_meaning.specs.Residues.{Residues, or_zero, residues, from_table}
 use Rattle.residue_meaning.proofs.Model.{number}
 
 -- ---- answers that are accepted
@@ -64,7 +64,7 @@ residue_inside e = cc
 
 module _ (m : ℕ) (some : 2 ≤ m) (values : List ℕ) (small : (v : ℕ) → get_or values v 0 < m) where
   abbrev env : Values (residues m some)
-  env = fromTable m some values
+  env = from_table m some values
 
   -- whatever residue came for a part is its value
   abbrev Agree : (ℕ → Divided) → (ℕ → Residues m) → ℕ → Type 0
@@ -86,8 +86,8 @@ module _ (m : ℕ) (some : 2 ≤ m) (values : List ℕ) (small : (v : ℕ) → g
       go true e = number m some (get_or values v 0) ∙ mod-eq_of_lt (small v) ∙ residue_inside e
       go false e = not_refused e
 
-  node_agrees : (down : ℕ → Divided) (f : ℕ → Residues m) (x : Node) → Each (Agree down f) (parts x) → (r : ℕ) → residue_node m values down x ≡ Residue r → (valueNode (residues m some) env f x).0 ≡ r
-  unfolding valueNode
+  node_agrees : (down : ℕ → Divided) (f : ℕ → Residues m) (x : Node) → Each (Agree down f) (parts x) → (r : ℕ) → residue_node m values down x ≡ Residue r → (value_node (residues m some) env f x).0 ≡ r
+  unfolding value_node
   node_agrees down f Empty h r e = not_refused e
   node_agrees down f (Variable v) h r e = variable_agrees v r e
   node_agrees down f (Lit z) h r e = number m some (residue m z) ∙ mod-eq_of_lt (residue_below_lem m z some) ∙ residue_inside e
@@ -127,5 +127,5 @@ module _ (m : ℕ) (some : 2 ≤ m) (values : List ℕ) (small : (v : ℕ) → g
       (sym (visits (Refused broken_pool) (residue_node m values) at i) ∙ e)
 
   -- an accepted evaluation by residues gives the value in the algebra of residues
-  pub residue_is_value : {P : Pool} → Keeps P → (root r : ℕ) → evaluate_residue m (node_at P) values root ≡ Residue r → (value (residues m some) (fromTable m some values) (node_at P) root).0 ≡ r
+  pub residue_is_value : {P : Pool} → Keeps P → (root r : ℕ) → evaluate_residue m (node_at P) values root ≡ Residue r → (value (residues m some) (from_table m some values) (node_at P) root).0 ≡ r
   residue_is_value {P} k root r e = agrees_below (node_at P) (falling k) (suc root) root (omega arith) r e

@@ -30,19 +30,19 @@ use Rattle.taylor_meaning.specs.Coefficients.{coefficient}
 use Rattle.taylor_meaning.specs.PolynomialExpressions.{PlainExpression}
 use Rattle.taylor_meaning.proofs.PolynomialExpressions.{plain_expansion_keeps}
 use Rattle.taylor_meaning.proofs.FirstCoefficients.{derive_is_coefficient}
-use Rattle.residue_meaning.specs.Residues.{Residues, reduced, residues, fromTable}
+use Rattle.residue_meaning.specs.Residues.{Residues, reduced, residues, from_table}
 use Rattle.residue_meaning.proofs.Model.{same, number, residues_model, residues_ring}
 use Rattle.residue_meaning.proofs.Evaluation.{residue_is_value}
 
 module _ (m : ℕ) (some : 2 ≤ m) (values : List ℕ) (small : (v : ℕ) → get_or values v 0 < m) {P : Pool} (keeps : Keeps P) where
   abbrev env : Values (residues m some)
-  env = fromTable m some values
+  env = from_table m some values
 
   -- the table with one value set
-  table_set : (v : ℕ) (g : Residues m) → v < length values → fromTable m some (set values v g.0) ≡ setting (residues m some) env v g
+  table_set : (v : ℕ) (g : Residues m) → v < length values → from_table m some (set values v g.0) ≡ setting (residues m some) env v g
   table_set v g l = fun_ext (λ u. go u (eqb u v) refl)
     where
-      go : (u : ℕ) (t : Bool) → eqb u v ≡ t → fromTable m some (set values v g.0) u ≡ cond t g (env u)
+      go : (u : ℕ) (t : Bool) → eqb u v ≡ t → from_table m some (set values v g.0) u ≡ cond t g (env u)
       go u true t =
           ap (λ i. reduced m some (get_or (set values v g.0) i 0)) (eqb-true u v t)
           ∙ ap (reduced m some) (get_or-set_same values v g.0 0 l)
@@ -69,7 +69,7 @@ module _ (m : ℕ) (some : 2 ≤ m) (values : List ℕ) (small : (v : ℕ) → g
       let keeps_Q = (accepted_kept (substitute_kept var given root keeps h l) accepted).keeps in
       let put = value (residues m some) env (node_at P) given in
       let is_g : put.0 ≡ g = residue_is_value m some values small keeps given g eg in
-      let is_s : (value (residues m some) (fromTable m some (set values var put.0)) (node_at P) root).0 ≡ s =
+      let is_s : (value (residues m some) (from_table m some (set values var put.0)) (node_at P) root).0 ≡ s =
       residue_is_value m some (set values var put.0) (still_small var put.0 (ltb-true put.0 m put.1) k) keeps root s (rw is_g es) in
       sym (residue_is_value m some values small keeps_Q i r er)
       ∙ ap (λ (a : Residues m). a.0) (substitution_means (residues_model m some) env keeps var given l root h accepted).answer

@@ -11,7 +11,7 @@ use Rattle.pool.specs.declared.node.Node.TheVariants as node
 use Rattle.pool.specs.Nodes.{greatest_exponent}
 use Rattle.pool.specs.Pool.{Pool, node_at}
 use Rattle.constructors.specs.Terms.{Term, #, lit, lit-exp, lit-log, add, mul, exp, log, pow, Add, Mul, Div, Max, Exp, Log, Pow}
-use Rattle.constructors.specs.Tables.{addTable, mulTable, divTable, negTable, expTable, logTable, powTable, maxTable}
+use Rattle.constructors.specs.Tables.{add_table, mul_table, div_table, neg_table, exp_table, log_table, pow_table, max_table}
 use Rattle.constructors.specs.Build.{Calls, literal, build, no_calls, deeper, calls}
 use Rattle.situations.specs.Refusal.{OneOf}
 use Rattle.situations.specs.Situations.{of_constructors}
@@ -103,14 +103,14 @@ table_refuses g table = record { refuses = λ P. (build_refuses g (table P)).ref
 pub deeper_refuse : {c : Calls} → AllRefuse c → AllRefuse (deeper c)
 deeper_refuse g =
     record {
-      add_at = λ lhs rhs. table_refuses g (λ P. addTable (node_at P) lhs rhs);
-      mul_at = λ lhs rhs. table_refuses g (λ P. mulTable (node_at P) lhs rhs);
-      div_at = λ lhs rhs. table_refuses g (λ P. divTable (node_at P) lhs rhs);
-      max_at = λ lhs rhs. table_refuses g (λ P. maxTable (node_at P) lhs rhs);
-      neg_at = λ arg. table_refuses g (λ P. negTable (node_at P) arg);
-      exp_at_lem = λ arg. table_refuses g (λ P. expTable (node_at P) arg);
-      log_at_lem = λ arg. table_refuses g (λ P. logTable (node_at P) arg);
-      pow_at = λ base e. table_refuses g (λ P. powTable (node_at P) base e);
+      add_at = λ lhs rhs. table_refuses g (λ P. add_table (node_at P) lhs rhs);
+      mul_at = λ lhs rhs. table_refuses g (λ P. mul_table (node_at P) lhs rhs);
+      div_at = λ lhs rhs. table_refuses g (λ P. div_table (node_at P) lhs rhs);
+      max_at = λ lhs rhs. table_refuses g (λ P. max_table (node_at P) lhs rhs);
+      neg_at = λ arg. table_refuses g (λ P. neg_table (node_at P) arg);
+      exp_at_lem = λ arg. table_refuses g (λ P. exp_table (node_at P) arg);
+      log_at_lem = λ arg. table_refuses g (λ P. log_table (node_at P) arg);
+      pow_at = λ base e. table_refuses g (λ P. pow_table (node_at P) base e);
     }
 
 none_refuse : AllRefuse no_calls

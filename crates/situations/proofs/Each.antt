@@ -18,7 +18,7 @@ use Rattle.pool.specs.declared.node.Node.TheVariants as node
 use Rattle.pool.specs.Pool.{Pool, Out, done, refused, Run, bind, node_at}
 use Rattle.constructors.specs.Terms
 use Rattle.constructors.specs.Terms.{Term, #, lit, lit-exp, lit-log, Arm, skip, leave}
-use Rattle.constructors.specs.Tables.{lit?, add?, mul?, addArms, addTable, mulTable, divTable, expArms, expTable, logArms, logTable, powTable, maxTable}
+use Rattle.constructors.specs.Tables.{lit?, add?, mul?, add_arms, add_table, mul_table, div_table, exp_arms, exp_table, log_arms, log_table, pow_table, max_table}
 use Rattle.constructors.specs.Build.{Calls, literal, build, calls}
 use Rattle.constructor_laws.specs.Grown.{Grows}
 use Rattle.constructor_laws.proofs.Growth.{appended, append_comes_to, appended_grown, earlier_same, calls_grow}
@@ -50,8 +50,8 @@ module _ {c : Calls} (g : (a b : ℕ) → Refusing of_sums (c.add_at a b)) where
 
   -- the table's lines: what is returned for a term is what it makes
   module _ (at : ℕ → Node) (lhs rhs : ℕ) where
-    add_arms_lem : Gives (Making of_sums c) (addArms at lhs rhs)
-    unfolding addArms
+    add_arms_lem : Gives (Making of_sums c) (add_arms at lhs rhs)
+    unfolding add_arms
     add_arms_lem =
         (found (lit? at lhs) >>= (λ a _. is_zero a >> return (node_made rhs)))
         or (found (lit? at rhs) >>= (λ b _. is_zero b >> return (node_made lhs)))
@@ -66,7 +66,7 @@ module _ {c : Calls} (g : (a b : ℕ) → Refusing of_sums (c.add_at a b)) where
               or (found (lit? at b) >>= (λ _ _. return (sum_made (sum_made (node_made a) (node_made rhs)) (node_made b))))
               or (found (lit? at d) >>= (λ _ _. return (sum_made (sum_made (node_made lhs) (node_made c)) (node_made d)))))))
 
-    add_table_lem : Making of_sums c (addTable at lhs rhs)
+    add_table_lem : Making of_sums c (add_table at lhs rhs)
     add_table_lem = add_arms_lem then add_made sums_full (node_made lhs) (node_made rhs)
 
 pub add_refuses : (left lhs rhs : ℕ) → Refusing of_sums ((calls left).add_at lhs rhs)
@@ -79,8 +79,8 @@ appending_full : OneOf of_appending pool_full
 appending_full = inl refl
 
 module _ {c : Calls} (at : ℕ → Node) where
-  div_table_lem : (lhs rhs : ℕ) → Making of_appending c (divTable at lhs rhs)
-  unfolding divTable build
+  div_table_lem : (lhs rhs : ℕ) → Making of_appending c (div_table at lhs rhs)
+  unfolding div_table build
   div_table_lem lhs rhs =
       ◌then◌ {H = Making of_appending c}
       ((found (lit? at lhs) >>= (λ a _. is_zero a >> return (small_made appending_full (pos 0) refl)))
@@ -90,12 +90,12 @@ module _ {c : Calls} (at : ℕ → Node) where
       quotient_made : Making of_appending c (Terms.Div (# lhs) (# rhs))
       quotient_made = record { made = record { refuses = (append_refuses appending_full (node.Div lhs rhs)).refuses } }
 
-  max_table_lem : (lhs rhs : ℕ) → Making of_appending c (maxTable at lhs rhs)
+  max_table_lem : (lhs rhs : ℕ) → Making of_appending c (max_table at lhs rhs)
   unfolding build
   max_table_lem lhs rhs = record { made = record { refuses = (append_refuses appending_full (node.Max lhs rhs)).refuses } }
 
-  pow_table_lem : (base e : ℕ) → Making of_appending c (powTable at base e)
-  unfolding powTable build
+  pow_table_lem : (base e : ℕ) → Making of_appending c (pow_table at base e)
+  unfolding pow_table build
   pow_table_lem base e =
       ◌then◌ {H = Making of_appending c}
       ((eqb e 0 >> return (small_made appending_full (pos 1) refl))
@@ -128,7 +128,7 @@ same_size a b e h =
     le-leb (nat_abs (a *ℤ b)) greatest (rw (size_product a b, e) (omega arith))
 
 -- a product with 1 or -1 on its left
-unit_product : {ks : List ℕ} → OneOf ks pool_full → (c : Calls) (R : Pool) (i j : ℕ) (a : ℤ) → nat_abs a ≡ 1 → node_at R i ≡ node.Lit a → Making ks c (mulTable (node_at R) i j)
+unit_product : {ks : List ℕ} → OneOf ks pool_full → (c : Calls) (R : Pool) (i j : ℕ) (a : ℤ) → nat_abs a ≡ 1 → node_at R i ≡ node.Lit a → Making ks c (mul_table (node_at R) i j)
 unit_product f c R i j a e there = times_literal f c (node_at R) i j a (λ b h. small_made f (a *ℤ b) (same_size a b e h)) (literals_in_range R) there
 
 pub neg_refuses : (left arg : ℕ) (P : Pool) → Long P → Among of_appending (of_out ((calls (suc (suc left))).neg_at arg P))
@@ -204,8 +204,8 @@ module _ (left : ℕ) (P : Pool) (l : Long P) (arg : ℕ) where
   unfolding build
   small_on z h = record { on = (literal_refuses exp_log_full z h).refuses P }
 
-  exp_table_lem : ByExpLog (calls left).exp_at_lem → MakingOn P (calls left) (expTable (node_at P) arg)
-  unfolding expArms build
+  exp_table_lem : ByExpLog (calls left).exp_at_lem → MakingOn P (calls left) (exp_table (node_at P) arg)
+  unfolding exp_arms build
   exp_table_lem less =
       ◌then◌ {H = MakingOn P (calls left)}
       ((found (lit? (node_at P) arg) >>= (λ a _. is_zero a >> return (small_on (pos 1) refl)))
@@ -213,8 +213,8 @@ module _ (left : ℕ) (P : Pool) (l : Long P) (arg : ℕ) where
       or (found (add? (node_at P) arg) >>= (λ (a, b) _. inside (found (lit? (node_at P) b) >>= (λ b _. return (exp_of_sum left less P l b a))))))
       (record { on = (append_refuses exp_log_full (node.Exp arg)).refuses P })
 
-  log_table_lem : ByExpLog (calls left).log_at_lem → MakingOn P (calls left) (logTable (node_at P) arg)
-  unfolding logArms build
+  log_table_lem : ByExpLog (calls left).log_at_lem → MakingOn P (calls left) (log_table (node_at P) arg)
+  unfolding log_arms build
   log_table_lem less =
       ◌then◌ {H = MakingOn P (calls left)}
       ((found (lit? (node_at P) arg) >>= (λ a _. is_one a >> return (small_on (pos 0) refl)))

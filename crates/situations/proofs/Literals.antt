@@ -19,7 +19,7 @@ use Rattle.pool.specs.Pool.{Pool, limit, node_in, node_at}
 use Rattle.constructors.specs.Terms
 use Rattle.constructors.specs.Terms.{Term, #, lit, Arm, skip, leave, return as gives, ◌>>=◌ as ◌finds◌, ◌or◌, ◌>>◌, inside, ◌then◌}
 use Rattle.constructors.specs.Patterns.{lit_in}
-use Rattle.constructors.specs.Tables.{addArms, addTable, mulLits, mulExps, mulLeft, mulPows, mulLast, mulTable}
+use Rattle.constructors.specs.Tables.{add_arms, add_table, mul_lits, mul_exps, mul_left, mul_pows, mul_last, mul_table}
 use Rattle.constructors.specs.Build.{Calls, build}
 use Rattle.constructor_laws.specs.Grown.{Grown}
 use Rattle.constructor_laws.proofs.Arms.{Gives, skips, return}
@@ -108,8 +108,8 @@ module _ (at : ℕ → Node) (i j : ℕ) (H : Term → Type 0) (a b : ℤ) (e : 
   by_size false false false true rest = lhs
   by_size false false false false rest = product
 
-  pub two_literals : H (mulTable at i j)
-  unfolding mulLits mulExps mulLeft mulPows mulLast
+  pub two_literals : H (mul_table at i j)
+  unfolding mul_lits mul_exps mul_left mul_pows mul_last
   two_literals = rw (e, f) (by_size (is_zero a) (is_zero b) (is_one a) (is_one b) _)
 
 module _ {ks : List ℕ} (full : OneOf ks pool_full) (c : Calls) (at : ℕ → Node) (i j : ℕ) where
@@ -123,8 +123,8 @@ module _ {ks : List ℕ} (full : OneOf ks pool_full) (c : Calls) (at : ℕ → N
       go false = node_made i
 
   -- x + 0
-  pub add_zero : at j ≡ Lit (pos 0) → Making ks c (addTable at i j)
-  unfolding addArms
+  pub add_zero : at j ≡ Lit (pos 0) → Making ks c (add_table at i j)
+  unfolding add_arms
   add_zero e = rw e (zero_right (lit_in (at i)))
 
   -- a × y: `product` is what is claimed of the product of a and a literal of the pool
@@ -153,8 +153,8 @@ module _ {ks : List ℕ} (full : OneOf ks pool_full) (c : Calls) (at : ℕ → N
     product_right b1 b2 leave g false false = plain_made
     product_right b1 b2 (gives b) (return h) false false = mul_made full (product b h) (node_made b2)
 
-    by_right : ((n : ℕ) → InRange (lit_in (at n))) → at i ≡ Lit a → (y : Node) → at j ≡ y → Making ks c (mulTable at i j)
-    unfolding mulLits mulExps mulLeft mulPows mulLast
+    by_right : ((n : ℕ) → InRange (lit_in (at n))) → at i ≡ Lit a → (y : Node) → at j ≡ y → Making ks c (mul_table at i j)
+    unfolding mul_lits mul_exps mul_left mul_pows mul_last
     by_right lits e Empty f = rw (e, f) (other (is_zero a) (is_one a))
     by_right lits e (Variable v) f = rw (e, f) (other (is_zero a) (is_one a))
     by_right lits e (Lit b) f = two_literals at i j (Making ks c) a b e f zero_made (node_made i) (node_made j) (product b (found (subst (λ n. InRange (lit_in n)) f (lits j))))
@@ -169,5 +169,5 @@ module _ {ks : List ℕ} (full : OneOf ks pool_full) (c : Calls) (at : ℕ → N
     by_right lits e (Pow x n) f = rw (e, f) (other (is_zero a) (is_one a))
     by_right lits e (Max x y) f = rw (e, f) (other (is_zero a) (is_one a))
 
-    pub times_literal : ((n : ℕ) → InRange (lit_in (at n))) → at i ≡ Lit a → Making ks c (mulTable at i j)
+    pub times_literal : ((n : ℕ) → InRange (lit_in (at n))) → at i ≡ Lit a → Making ks c (mul_table at i j)
     times_literal lits e = by_right lits e (at j) refl

@@ -214,11 +214,11 @@ module _ {s : List ℕ} {values held : List Float} {at d : ℕ} {top below : Flo
         go false e = absurd (unknown_ran no_one (eqb-false (get_or s at 0) 2 e) (λ h. omega arith) (λ h. omega arith) (λ h. omega arith) (λ h. omega arith) (λ h. omega arith))
 
     pub nine_is_left : 6 ≤ get_or s at 0 → (get_or s at 0 ≡ 8 → ⊥) → get_or s at 0 ≡ 9
-    nine_is_left high no-eight = go (eqb (get_or s at 0) 9) refl
+    nine_is_left high no_eight = go (eqb (get_or s at 0) 9) refl
       where
         go : (b : Bool) → eqb (get_or s at 0) 9 ≡ b → get_or s at 0 ≡ 9
         go true e = eqb-true (get_or s at 0) 9 e
-        go false e = absurd (unknown_ran (λ h. omega arith) (λ h. omega arith) no-eight (λ h. omega arith) (λ h. omega arith) (λ h. omega arith) (eqb-false (get_or s at 0) 9 e))
+        go false e = absurd (unknown_ran (λ h. omega arith) (λ h. omega arith) no_eight (λ h. omega arith) (λ h. omega arith) (λ h. omega arith) (eqb-false (get_or s at 0) 9 e))
 
 -- the answer in the record that the code gives
 pub ran_as : (s : List ℕ) (values : List Float) (at : ℕ) {held held' : List Float} {r : Moved} {found : Valued} {below : Float} {next d : ℕ}

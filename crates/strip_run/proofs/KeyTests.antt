@@ -120,7 +120,7 @@ module _ {s : List ℕ} {at d : ℕ} (t : Testing s at d) (l : at < length s) wh
   zero_tested z = unknown_tested (λ e. omega arith) (λ e. omega arith) (λ e. omega arith) (λ e. omega arith) (λ e. omega arith) (λ e. omega arith) (λ e. omega arith)
 
   pub above_tested : 6 ≤ get_or s at 0 → (get_or s at 0 ≡ 8 → ⊥) → (get_or s at 0 ≡ 9 → ⊥) → is_strip s ≡ false
-  above_tested high no-eight no_nine = unknown_tested (λ e. omega arith) (λ e. omega arith) no-eight (λ e. omega arith) (λ e. omega arith) (λ e. omega arith) no_nine
+  above_tested high no_eight no_nine = unknown_tested (λ e. omega arith) (λ e. omega arith) no_eight (λ e. omega arith) (λ e. omega arith) (λ e. omega arith) no_nine
 
   pub between_tested : 3 ≤ get_or s at 0 → get_or s at 0 < 6 → {r : Tested} → r ≡ one_place_less d (at + 1) → TestedTo s at r
   between_tested low high e =

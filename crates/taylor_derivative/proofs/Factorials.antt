@@ -24,7 +24,7 @@ use Rattle.pool.specs.Made.{pool_of}
 use Rattle.pool.specs.declared.table.Room.{Room}
 use Rattle.constructors.specs.Terms.{Term, #, return}
 use Rattle.constructors.specs.Terms as terms
-use Rattle.constructors.specs.Tables.{mulLits, mulTable}
+use Rattle.constructors.specs.Tables.{mul_lits, mul_table}
 use Rattle.constructors.specs.Build.{calls, depth, build, literal}
 use Rattle.constructor_laws.proofs.Growth.{appended, append_comes_to, appended_grown, earlier_same}
 use Rattle.constructor_laws.proofs.Coding.{Fine, fine_is_read}
@@ -106,19 +106,19 @@ module _ (z : ℤ) (P : Pool) (long : Long P) where
       go false e = tt
 
 -- ---- the product of two literals
-mul_runs : (l r : ℕ) (P : Pool) (t : Term) → mulTable (node_at P) l r ≡ t → mul l r P ≡ build (calls (depth - 1)) t P
+mul_runs : (l r : ℕ) (P : Pool) (t : Term) → mul_table (node_at P) l r ≡ t → mul l r P ≡ build (calls (depth - 1)) t P
 unfolding calls
 mul_runs l r P t e = ap (λ (s : Term). build (calls (depth - 1)) s P) e
 
 module _ (at : ℕ → Node) (l r : ℕ) where
-  one_lits : (b : ℕ) → 1 ≤ b → at l ≡ Lit (pos 1) → at r ≡ Lit (pos b) → mulLits at l r ≡ return (# r)
-  unfolding mulLits
+  one_lits : (b : ℕ) → 1 ≤ b → at l ≡ Lit (pos 1) → at r ≡ Lit (pos b) → mul_lits at l r ≡ return (# r)
+  unfolding mul_lits
   one_lits b h hl hr =
       let some : b ≢ 0 = λ e. omega (arith, e, h) in
       rw (hl, hr, ne_eqb b 0 some) refl
 
-  two_lits_lem : (a b : ℕ) → 2 ≤ a → 2 ≤ b → at l ≡ Lit (pos a) → at r ≡ Lit (pos b) → mulLits at l r ≡ return (terms.lit (pos a *ℤ pos b))
-  unfolding mulLits
+  two_lits_lem : (a b : ℕ) → 2 ≤ a → 2 ≤ b → at l ≡ Lit (pos a) → at r ≡ Lit (pos b) → mul_lits at l r ≡ return (terms.lit (pos a *ℤ pos b))
+  unfolding mul_lits
   two_lits_lem a b g h hl hr =
       let a0 : a ≢ 0 = λ e. omega (arith, e, g) in
       let b0 : b ≢ 0 = λ e. omega (arith, e, h) in
@@ -126,7 +126,7 @@ module _ (at : ℕ → Node) (l r : ℕ) where
       let b1 : b ≢ 1 = λ e. omega (arith, e, h) in
       rw (hl, hr, ne_eqb a 0 a0, ne_eqb b 0 b0, ne_eqb a 1 a1, ne_eqb b 1 b1) refl
 
-  table_of : (t : Term) → mulLits at l r ≡ return t → mulTable at l r ≡ t
+  table_of : (t : Term) → mul_lits at l r ≡ return t → mul_table at l r ≡ t
   table_of t e = rw e refl
 
 one_times : (l r b : ℕ) (P : Pool) → 1 ≤ b → Literal (pos 1) l P → Literal (pos b) r P → mul l r P ≡ done r P

@@ -19,7 +19,7 @@ use Rattle.meaning.specs.Value.{Values, value}
 use Rattle.meaning.proofs.Values.{Each, value_kept}
 use Rattle.meaning.proofs.Laws.{one_product, product_zero}
 use Rattle.meaning.proofs.Running.{Has, has_later, Is, is_same, has_same, literal_gives, valued}
-use Rattle.taylor_meaning.specs.Series.{Series, constantSeries, plusSeries, timesSeries, composed, factorialIn}
+use Rattle.taylor_meaning.specs.Series.{Series, constant_series, plus_series, times_series, composed, factorial_in}
 use Rattle.taylor_meaning.proofs.Working.{mul_gives, max_gives}
 use Rattle.taylor_meaning.proofs.Operations.{Expands, constant, list, expands_later, constant_gives, add_to_gives, times_gives}
 
@@ -35,19 +35,19 @@ module _ {A : Algebra} (M : Model A) (env : Values A) where
   -- res = res * subst + c, for each c in order
   abbrev turned : (ℕ → carrier) → Series A → Series A → List ℕ → Series A
   turned f w r [] = r
-  turned f w r (c ∷ cs) = turned f w (plusSeries A (timesSeries A r w) (constantSeries A (f c))) cs
+  turned f w r (c ∷ cs) = turned f w (plus_series A (times_series A r w) (constant_series A (f c))) cs
 
   turned_append : (f : ℕ → carrier) (w r : Series A) (a b : List ℕ) → turned f w r (a ++ b) ≡ turned f w (turned f w r a) b
   turned_append f w r [] b = refl
-  turned_append f w r (c ∷ a) b = turned_append f w (plusSeries A (timesSeries A r w) (constantSeries A (f c))) a b
+  turned_append f w r (c ∷ a) b = turned_append f w (plus_series A (times_series A r w) (constant_series A (f c))) a b
 
   -- from the last coefficient to the first
-  turned_reverse : (f : ℕ → carrier) (w : Series A) (cs : List ℕ) → turned f w (constantSeries A (int (pos 0))) (reverse cs) ≡ composed A f w cs
+  turned_reverse : (f : ℕ → carrier) (w : Series A) (cs : List ℕ) → turned f w (constant_series A (int (pos 0))) (reverse cs) ≡ composed A f w cs
   turned_reverse f w [] = refl
   turned_reverse f w (c ∷ cs) =
-      ap (turned f w (constantSeries A (int (pos 0)))) (reverse_aux-eq cs (c ∷ []))
-      ∙ turned_append f w (constantSeries A (int (pos 0))) (reverse cs) (c ∷ [])
-      ∙ ap (λ r. plusSeries A (timesSeries A r w) (constantSeries A (f c))) (turned_reverse f w cs)
+      ap (turned f w (constant_series A (int (pos 0)))) (reverse_aux-eq cs (c ∷ []))
+      ∙ turned_append f w (constant_series A (int (pos 0))) (reverse cs) (c ∷ [])
+      ∙ ap (λ r. plus_series A (times_series A r w) (constant_series A (f c))) (turned_reverse f w cs)
 
   each_reverse : (H : ℕ → Type 0) (cs r : List ℕ) → Each H cs → Each H r → Each H (reverse_aux cs r)
   each_reverse H [] r h t = t
@@ -72,7 +72,7 @@ module _ {A : Algebra} (M : Model A) (env : Values A) where
       let more = g_q.no_fewer in
       let l = h.0 in
       gives_next (add_to_gives M env k_q hp (constant (record { below = omega arith; is = value_kept A env k₀ (grown_by_both g g_q) c l }) (λ j. refl))) (λ s R k_r g_r hs.
-      horner_gives P₀ w inner ls (plusSeries A (timesSeries A r w) (constantSeries A (val P₀ c))) s R k₀ (grown_by_both g (grown_by_both g_q g_r)) k_r h.1
+      horner_gives P₀ w inner ls (plus_series A (times_series A r w) (constant_series A (val P₀ c))) s R k₀ (grown_by_both g (grown_by_both g_q g_r)) k_r h.1
       (expands_later k_q g_r (expands_later k g_q hw)) hs))
 
   -- a list
@@ -80,28 +80,28 @@ module _ {A : Algebra} (M : Model A) (env : Values A) where
   subst_list_gives {n} {w} {P} {inner} cs k h hw =
       gives_next (literal_gives A env k (pos 0)) (λ z Q k_q g_q hz.
       gives_weaker (λ R e g s. rw (sym (turned_reverse (val P) w cs)) s)
-      (horner_gives P w inner (reverse cs) (constantSeries A (int (pos 0))) (Constant z) Q k g_q k_q (each_reverse (λ c. c < P.count) cs [] (each_entry (λ c. c < P.count) cs h) tt) (expands_later k g_q hw) (constant hz (λ j. refl))))
+      (horner_gives P w inner (reverse cs) (constant_series A (int (pos 0))) (Constant z) Q k g_q k_q (each_reverse (λ c. c < P.count) cs [] (each_entry (λ c. c < P.count) cs h) tt) (expands_later k g_q hw) (constant hz (λ j. refl))))
 
   -- ---- coeff, derivative, max
 
   pub coeff_gives : {n : ℕ} {f : Series A} {P : Pool} {e : Expansion} (k : ℕ) → k < n → Keeps P → Expands A env n f P e → Gives P (Is A env (f k)) (coeff e k P)
-  coeff_gives zero l kP (constant h z) = gives_here kP h
-  coeff_gives (suc k) l kP (constant h z) = is_same (sym (z k)) (literal_gives A env kP (pos 0))
-  coeff_gives zero l kP (list some long s) = gives_here kP (s.entry 0 (omega arith))
-  coeff_gives (suc k) l kP (list some long s) = gives_here kP (s.entry (suc k) (omega arith))
+  coeff_gives zero l k_p (constant h z) = gives_here k_p h
+  coeff_gives (suc k) l k_p (constant h z) = is_same (sym (z k)) (literal_gives A env k_p (pos 0))
+  coeff_gives zero l k_p (list some long s) = gives_here k_p (s.entry 0 (omega arith))
+  coeff_gives (suc k) l k_p (list some long s) = gives_here k_p (s.entry (suc k) (omega arith))
 
   -- (1..=order).fold(one, |acc, i| acc * T::from(i)), before step j
   abbrev partial : ℕ → carrier
   partial zero = int (pos 1)
-  partial (suc j) = factorialIn A j
+  partial (suc j) = factorial_in A j
 
-  pub derivative_gives : {n : ℕ} {f : Series A} {P : Pool} {e : Expansion} (k : ℕ) → k < n → Keeps P → Expands A env n f P e → Gives P (Is A env (factorialIn A k ⊗ f k)) (derivative e k P)
-  derivative_gives {f = f} zero l kP (constant h z) = gives_here kP (has_same (sym (one_product M (f 0))) h)
-  derivative_gives {f = f} (suc k) l kP (constant h z) = is_same (sym (ap (λ x. factorialIn A (suc k) ⊗ x) (z k) ∙ product_zero M (factorialIn A (suc k)))) (literal_gives A env kP (pos 0))
-  derivative_gives {f = f} {P} k l kP (list {cs = cs} some long s) =
-      gives_next (literal_gives A env kP (pos 1)) (λ o Q k_q g_q ho.
+  pub derivative_gives : {n : ℕ} {f : Series A} {P : Pool} {e : Expansion} (k : ℕ) → k < n → Keeps P → Expands A env n f P e → Gives P (Is A env (factorial_in A k ⊗ f k)) (derivative e k P)
+  derivative_gives {f = f} zero l k_p (constant h z) = gives_here k_p (has_same (sym (one_product M (f 0))) h)
+  derivative_gives {f = f} (suc k) l k_p (constant h z) = is_same (sym (ap (λ x. factorial_in A (suc k) ⊗ x) (z k) ∙ product_zero M (factorial_in A (suc k)))) (literal_gives A env k_p (pos 0))
+  derivative_gives {f = f} {P} k l k_p (list {cs = cs} some long s) =
+      gives_next (literal_gives A env k_p (pos 1)) (λ o Q k_q g_q ho.
       gives_next (fold_gives (valued A env) partial 1 k o Q k_q ho (λ R a j k_r g_r lo hi ha. step R a j k_r lo ha)) (λ x R k_r g_r hx.
-      mul_gives M env k_r (has_same (ap partial (one_and k)) hx) (has_later k_q g_r (has_later kP g_q (s.entry k (omega arith))))))
+      mul_gives M env k_r (has_same (ap partial (one_and k)) hx) (has_later k_q g_r (has_later k_p g_q (s.entry k (omega arith))))))
     where
       one_and : (k : ℕ) → 1 + k ≡ suc k
       one_and k = omega arith
@@ -117,8 +117,8 @@ module _ {A : Algebra} (M : Model A) (env : Values A) where
       step R a (suc j) k_r lo ha = gives_next (literal_gives A env k_r (pos (suc j))) (λ c T k_t g_t hc. mul_gives M env k_t (has_later k_r g_t ha) hc)
 
   -- of two constants; any other maximum is refused
-  pub maximum_gives : {n : ℕ} {u w : Series A} {P : Pool} {s t : Expansion} → Keeps P → Expands A env n u P s → Expands A env n w P t → Gives P (Expands A env n (constantSeries A (A.max (u 0) (w 0)))) (maximum s t P)
-  maximum_gives {u = u} {w} k (constant hu zu) (constant hw zw) = constant_gives (constantSeries A (A.max (u 0) (w 0))) (λ j. refl) (max_gives M env k hu hw)
+  pub maximum_gives : {n : ℕ} {u w : Series A} {P : Pool} {s t : Expansion} → Keeps P → Expands A env n u P s → Expands A env n w P t → Gives P (Expands A env n (constant_series A (A.max (u 0) (w 0)))) (maximum s t P)
+  maximum_gives {u = u} {w} k (constant hu zu) (constant hw zw) = constant_gives (constant_series A (A.max (u 0) (w 0))) (λ j. refl) (max_gives M env k hu hw)
   maximum_gives k (constant hu zu) (list some l s) = ended
   maximum_gives k (list some l s) (constant hw zw) = ended
   maximum_gives k (list some l s) (list some' l' s') = ended

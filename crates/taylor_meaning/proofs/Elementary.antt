@@ -16,7 +16,7 @@ use Rattle.meaning.specs.Value.{Values}
 use Rattle.meaning.proofs.Values.{same_op}
 use Rattle.meaning.proofs.Laws.{product_comm, product_assoc, product_zero, zero_product}
 use Rattle.meaning.proofs.Running.{Has, has_later, Is, has_same, is_same, literal_gives, valued}
-use Rattle.taylor_meaning.specs.Series.{minus, sum, Series, recurrence, expStep, logStep}
+use Rattle.taylor_meaning.specs.Series.{minus, sum, Series, recurrence, exp_step, log_step}
 use Rattle.taylor_meaning.proofs.Sums.{sum_more, sum_none, recurrence_solves, exp_looks_below, log_looks_below}
 use Rattle.taylor_meaning.proofs.SeriesRing.{sum_zeros}
 use Rattle.taylor_meaning.proofs.Working.{add_gives, mul_gives, div_gives, exp_gives, log_gives, sub_gives}
@@ -46,7 +46,7 @@ module _ {A : Algebra} (M : Model A) (env : Values A) where
 
   module _ (u : Series A) where
     abbrev exp_v : Series A
-    exp_v = recurrence A (expStep A u)
+    exp_v = recurrence A (exp_step A u)
 
     abbrev exp_terms : ℕ → ℕ → carrier
     exp_terms k i = exp_v (k - i) ⊗ (int (pos (suc i)) ⊗ u (suc i))
@@ -63,13 +63,13 @@ module _ {A : Algebra} (M : Model A) (env : Values A) where
         → j < 1 + suc k
         → Has A env P a (partial (exp_terms k) j)
         → Gives P (Is A env (partial (exp_terms k) (suc j))) (exp_term rs us (suc k) a j P)
-    exp_term_gives k a zero kP su sv long lu l m ha = no_step l
-    exp_term_gives k a (suc i) kP su sv long lu l m ha =
-        gives_next (mul_gives M env kP (sv.entry (suc k - suc i) (omega arith)) (su.entry (suc i) (omega arith))) (λ p Q k_q g_q hp.
+    exp_term_gives k a zero k_p su sv long lu l m ha = no_step l
+    exp_term_gives k a (suc i) k_p su sv long lu l m ha =
+        gives_next (mul_gives M env k_p (sv.entry (suc k - suc i) (omega arith)) (su.entry (suc i) (omega arith))) (λ p Q k_q g_q hp.
         gives_next (literal_gives A env k_q (pos (suc i))) (λ n R k_r g_r hn.
         gives_next (mul_gives M env k_r (has_later k_q g_r hp) hn) (λ t T k_t g_t ht.
         is_same (sym (sum_more A (exp_terms k) i))
-        (add_gives M env k_t (has_later k_r g_t (has_later k_q g_r (has_later kP g_q ha))) (has_same (order_of k i) ht)))))
+        (add_gives M env k_t (has_later k_r g_t (has_later k_q g_r (has_later k_p g_q ha))) (has_same (order_of k i) ht)))))
       where
         order_of : (k i : ℕ) → exp_v (suc k - suc i) ⊗ u (suc i) ⊗ int (pos (suc i)) ≡ exp_terms k i
         order_of k i =
@@ -86,37 +86,37 @@ module _ {A : Algebra} (M : Model A) (env : Values A) where
         → k < length us
         → 1 ≤ k
         → Gives P (Is A env (exp_v k)) (exp_at us z rs k P)
-    unfolding expStep
-    exp_at_gives zero kP su sv hz long lu some = no_step some
-    exp_at_gives {P} {us} {rs} {z} (suc k) kP su sv hz long lu some =
+    unfolding exp_step
+    exp_at_gives zero k_p su sv hz long lu some = no_step some
+    exp_at_gives {P} {us} {rs} {z} (suc k) k_p su sv hz long lu some =
         gives_next
-        (fold_gives (valued A env) (partial (exp_terms k)) 1 (suc k) z P kP (has_same (sym (sum_none A (exp_terms k))) hz) (λ Q a j k_q g_q l m ha.
-        exp_term_gives k a j k_q (shows_later kP g_q su) (shows_later kP g_q sv) long lu l m ha)) (λ s Q k_q g_q hs.
+        (fold_gives (valued A env) (partial (exp_terms k)) 1 (suc k) z P k_p (has_same (sym (sum_none A (exp_terms k))) hz) (λ Q a j k_q g_q l m ha.
+        exp_term_gives k a j k_q (shows_later k_p g_q su) (shows_later k_p g_q sv) long lu l m ha)) (λ s Q k_q g_q hs.
         gives_next (literal_gives A env k_q (pos (suc k))) (λ n R k_r g_r hn.
-        is_same (sym (recurrence_solves A (expStep A u) (exp_looks_below A u) (suc k)))
+        is_same (sym (recurrence_solves A (exp_step A u) (exp_looks_below A u) (suc k)))
         (div_gives M env k_r (has_later k_q g_r (has_same (ap (partial (exp_terms k)) (one_and (suc k))) hs)) hn)))
 
-    pub exponential_gives : {n : ℕ} {P : Pool} {s : Expansion} → Keeps P → Expands A env n u P s → Gives P (Expands A env n (recurrence A (expStep A u))) (exponential s P)
-    unfolding expStep
+    pub exponential_gives : {n : ℕ} {P : Pool} {s : Expansion} → Keeps P → Expands A env n u P s → Gives P (Expands A env n (recurrence A (exp_step A u))) (exponential s P)
+    unfolding exp_step
     exponential_gives k (constant hu zu) =
         constant_gives exp_v (λ j.
-        recurrence_solves A (expStep A u) (exp_looks_below A u) (suc j)
+        recurrence_solves A (exp_step A u) (exp_looks_below A u) (suc j)
         ∙ ap (λ x. x ⊘ int (pos (suc j))) (sum_zeros M (exp_terms j) (suc j) (λ i l. ap (λ x. exp_v (j - i) ⊗ (int (pos (suc i)) ⊗ x)) (zu i) ∙ ap (λ x. exp_v (j - i) ⊗ x) (product_zero M (int (pos (suc i)))) ∙ product_zero M (exp_v (j - i))))
         ∙ M.zero_over (int (pos (suc j))))
-        (is_same (sym (recurrence_solves A (expStep A u) (exp_looks_below A u) 0)) (exp_gives M env k hu))
+        (is_same (sym (recurrence_solves A (exp_step A u) (exp_looks_below A u) 0)) (exp_gives M env k hu))
     exponential_gives {P = P} k (list {cs = us} some l su) =
         list_gives {m = 1 + (length us - 1)} exp_v (omega arith) (omega arith)
         (gives_next (literal_gives A env k (pos 0)) (λ z Q k_q g_q hz.
         gives_next (exp_gives M env k_q (has_later k g_q (su.entry 0 some))) (λ r R k_r g_r hr.
         fill_gives (exp_at us z) exp_v (length us - 1) (r ∷ []) R k_r
-        (shows_cons (has_same (sym (recurrence_solves A (expStep A u) (exp_looks_below A u) 0)) hr) shows_none) (λ T rs k_t g_t hrs a b.
+        (shows_cons (has_same (sym (recurrence_solves A (exp_step A u) (exp_looks_below A u) 0)) hr) shows_none) (λ T rs k_t g_t hrs a b.
         exp_at_gives (length rs) k_t (shows_later k_r g_t (shows_later k_q g_r (shows_later k g_q su))) hrs (has_later k_r g_t (has_later k_q g_r hz)) refl (omega arith) (omega arith)))))
 
   -- ---- log
 
   module _ (u : Series A) where
     abbrev log_v : Series A
-    log_v = recurrence A (logStep A u)
+    log_v = recurrence A (log_step A u)
 
     abbrev log_terms : ℕ → ℕ → carrier
     log_terms k i = u (k - i) ⊗ (int (pos (suc i)) ⊗ log_v (suc i))
@@ -133,13 +133,13 @@ module _ {A : Algebra} (M : Model A) (env : Values A) where
         → j < 1 + k
         → Has A env P a (partial (log_terms k) j)
         → Gives P (Is A env (partial (log_terms k) (suc j))) (log_term rs us (suc k) a j P)
-    log_term_gives k a zero kP su sv long lu l m ha = no_step l
-    log_term_gives k a (suc i) kP su sv long lu l m ha =
-        gives_next (mul_gives M env kP (su.entry (suc k - suc i) (omega arith)) (sv.entry (suc i) (omega arith))) (λ p Q k_q g_q hp.
+    log_term_gives k a zero k_p su sv long lu l m ha = no_step l
+    log_term_gives k a (suc i) k_p su sv long lu l m ha =
+        gives_next (mul_gives M env k_p (su.entry (suc k - suc i) (omega arith)) (sv.entry (suc i) (omega arith))) (λ p Q k_q g_q hp.
         gives_next (literal_gives A env k_q (pos (suc i))) (λ n R k_r g_r hn.
         gives_next (mul_gives M env k_r (has_later k_q g_r hp) hn) (λ t T k_t g_t ht.
         is_same (sym (sum_more A (log_terms k) i))
-        (add_gives M env k_t (has_later k_r g_t (has_later k_q g_r (has_later kP g_q ha))) (has_same (order_of k i) ht)))))
+        (add_gives M env k_t (has_later k_r g_t (has_later k_q g_r (has_later k_p g_q ha))) (has_same (order_of k i) ht)))))
       where
         order_of : (k i : ℕ) → u (suc k - suc i) ⊗ log_v (suc i) ⊗ int (pos (suc i)) ≡ log_terms k i
         order_of k i =
@@ -156,13 +156,13 @@ module _ {A : Algebra} (M : Model A) (env : Values A) where
         → k < length us
         → 1 ≤ k
         → Gives P (Is A env (log_v k)) (log_at us z rs k P)
-    unfolding logStep
-    log_at_gives zero kP su sv hz long lu some = no_step some
-    log_at_gives {P} {us} {rs} {z} (suc k) kP su sv hz long lu some =
+    unfolding log_step
+    log_at_gives zero k_p su sv hz long lu some = no_step some
+    log_at_gives {P} {us} {rs} {z} (suc k) k_p su sv hz long lu some =
         gives_next
-        (fold_gives (valued A env) (partial (log_terms k)) 1 (suc k - 1) z P kP (has_same (sym (sum_none A (log_terms k))) hz) (λ Q a j k_q g_q l m ha.
-        log_term_gives k a j k_q (shows_later kP g_q su) (shows_later kP g_q sv) long lu l (omega arith) ha)) (λ s Q k_q g_q hs.
-        let u_q = shows_later kP g_q su in
+        (fold_gives (valued A env) (partial (log_terms k)) 1 (suc k - 1) z P k_p (has_same (sym (sum_none A (log_terms k))) hz) (λ Q a j k_q g_q l m ha.
+        log_term_gives k a j k_q (shows_later k_p g_q su) (shows_later k_p g_q sv) long lu l (omega arith) ha)) (λ s Q k_q g_q hs.
+        let u_q = shows_later k_p g_q su in
         gives_next (literal_gives A env k_q (pos (suc k))) (λ n R k_r g_r hn.
         let u_r = shows_later k_q g_r u_q in
         gives_next (mul_gives M env k_r (u_r.entry (suc k) lu) hn) (λ p T k_t g_t hp.
@@ -170,22 +170,22 @@ module _ {A : Algebra} (M : Model A) (env : Values A) where
         let u_u = shows_later k_t g_u (shows_later k_r g_t u_r) in
         gives_next (div_gives M env k_u hd (u_u.entry 0 (omega arith))) (λ q W k_w g_w hq.
         gives_next (literal_gives A env k_w (pos (suc k))) (λ m X k_x g_x hm.
-        is_same (sym (recurrence_solves A (logStep A u) (log_looks_below A u) (suc k))) (div_gives M env k_x (has_later k_w g_x hq) hm)))))))
+        is_same (sym (recurrence_solves A (log_step A u) (log_looks_below A u) (suc k))) (div_gives M env k_x (has_later k_w g_x hq) hm)))))))
       where
         ends : (k : ℕ) → 1 + (suc k - 1) ≡ suc k
         ends k = omega arith
 
-    pub logarithm_gives : {n : ℕ} {P : Pool} {s : Expansion} → Keeps P → Expands A env n u P s → Gives P (Expands A env n (recurrence A (logStep A u))) (logarithm s P)
-    unfolding logStep
+    pub logarithm_gives : {n : ℕ} {P : Pool} {s : Expansion} → Keeps P → Expands A env n u P s → Gives P (Expands A env n (recurrence A (log_step A u))) (logarithm s P)
+    unfolding log_step
     logarithm_gives k (constant hu zu) =
         constant_gives log_v (λ j.
-        recurrence_solves A (logStep A u) (log_looks_below A u) (suc j)
+        recurrence_solves A (log_step A u) (log_looks_below A u) (suc j)
         ∙ ap (λ x. x ⊘ u 0 ⊘ int (pos (suc j)))
         (same_op (minus A) (ap (λ x. int (pos (suc j)) ⊗ x) (zu j) ∙ product_zero M (int (pos (suc j)))) (sum_zeros M (log_terms j) j (λ i l. no_term j i l (zu (j - suc i))))
         ∙ minus_zero M (int (pos 0)))
         ∙ ap (λ x. x ⊘ int (pos (suc j))) (M.zero_over (u 0))
         ∙ M.zero_over (int (pos (suc j))))
-        (is_same (sym (recurrence_solves A (logStep A u) (log_looks_below A u) 0)) (log_gives M env k hu))
+        (is_same (sym (recurrence_solves A (log_step A u) (log_looks_below A u) 0)) (log_gives M env k hu))
       where
         above : (j i : ℕ) → i < j → j - i ≡ suc (j - suc i)
         above j i l = omega arith
@@ -197,5 +197,5 @@ module _ {A : Algebra} (M : Model A) (env : Values A) where
         (gives_next (literal_gives A env k (pos 0)) (λ z Q k_q g_q hz.
         gives_next (log_gives M env k_q (has_later k g_q (su.entry 0 some))) (λ r R k_r g_r hr.
         fill_gives (log_at us z) log_v (length us - 1) (r ∷ []) R k_r
-        (shows_cons (has_same (sym (recurrence_solves A (logStep A u) (log_looks_below A u) 0)) hr) shows_none) (λ T rs k_t g_t hrs a b.
+        (shows_cons (has_same (sym (recurrence_solves A (log_step A u) (log_looks_below A u) 0)) hr) shows_none) (λ T rs k_t g_t hrs a b.
         log_at_gives (length rs) k_t (shows_later k_r g_t (shows_later k_q g_r (shows_later k g_q su))) hrs (has_later k_r g_t (has_later k_q g_r hz)) refl (omega arith) (omega arith)))))

@@ -17,11 +17,11 @@ use Rattle.taylor.specs.Expand as walk
 use Rattle.constructor_laws.proofs.Giving.{Gives, gives_next}
 use Rattle.taylor_laws.proofs.Walking.{Good, Walked, ended_walk, Walks, walked_next, walked_here, both_walked, lift_walked, expand_gives}
 use Rattle.meaning.specs.Model.{Algebra, Model, Distributive}
-use Rattle.meaning.specs.Value.{Values, valueNode, value}
+use Rattle.meaning.specs.Value.{Values, value_node, value}
 use Rattle.meaning.proofs.Values.{Each, falling, value_law}
 use Rattle.meaning.proofs.Running.{Has, has_same, has_first, Is, node_gives, literal_gives}
-use Rattle.taylor_meaning.specs.Series.{Series, constantSeries, shifted, series, Fractions}
-use Rattle.taylor_meaning.specs.Coefficients.{base, asSeries}
+use Rattle.taylor_meaning.specs.Series.{Series, constant_series, shifted, series, Fractions}
+use Rattle.taylor_meaning.specs.Coefficients.{base, as_series}
 use Rattle.taylor_meaning.proofs.Operations.{Expands, constant, expanding, var_gives, add_to_gives, times_gives}
 use Rattle.taylor_meaning.proofs.Elementary.{exponential_gives, logarithm_gives}
 use Rattle.taylor_meaning.proofs.Quotients.{quotient_gives}
@@ -42,7 +42,7 @@ Allowed A (Max a b) = Unit {0}
 
 module _ {A : Algebra} (M : Model A) (D : Distributive A) (env : Values A) {P₀ : Pool} (keeps : Keeps P₀) (v : ℕ) (known : v ≤ greatest_variable) (x : Point) (order : ℕ) where
   abbrev goal : ℕ → Series A
-  goal i = value (series A) (asSeries A env v x) (node_at P₀) i
+  goal i = value (series A) (as_series A env v x) (node_at P₀) i
 
   abbrev n : ℕ
   n = suc order
@@ -55,7 +55,7 @@ module _ {A : Algebra} (M : Model A) (D : Distributive A) (env : Values A) {P₀
 
   -- the node of the point
   point_gives : {P : Pool} → Keeps P → (y : Point) → Gives P (Is A env (base A env v y)) (point_node v y P)
-  unfolding valueNode
+  unfolding value_node
   point_gives k none = node_gives A env k (record { below = tt; range = known })
   point_gives k (point z) = literal_gives A env k z
 
@@ -63,19 +63,19 @@ module _ {A : Algebra} (M : Model A) (D : Distributive A) (env : Values A) {P₀
   stands : {S : State} → Fit S → (i : ℕ) {y : A.carrier} → i < P₀.count → value A env (node_at P₀) i ≡ y → Has A env S.pool i y
   stands good i h e = has_same e (has_first A env keeps good.grown h)
 
-  from_parts : (i : ℕ) {y : Node} → node_at P₀ i ≡ y → value A env (node_at P₀) i ≡ valueNode A env (value A env (node_at P₀)) y
-  from_parts i e = value_law A env (node_at P₀) (falling keeps) i ∙ ap (valueNode A env (value A env (node_at P₀))) e
+  from_parts : (i : ℕ) {y : Node} → node_at P₀ i ≡ y → value A env (node_at P₀) i ≡ value_node A env (value A env (node_at P₀)) y
+  from_parts i e = value_law A env (node_at P₀) (falling keeps) i ∙ ap (value_node A env (value A env (node_at P₀))) e
 
   module _ (C : ℕ → Type 0) (inside : (i : ℕ) → C i → i < P₀.count) (closed : (i : ℕ) → C i → Each C (parts (node_at P₀ i))) (allowed : (i : ℕ) → C i → Allowed A (node_at P₀ i)) where
     module _ {down : ℕ → Walk} (walks : Walks (expanding A env n) P₀ goal C down) (term : ℕ) (c : C term) where
-      variable_walked : (u : ℕ) → node_at P₀ term ≡ Variable u → (S : State) → Fit S → (t : Bool) → Comes S (cond t (shifted A (base A env v x)) (constantSeries A (env u))) (of_variable t term v x order S)
-      unfolding valueNode
+      variable_walked : (u : ℕ) → node_at P₀ term ≡ Variable u → (S : State) → Fit S → (t : Bool) → Comes S (cond t (shifted A (base A env v x)) (constant_series A (env u))) (of_variable t term v x order S)
+      unfolding value_node
       variable_walked u e S good true =
           lift_walked (λ P. bind (point_node v x P) (λ p. var p order)) good (gives_next (point_gives good.keeps x) (λ p Q k_q g_q hp. var_gives M env p order k_q hp))
       variable_walked u e S good false = walked_here good (constant (stands good term (inside term c) (from_parts term e)) (λ k. refl))
 
-      node_walked : (y : Node) → node_at P₀ term ≡ y → Each C (parts y) → Allowed A y → (S : State) → Fit S → Comes S (valueNode (series A) (asSeries A env v x) goal y) (expand_node v x order down term y S)
-      unfolding valueNode
+      node_walked : (y : Node) → node_at P₀ term ≡ y → Each C (parts y) → Allowed A y → (S : State) → Fit S → Comes S (value_node (series A) (as_series A env v x) goal y) (expand_node v x order down term y S)
+      unfolding value_node
       node_walked Empty e l ok S good = ended_walk
       node_walked (Variable u) e l ok S good = variable_walked u e S good (eqb u v)
       node_walked (Lit z) e l ok S good = walked_here good (constant (stands good term (inside term c) (from_parts term e)) (λ k. refl))
@@ -96,7 +96,7 @@ module _ {A : Algebra} (M : Model A) (D : Distributive A) (env : Values A) {P₀
       here_walked : (y : Node) → node_at P₀ term ≡ y → Each C (parts y) → Allowed A y → (S : State) → Fit S → Comes S (goal term) (expand_node v x order down term y S)
       here_walked y e l ok S good =
           subst (λ f. Comes S f (expand_node v x order down term y S))
-          (sym (value_law (series A) (asSeries A env v x) (node_at P₀) (falling keeps) term ∙ ap (valueNode (series A) (asSeries A env v x) goal) e))
+          (sym (value_law (series A) (as_series A env v x) (node_at P₀) (falling keeps) term ∙ ap (value_node (series A) (as_series A env v x) goal) e))
           (node_walked y e l ok S good)
 
     at_walked : (down : ℕ → Walk) → Walks (expanding A env n) P₀ goal C down → Walks (expanding A env n) P₀ goal C (expand_at v x order down)

@@ -20,15 +20,15 @@ use Rattle.walks.specs.Derive.{derive}
 use Rattle.taylor.specs.Expansion.{Expansion}
 use Rattle.taylor.specs.Expand.{Point, none, expand}
 use Rattle.meaning.specs.Model.{Algebra, Model, Distributive, power}
-use Rattle.meaning.specs.Value.{Values, valueNode, value}
+use Rattle.meaning.specs.Value.{Values, value_node, value}
 use Rattle.meaning.proofs.Values.{Each, each_below, each_had, each_from, same_op, Falling, falling, value_law}
 use Rattle.meaning.proofs.Laws.{sum_zero, zero_sum, product_zero, product_comm, product_swap, one_product, zero_product, int_sum}
 use Rattle.walk_meaning.specs.Setting.{setting}
-use Rattle.walk_meaning.specs.Slope.{slopeNode, slope}
+use Rattle.walk_meaning.specs.Slope.{slope_node, slope}
 use Rattle.walk_meaning.proofs.Slopes.{slope_law}
 use Rattle.walk_meaning.proofs.Derivation.{derivation_means}
-use Rattle.taylor_meaning.specs.Series.{Series, constantSeries, shifted, timesSeries, series, sum, minus, recurrence, expStep, logStep}
-use Rattle.taylor_meaning.specs.Coefficients.{base, asSeries, coefficient}
+use Rattle.taylor_meaning.specs.Series.{Series, constant_series, shifted, times_series, series, sum, minus, recurrence, exp_step, log_step}
+use Rattle.taylor_meaning.specs.Coefficients.{base, as_series, coefficient}
 use Rattle.taylor_meaning.specs.PolynomialExpressions.{PlainNode, PlainExpression}
 use Rattle.taylor_meaning.proofs.Sums.{sum_more, sum_none, recurrence_solves, exp_looks_below, log_looks_below}
 use Rattle.taylor_meaning.proofs.SeriesRing.{times_first, times_back, distributes_right}
@@ -44,7 +44,7 @@ module _ {A : Algebra} (M : Model A) (D : Distributive A) where
     zeroth : f 0 ≡ y
     first : f 1 ≡ d
 
-  times_begins : {f g : Series A} {y d z e : carrier} → Begins f y d → Begins g z e → Begins (timesSeries A f g) (y ⊗ z) (y ⊗ e ⊕ z ⊗ d)
+  times_begins : {f g : Series A} {y d z e : carrier} → Begins f y d → Begins g z e → Begins (times_series A f g) (y ⊗ z) (y ⊗ e ⊕ z ⊗ d)
   times_begins {f} {g} {y} {d} {z} {e} hf hg =
       record {
         zeroth = times_first M f g ∙ same_op ◌⊗◌ hf.zeroth hg.zeroth;
@@ -84,8 +84,8 @@ module _ {A : Algebra} (M : Model A) (D : Distributive A) where
           ∙ ap (λ m. int (pos (suc n)) ⊗ d ⊗ power A y m) (sym (one_less n))
 
   -- exp: v_1 = (exp u_0 × (1 × u_1)) / 1
-  exp_begins : {f : Series A} {y d : carrier} → Begins f y d → Begins (recurrence A (expStep A f)) (A.exp y) (d ⊗ A.exp y)
-  unfolding expStep
+  exp_begins : {f : Series A} {y d : carrier} → Begins f y d → Begins (recurrence A (exp_step A f)) (A.exp y) (d ⊗ A.exp y)
+  unfolding exp_step
   exp_begins {f} {y} {d} h =
       record {
         zeroth = solved 0 ∙ ap A.exp h.zeroth;
@@ -99,14 +99,14 @@ module _ {A : Algebra} (M : Model A) (D : Distributive A) where
       }
     where
       v : Series A
-      v = recurrence A (expStep A f)
+      v = recurrence A (exp_step A f)
 
-      solved : (k : ℕ) → v k ≡ expStep A f v k
-      solved = recurrence_solves A (expStep A f) (exp_looks_below A f)
+      solved : (k : ℕ) → v k ≡ exp_step A f v k
+      solved = recurrence_solves A (exp_step A f) (exp_looks_below A f)
 
   -- log: v_1 = ((1 × u_1 - 0) / u_0) / 1
-  log_begins : {f : Series A} {y d : carrier} → Begins f y d → Begins (recurrence A (logStep A f)) (A.log y) (A.over d y)
-  unfolding logStep
+  log_begins : {f : Series A} {y d : carrier} → Begins f y d → Begins (recurrence A (log_step A f)) (A.log y) (A.over d y)
+  unfolding log_step
   log_begins {f} {y} {d} h =
       record {
         zeroth = solved 0 ∙ ap A.log h.zeroth;
@@ -118,23 +118,23 @@ module _ {A : Algebra} (M : Model A) (D : Distributive A) where
       }
     where
       v : Series A
-      v = recurrence A (logStep A f)
+      v = recurrence A (log_step A f)
 
-      solved : (k : ℕ) → v k ≡ logStep A f v k
-      solved = recurrence_solves A (logStep A f) (log_looks_below A f)
+      solved : (k : ℕ) → v k ≡ log_step A f v k
+      solved = recurrence_solves A (log_step A f) (log_looks_below A f)
 
   module _ (env : Values A) (v : ℕ) (x : Point) where
     -- the variable is x
     abbrev there : Values A
     there = setting A env v (base A env v x)
 
-    variable_begins : (u : ℕ) (b : Bool) → Begins (cond b (shifted A (base A env v x)) (constantSeries A (env u))) (cond b (base A env v x) (env u)) (int (cond b (pos 1) (pos 0)))
+    variable_begins : (u : ℕ) (b : Bool) → Begins (cond b (shifted A (base A env v x)) (constant_series A (env u))) (cond b (base A env v x) (env u)) (int (cond b (pos 1) (pos 0)))
     variable_begins u true = record { zeroth = refl; first = refl }
     variable_begins u false = record { zeroth = refl; first = refl }
 
     node_begins :
-        (f : ℕ → Series A) (y d : ℕ → carrier) (n : Node) → PlainNode n → Each (λ a. Begins (f a) (y a) (d a)) (parts n) → Begins (valueNode (series A) (asSeries A env v x) f n) (valueNode A there y n) (slopeNode A there v y d n)
-    unfolding valueNode slopeNode
+        (f : ℕ → Series A) (y d : ℕ → carrier) (n : Node) → PlainNode n → Each (λ a. Begins (f a) (y a) (d a)) (parts n) → Begins (value_node (series A) (as_series A env v x) f n) (value_node A there y n) (slope_node A there v y d n)
+    unfolding value_node slope_node
     node_begins f y d Empty p h = absurd p
     node_begins f y d (Variable u) p h = variable_begins u (eqb u v)
     node_begins f y d (Lit z) p h = record { zeroth = refl; first = refl }
@@ -148,7 +148,7 @@ module _ {A : Algebra} (M : Model A) (D : Distributive A) where
 
     module _ (at : ℕ → Node) (falls : Falling at) (r : ℕ) (p : PlainExpression at r) where
       abbrev expanded : ℕ → Series A
-      expanded i = value (series A) (asSeries A env v x) at i
+      expanded i = value (series A) (as_series A env v x) at i
 
       begins_below : (k i : ℕ) → i < k → Reach at (r ∷ []) i → Begins (expanded i) (value A there at i) (slope A there v at i)
       begins_below zero i h c = absurd (never i h)
@@ -156,7 +156,7 @@ module _ {A : Algebra} (M : Model A) (D : Distributive A) where
           never : (i : ℕ) → i < 0 → ⊥
           never i h = omega arith
       begins_below (suc k) i h c =
-          rw (value_law (series A) (asSeries A env v x) at falls i, value_law A there at falls i, slope_law A there v at falls i)
+          rw (value_law (series A) (as_series A env v x) at falls i, value_law A there at falls i, slope_law A there v at falls i)
           (node_begins expanded (value A there at) (slope A there v at) (at i) (p i c)
           (each_from (parts (at i))
           (each_both (Reach at (r ∷ [])) (λ a. a < i) (parts (at i)) (each_had (parts (at i)) (λ a m. part c m)) (each_below (parts (at i)) (falls i) (λ a m. m)))

@@ -16,12 +16,12 @@ use Rattle.shape.specs.Shape.{Reach, root, part}
 use Rattle.shape.proofs.Lists.{here, below_or_not}
 use Rattle.taylor.specs.Expand.{Point}
 use Rattle.meaning.specs.Model.{Algebra, Model, Distributive, power}
-use Rattle.meaning.specs.Value.{Values, valueNode, value}
+use Rattle.meaning.specs.Value.{Values, value_node, value}
 use Rattle.meaning.proofs.Values.{Each, each_had, same_op}
 use Rattle.meaning.proofs.Laws.{sum_assoc, sum_zero, product_comm, product_assoc, product_swap, product_one, product_zero, zero_product, power_none, power_more}
 use Rattle.walk_meaning.specs.Setting.{setting}
-use Rattle.taylor_meaning.specs.Series.{Series, constantSeries, shifted, plusSeries, timesSeries, polynomials}
-use Rattle.taylor_meaning.specs.Coefficients.{base, asSeries}
+use Rattle.taylor_meaning.specs.Series.{Series, constant_series, shifted, plus_series, times_series, polynomials}
+use Rattle.taylor_meaning.specs.Coefficients.{base, as_series}
 use Rattle.taylor_meaning.specs.PolynomialExpressions.{PolynomialNode, PolynomialExpression, polynomial_at, IsPolynomial}
 use Rattle.taylor_meaning.proofs.Sums.{sum_more, sum_none, sum_same}
 use Rattle.taylor_meaning.proofs.SeriesRing.{sum_zeros, sum_front, sum_plus, sum_scale, distributes_right, times_first, times_front, zero_times}
@@ -97,19 +97,19 @@ module _ {A : Algebra} (M : Model A) (D : Distributive A) where
         split : (d n : ℕ) → d ≤ n → n ≡ n - d + d
         split d n le = omega arith
 
-    at_times : (d e n : ℕ) (f g : Series A) → Vanishes f d → Vanishes g e → d + e ≤ n → sum_of (timesSeries A f g) n ≡ sum_of f d ⊗ sum_of g e
+    at_times : (d e n : ℕ) (f g : Series A) → Vanishes f d → Vanishes g e → d + e ≤ n → sum_of (times_series A f g) n ≡ sum_of f d ⊗ sum_of g e
     at_times zero e n f g nf ng le =
-        at_zero (timesSeries A f g) n (λ k l. zero_times M f g (λ j. nf j (omega arith)) k) ∙ sym (ap (λ x. x ⊗ sum_of g e) (at_none f) ∙ zero_product M (sum_of g e))
+        at_zero (times_series A f g) n (λ k l. zero_times M f g (λ j. nf j (omega arith)) k) ∙ sym (ap (λ x. x ⊗ sum_of g e) (at_none f) ∙ zero_product M (sum_of g e))
     at_times (suc d) e zero f g nf ng le = absurd (never d e le)
       where
         never : (d e : ℕ) → suc d + e ≤ 0 → ⊥
         never d e le = omega arith
     at_times (suc d) e (suc n) f g nf ng le =
-        at_front (timesSeries A f g) n
+        at_front (times_series A f g) n
         ∙ same_op ◌⊕◌ (times_first M f g)
         (ap (λ x. t ⊗ x)
         (ap (λ s. sum_of s n) (fun_ext (λ k. times_front M f g k))
-        ∙ at_plus (λ k. f 0 ⊗ g (suc k)) (timesSeries A (rest f) g) n
+        ∙ at_plus (λ k. f 0 ⊗ g (suc k)) (times_series A (rest f) g) n
         ∙ same_op ◌⊕◌ (at_scale (f 0) (rest g) n) (at_times d e n (rest f) g (λ k l. nf (suc k) (omega arith)) ng (omega arith))))
         ∙ gather (f 0) (g 0) (sum_of (rest g) n) (sum_of (rest f) d) (sum_of g e) (sym (at_front g n) ∙ at_degree g e (suc n) (omega arith) ng)
         ∙ ap (λ x. x ⊗ sum_of g e) (sym (at_front f d))
@@ -128,15 +128,15 @@ module _ {A : Algebra} (M : Model A) (D : Distributive A) where
     vanishes : Vanishes f degree
     total : (t : carrier) → polynomial_at A f degree t ≡ y t
 
-  finite_constant : (c : carrier) → Finite (constantSeries A c) (λ t. c)
+  finite_constant : (c : carrier) → Finite (constant_series A c) (λ t. c)
   finite_constant c =
       record {
         degree = 1;
         vanishes = none;
-        total = λ t. at_front t (constantSeries A c) 0 ∙ ap (λ x. c ⊕ t ⊗ x) (at_none t (rest (constantSeries A c))) ∙ ap (λ x. c ⊕ x) (product_zero M t) ∙ sum_zero M c;
+        total = λ t. at_front t (constant_series A c) 0 ∙ ap (λ x. c ⊕ t ⊗ x) (at_none t (rest (constant_series A c))) ∙ ap (λ x. c ⊕ x) (product_zero M t) ∙ sum_zero M c;
       }
     where
-      none : Vanishes (constantSeries A c) 1
+      none : Vanishes (constant_series A c) 1
       none zero l = absurd (never l)
         where
           never : 1 ≤ 0 → ⊥
@@ -162,7 +162,7 @@ module _ {A : Algebra} (M : Model A) (D : Distributive A) where
       none (suc zero) l = absurd (never 1 (omega arith) l)
       none (suc (suc k)) l = refl
 
-  finite_plus : {f g : Series A} {y z : carrier → carrier} → Finite f y → Finite g z → Finite (plusSeries A f g) (λ t. y t ⊕ z t)
+  finite_plus : {f g : Series A} {y z : carrier → carrier} → Finite f y → Finite g z → Finite (plus_series A f g) (λ t. y t ⊕ z t)
   finite_plus {f} {g} a b =
       record {
         degree = a.degree + b.degree;
@@ -174,15 +174,15 @@ module _ {A : Algebra} (M : Model A) (D : Distributive A) where
             (at_degree t g b.degree (a.degree + b.degree) (omega arith) b.vanishes ∙ b.total t);
       }
 
-  times_vanishes : (f g : Series A) (d e : ℕ) → Vanishes f d → Vanishes g e → Vanishes (timesSeries A f g) (d + e)
-  unfolding timesSeries
+  times_vanishes : (f g : Series A) (d e : ℕ) → Vanishes f d → Vanishes g e → Vanishes (times_series A f g) (d + e)
+  unfolding times_series
   times_vanishes f g d e nf ng k l = sum_zeros M (λ j. f j ⊗ g (k - j)) (suc k) (λ j m. go j (below_or_not j d))
     where
       go : (j : ℕ) → (j < d) ⊎ (d ≤ j) → f j ⊗ g (k - j) ≡ int (pos 0)
       go j (inl h) = ap (λ x. f j ⊗ x) (ng (k - j) (omega arith)) ∙ product_zero M (f j)
       go j (inr h) = ap (λ x. x ⊗ g (k - j)) (nf j h) ∙ zero_product M (g (k - j))
 
-  finite_times : {f g : Series A} {y z : carrier → carrier} → Finite f y → Finite g z → Finite (timesSeries A f g) (λ t. y t ⊗ z t)
+  finite_times : {f g : Series A} {y z : carrier → carrier} → Finite f y → Finite g z → Finite (times_series A f g) (λ t. y t ⊗ z t)
   finite_times {f} {g} a b =
       record {
         degree = a.degree + b.degree;
@@ -202,13 +202,13 @@ module _ {A : Algebra} (M : Model A) (D : Distributive A) where
     abbrev moved : carrier → Values A
     moved t = setting A env v (base A env v x ⊕ t)
 
-    variable_finite : (u : ℕ) (b : Bool) → Finite (cond b (shifted A (base A env v x)) (constantSeries A (env u))) (λ t. cond b (base A env v x ⊕ t) (env u))
+    variable_finite : (u : ℕ) (b : Bool) → Finite (cond b (shifted A (base A env v x)) (constant_series A (env u))) (λ t. cond b (base A env v x ⊕ t) (env u))
     variable_finite u true = finite_shifted (base A env v x)
     variable_finite u false = finite_constant (env u)
 
     node_finite :
-        (f : ℕ → Series A) (y : carrier → ℕ → carrier) (n : Node) → PolynomialNode n → Each (λ a. Finite (f a) (λ t. y t a)) (parts n) → Finite (valueNode (polynomials A) (asSeries A env v x) f n) (λ t. valueNode A (moved t) (y t) n)
-    unfolding valueNode
+        (f : ℕ → Series A) (y : carrier → ℕ → carrier) (n : Node) → PolynomialNode n → Each (λ a. Finite (f a) (λ t. y t a)) (parts n) → Finite (value_node (polynomials A) (as_series A env v x) f n) (λ t. value_node A (moved t) (y t) n)
+    unfolding value_node
     node_finite f y Empty p h = absurd p
     node_finite f y (Variable u) p h = variable_finite u (eqb u v)
     node_finite f y (Lit z) p h = finite_constant (int z)
@@ -221,15 +221,15 @@ module _ {A : Algebra} (M : Model A) (D : Distributive A) where
     node_finite f y (Max a b) p h = absurd p
 
     module _ (at : ℕ → Node) (r : ℕ) (p : PolynomialExpression at r) where
-      value_finite : Finite (value (polynomials A) (asSeries A env v x) at r) (λ t. value A (moved t) at r)
+      value_finite : Finite (value (polynomials A) (as_series A env v x) at r) (λ t. value A (moved t) at r)
       value_finite =
-          side_by_side ((polynomials A).int (pos 0)) (int (pos 0)) (valueNode (polynomials A) (asSeries A env v x)) (λ t. valueNode A (moved t)) at Finite (finite_constant (int (pos 0))) (Reach at (r ∷ []))
+          side_by_side ((polynomials A).int (pos 0)) (int (pos 0)) (value_node (polynomials A) (as_series A env v x)) (λ t. value_node A (moved t)) at Finite (finite_constant (int (pos 0))) (Reach at (r ∷ []))
           (λ f g i c finite. node_finite f g (at i) (p i c) (each_had (parts (at i)) (λ a m. finite a (part c m)))) r (root (here r []))
 
       -- f (x + t) = c_0 + c_1 × t + .. + c_(n-1) × t^(n-1) for every t, for every n from some degree on
-      pub taylor_formula : IsPolynomial A (value (polynomials A) (asSeries A env v x) at r) (λ t. value A (setting A env v (A.plus (base A env v x) t)) at r)
+      pub taylor_formula : IsPolynomial A (value (polynomials A) (as_series A env v x) at r) (λ t. value A (setting A env v (A.plus (base A env v x) t)) at r)
       taylor_formula =
           record {
             degree = value_finite.degree;
-            formula = λ n l t. at_degree t (value (polynomials A) (asSeries A env v x) at r) value_finite.degree n l value_finite.vanishes ∙ value_finite.total t;
+            formula = λ n l t. at_degree t (value (polynomials A) (as_series A env v x) at r) value_finite.degree n l value_finite.vanishes ∙ value_finite.total t;
           }

@@ -18,7 +18,7 @@ use Rattle.meaning.specs.Value.{Values}
 use Rattle.meaning.proofs.Values.{same_op}
 use Rattle.meaning.proofs.Laws.{sum_comm, sum_zero, zero_sum, product_comm, product_zero}
 use Rattle.meaning.proofs.Running.{Has, has_later, Is, has_same, is_same, literal_gives, valued}
-use Rattle.taylor_meaning.specs.Series.{minus, sum, Series, shifted, plusSeries, timesSeries}
+use Rattle.taylor_meaning.specs.Series.{minus, sum, Series, shifted, plus_series, times_series}
 use Rattle.taylor_meaning.proofs.Sums.{sum_more, sum_none}
 use Rattle.taylor_meaning.proofs.SeriesRing.{times_constant, constant_times}
 use Rattle.taylor_meaning.proofs.Working.{add_gives, mul_gives, neg_gives, sub_gives}
@@ -74,16 +74,16 @@ module _ {A : Algebra} (M : Model A) (env : Values A) where
       (shows_cons (has_later k_q g_r (has_later k g_q h)) (shows_cons ho (shows_repeated n z (has_later k_q g_r hz))), ap (λ (m : ℕ). suc (suc m)) (length-replicate {A = ℕ} n z)))))
 
   -- ---- add_assign
-  pub add_to_gives : {n : ℕ} {u w : Series A} {P : Pool} {s t : Expansion} → Keeps P → Expands A env n u P s → Expands A env n w P t → Gives P (Expands A env n (plusSeries A u w)) (add_to s t P)
-  add_to_gives {u = u} {w} k (constant hu zu) (constant hw zw) = constant_gives (plusSeries A u w) (λ j. zero_plus_zero (zu j) (zw j)) (add_gives M env k hu hw)
+  pub add_to_gives : {n : ℕ} {u w : Series A} {P : Pool} {s t : Expansion} → Keeps P → Expands A env n u P s → Expands A env n w P t → Gives P (Expands A env n (plus_series A u w)) (add_to s t P)
+  add_to_gives {u = u} {w} k (constant hu zu) (constant hw zw) = constant_gives (plus_series A u w) (λ j. zero_plus_zero (zu j) (zw j)) (add_gives M env k hu hw)
   add_to_gives {u = u} {w} k (list {cs = us} some l su) (constant {c} hw zw) =
-      list_gives (plusSeries A u w) some l
-      (first_gives (λ a. add a c) u (plusSeries A u w) us k su (λ j. sym (ap (λ x. u (suc j) ⊕ x) (zw j) ∙ sum_zero M (u (suc j)))) (λ a ha. add_gives M env k ha hw))
+      list_gives (plus_series A u w) some l
+      (first_gives (λ a. add a c) u (plus_series A u w) us k su (λ j. sym (ap (λ x. u (suc j) ⊕ x) (zw j) ∙ sum_zero M (u (suc j)))) (λ a ha. add_gives M env k ha hw))
   add_to_gives {u = u} {w} k (constant {c} hu zu) (list {cs = ws} some l sw) =
-      list_gives (plusSeries A u w) some l
-      (first_gives (λ a. add a c) w (plusSeries A u w) ws k sw (λ j. sym (ap (λ x. x ⊕ w (suc j)) (zu j) ∙ zero_sum M (w (suc j)))) (λ a ha. is_same (sum_comm M (w 0) (u 0)) (add_gives M env k ha hu)))
+      list_gives (plus_series A u w) some l
+      (first_gives (λ a. add a c) w (plus_series A u w) ws k sw (λ j. sym (ap (λ x. x ⊕ w (suc j)) (zu j) ∙ zero_sum M (w (suc j)))) (λ a ha. is_same (sum_comm M (w 0) (u 0)) (add_gives M env k ha hu)))
   add_to_gives {u = u} {w} {P} k (list {cs = us} some l su) (list {cs = ws} some' l' sw) =
-      list_gives (plusSeries A u w) (omega arith) (omega arith)
+      list_gives (plus_series A u w) (omega arith) (omega arith)
       (each_two_gives ◌⊕◌ u w us ws P k su sw (λ Q a b x y k_q g_q ha hb. is_same (sum_comm M y x) (add_gives M env k_q hb ha)))
 
   -- ---- neg: v_k = -u_k
@@ -122,21 +122,21 @@ module _ {A : Algebra} (M : Model A) (env : Values A) where
       → Has A env P z (int (pos 0))
       → k < length us
       → k < length ws
-      → Gives P (Is A env (timesSeries A u w k)) (product_at us ws z res k P)
-  unfolding timesSeries
-  product_at_gives {u} {w} {P} {us} {ws} {z} res k kP su sw hz lu lw =
+      → Gives P (Is A env (times_series A u w k)) (product_at us ws z res k P)
+  unfolding times_series
+  product_at_gives {u} {w} {P} {us} {ws} {z} res k k_p su sw hz lu lw =
       is_same (ap (sum A (λ j. u j ⊗ w (k - j))) (none (suc k)))
-      (fold_gives (valued A env) (sum A (λ j. u j ⊗ w (k - j))) 0 (suc k) z P kP (has_same (sym (sum_none A (λ j. u j ⊗ w (k - j)))) hz) (λ Q a j k_q g_q l m ha.
-      gives_next (mul_gives M env k_q (has_later kP g_q (su.entry j (omega arith))) (has_later kP g_q (sw.entry (k - j) (omega arith)))) (λ t R k_r g_r ht.
+      (fold_gives (valued A env) (sum A (λ j. u j ⊗ w (k - j))) 0 (suc k) z P k_p (has_same (sym (sum_none A (λ j. u j ⊗ w (k - j)))) hz) (λ Q a j k_q g_q l m ha.
+      gives_next (mul_gives M env k_q (has_later k_p g_q (su.entry j (omega arith))) (has_later k_p g_q (sw.entry (k - j) (omega arith)))) (λ t R k_r g_r ht.
       is_same (sym (sum_more A (λ j. u j ⊗ w (k - j)) j)) (add_gives M env k_r (has_later k_q g_r ha) ht))))
     where
       none : (n : ℕ) → 0 + n ≡ n
       none n = omega arith
 
-  pub times_gives : {n : ℕ} {u w : Series A} {P : Pool} {s t : Expansion} → Keeps P → Expands A env n u P s → Expands A env n w P t → Gives P (Expands A env n (timesSeries A u w)) (times s t P)
+  pub times_gives : {n : ℕ} {u w : Series A} {P : Pool} {s t : Expansion} → Keeps P → Expands A env n u P s → Expands A env n w P t → Gives P (Expands A env n (times_series A u w)) (times s t P)
   unfolding times
   times_gives {u = u} {w} k (constant hu zu) (constant hw zw) =
-      constant_gives (timesSeries A u w) (λ j. constant_times M u w zu (suc j) ∙ ap (λ x. u 0 ⊗ x) (zw j) ∙ product_zero M (u 0)) (is_same (sym (constant_times M u w zu 0)) (mul_gives M env k hu hw))
+      constant_gives (times_series A u w) (λ j. constant_times M u w zu (suc j) ∙ ap (λ x. u 0 ⊗ x) (zw j) ∙ product_zero M (u 0)) (is_same (sym (constant_times M u w zu 0)) (mul_gives M env k hu hw))
   times_gives {u = u} {w} {P} k (constant {c} hu zu) (list {cs = ws} some l sw) =
       gives_weaker (λ Q e g h. expands_same (λ j. product_comm M (w j) (u 0) ∙ sym (constant_times M u w zu j)) h)
       (list_gives (λ j. w j ⊗ u 0) some l (each_gives (λ x. x ⊗ u 0) w ws P k sw (λ Q a x k_q g_q ha. mul_gives M env k_q ha (has_later k g_q hu))))
@@ -144,7 +144,7 @@ module _ {A : Algebra} (M : Model A) (env : Values A) where
       gives_weaker (λ Q e g h. expands_same (λ j. sym (times_constant M u w zw j)) h)
       (list_gives (λ j. u j ⊗ w 0) some l (each_gives (λ x. x ⊗ w 0) u us P k su (λ Q a x k_q g_q ha. mul_gives M env k_q ha (has_later k g_q hw))))
   times_gives {u = u} {w} {P} k (list {cs = us} some l su) (list {cs = ws} some' l' sw) =
-      list_gives {m = 0 + min (length us) (length ws)} (timesSeries A u w) (omega arith) (omega arith)
+      list_gives {m = 0 + min (length us) (length ws)} (times_series A u w) (omega arith) (omega arith)
       (gives_next (literal_gives A env k (pos 0)) (λ z Q k_q g_q hz.
-      fill_gives (product_at us ws z) (timesSeries A u w) (min (length us) (length ws)) [] Q k_q shows_none (λ R rs k_r g_r hrs a b.
+      fill_gives (product_at us ws z) (times_series A u w) (min (length us) (length ws)) [] Q k_q shows_none (λ R rs k_r g_r hrs a b.
       product_at_gives rs (length rs) k_r (shows_later k_q g_r (shows_later k g_q su)) (shows_later k_q g_r (shows_later k g_q sw)) (has_later k_q g_r hz) (omega arith) (omega arith))))

@@ -20,10 +20,10 @@ use Rattle.taylor.specs.Expansion.{Expansion}
 use Rattle.taylor.specs.Expand.{Point, expand}
 use Rattle.constructor_laws.proofs.Giving.{Gives, accepted}
 use Rattle.meaning.specs.Model.{Algebra, Model, Distributive, power}
-use Rattle.meaning.specs.Value.{Values, valueNode, value}
+use Rattle.meaning.specs.Value.{Values, value_node, value}
 use Rattle.meaning.proofs.Values.{Each, each_below, each_had, same_op}
-use Rattle.taylor_meaning.specs.Series.{Series, plusSeries, timesSeries, series, polynomials}
-use Rattle.taylor_meaning.specs.Coefficients.{MeansSeries, asSeries}
+use Rattle.taylor_meaning.specs.Series.{Series, plus_series, times_series, series, polynomials}
+use Rattle.taylor_meaning.specs.Coefficients.{MeansSeries, as_series}
 use Rattle.taylor_meaning.specs.PolynomialExpressions.{PlainNode, PlainExpression, PolynomialNode, PolynomialExpression}
 use Rattle.taylor_meaning.proofs.Operations.{Expands}
 use Rattle.taylor_meaning.proofs.Polynomials.{powers_same}
@@ -51,13 +51,13 @@ polynomial_is_plain at r p i c = polynomial_node_is_plain (at i) (p i c)
 
 module _ {A : Algebra} (M : Model A) (D : Distributive A) where
   -- at a polynomial node the ring's value is the value
-  node_in_ring : (env : Values (series A)) (f g : ℕ → Series A) (x : Node) → PolynomialNode x → Each (λ a. f a ≡ g a) (parts x) → valueNode (polynomials A) env f x ≡ valueNode (series A) env g x
-  unfolding valueNode
+  node_in_ring : (env : Values (series A)) (f g : ℕ → Series A) (x : Node) → PolynomialNode x → Each (λ a. f a ≡ g a) (parts x) → value_node (polynomials A) env f x ≡ value_node (series A) env g x
+  unfolding value_node
   node_in_ring env f g Empty p h = absurd p
   node_in_ring env f g (Variable v) p h = refl
   node_in_ring env f g (Lit z) p h = refl
-  node_in_ring env f g (Add a b) p h = same_op (plusSeries A) h.0 h.1.0
-  node_in_ring env f g (Mul a b) p h = same_op (timesSeries A) h.0 h.1.0
+  node_in_ring env f g (Add a b) p h = same_op (plus_series A) h.0 h.1.0
+  node_in_ring env f g (Mul a b) p h = same_op (times_series A) h.0 h.1.0
   node_in_ring env f g (Div a b) p h = absurd p
   node_in_ring env f g (Exp a) p h = absurd p
   node_in_ring env f g (Log a) p h = absurd p
@@ -66,7 +66,7 @@ module _ {A : Algebra} (M : Model A) (D : Distributive A) where
 
   pub value_in_ring : (env : Values (series A)) (at : ℕ → Node) (r : ℕ) → PolynomialExpression at r → value (polynomials A) env at r ≡ value (series A) env at r
   value_in_ring env at r p =
-      side_by_side {T = Unit {0}} ((polynomials A).int (pos 0)) ((series A).int (pos 0)) (valueNode (polynomials A) env) (λ t. valueNode (series A) env) at (λ x y. x ≡ y tt) refl (Reach at (r ∷ []))
+      side_by_side {T = Unit {0}} ((polynomials A).int (pos 0)) ((series A).int (pos 0)) (value_node (polynomials A) env) (λ t. value_node (series A) env) at (λ x y. x ≡ y tt) refl (Reach at (r ∷ []))
       (λ f g i c same. node_in_ring env f (g tt) (at i) (p i c) (each_had (parts (at i)) (λ a m. same a (part c m)))) r (root (here r []))
 
   module _ (env : Values A) {P : Pool} (keeps : Keeps P) (v : ℕ) (known : v ≤ greatest_variable) (x : Point) (order : ℕ) where
@@ -83,7 +83,7 @@ module _ {A : Algebra} (M : Model A) (D : Distributive A) where
     plain_allowed (Max a b) h p = absurd p
 
     module _ (words : (i : ℕ) → get_or P.words i 0 < 2 ^ 64) (r : ℕ) (h : r < P.count) where
-      plain_expansion_gives : PlainExpression (node_at P) r → Gives P (Expands A env (suc order) (value (series A) (asSeries A env v x) (node_at P) r)) (expand r v x order P)
+      plain_expansion_gives : PlainExpression (node_at P) r → Gives P (Expands A env (suc order) (value (series A) (as_series A env v x) (node_at P) r)) (expand r v x order P)
       plain_expansion_gives p =
           expansion_gives M D env keeps v known x order (λ i. Reach (node_at P) (r ∷ []) i × (i < P.count)) (λ i c. c.1)
           (λ i c. each_both (Reach (node_at P) (r ∷ [])) (λ a. a < P.count) (parts (node_at P i)) (each_had (parts (node_at P i)) (λ a m. part c.0 m)) (each_below (parts (node_at P i)) (parts_below keeps i) (λ a m. m)))
@@ -91,7 +91,7 @@ module _ {A : Algebra} (M : Model A) (D : Distributive A) where
 
       -- an accepted expansion of a plain expression: as of any expression, with no law of fractions; and the pool that it leaves keeps the rules
       pub plain_expansion_means :
-          {e : Expansion} {Q : Pool} → PlainExpression (node_at P) r → expand r v x order P ≡ done e Q → MeansSeries A env P (suc order) (value (series A) (asSeries A env v x) (node_at P) r) e Q
+          {e : Expansion} {Q : Pool} → PlainExpression (node_at P) r → expand r v x order P ≡ done e Q → MeansSeries A env P (suc order) (value (series A) (as_series A env v x) (node_at P) r) e Q
       plain_expansion_means p eq = series_meant M env keeps (plain_expansion_gives p) eq
 
       pub plain_expansion_keeps : {e : Expansion} {Q : Pool} → PlainExpression (node_at P) r → expand r v x order P ≡ done e Q → Keeps Q
@@ -99,6 +99,6 @@ module _ {A : Algebra} (M : Model A) (D : Distributive A) where
 
       -- an accepted expansion of a polynomial expression: coefficient k is that of t^k in its value at x + t, in the ring of series
       pub polynomial_expansion_means :
-          {e : Expansion} {Q : Pool} → PolynomialExpression (node_at P) r → expand r v x order P ≡ done e Q → MeansSeries A env P (suc order) (value (polynomials A) (asSeries A env v x) (node_at P) r) e Q
+          {e : Expansion} {Q : Pool} → PolynomialExpression (node_at P) r → expand r v x order P ≡ done e Q → MeansSeries A env P (suc order) (value (polynomials A) (as_series A env v x) (node_at P) r) e Q
       polynomial_expansion_means p eq =
-          rw (value_in_ring (asSeries A env v x) (node_at P) r p) (plain_expansion_means (polynomial_is_plain (node_at P) r p) eq)
+          rw (value_in_ring (as_series A env v x) (node_at P) r p) (plain_expansion_means (polynomial_is_plain (node_at P) r p) eq)

@@ -16,7 +16,7 @@ use Rattle.meaning.specs.Model.{Algebra, Model, Distributive}
 use Rattle.meaning.specs.Value.{Values}
 use Rattle.meaning.proofs.Laws.{sum_assoc, product_comm, product_zero}
 use Rattle.meaning.proofs.Running.{Has, has_later, Is, has_same, is_same, literal_gives, valued}
-use Rattle.taylor_meaning.specs.Series.{minus, sum, Series, recurrence, overStep, Fractions}
+use Rattle.taylor_meaning.specs.Series.{minus, sum, Series, recurrence, over_step, Fractions}
 use Rattle.taylor_meaning.proofs.Sums.{sum_more, sum_none, recurrence_solves, over_looks_below}
 use Rattle.taylor_meaning.proofs.SeriesRing.{sum_zeros}
 use Rattle.taylor_meaning.proofs.Working.{mul_gives, div_gives, sub_gives}
@@ -28,7 +28,7 @@ module _ {A : Algebra} (M : Model A) (D : Distributive A) (env : Values A) (u w 
   infixl 20 ◌⊕◌
   infixl 30 ◌⊗◌ ◌⊘◌
   abbrev over_v : Series A
-  over_v = recurrence A (overStep A u w)
+  over_v = recurrence A (over_step A u w)
 
   abbrev scale : carrier
   scale = int (pos 1) ⊘ w 0
@@ -37,8 +37,8 @@ module _ {A : Algebra} (M : Model A) (D : Distributive A) (env : Values A) (u w 
   terms k j = over_v j ⊗ w (k - j)
 
   solves : (k : ℕ) → over_v k ≡ scale ⊗ minus A (u k) (sum A (terms k) k)
-  unfolding overStep
-  solves k = recurrence_solves A (overStep A u w) (over_looks_below A u w) k
+  unfolding over_step
+  solves k = recurrence_solves A (over_step A u w) (over_looks_below A u w) k
 
   -- coefficient 0
   first_is : over_v 0 ≡ scale ⊗ u 0
@@ -59,12 +59,12 @@ module _ {A : Algebra} (M : Model A) (D : Distributive A) (env : Values A) (u w 
       → length rs ≡ k
       → k < length ws
       → Gives P (Is A env (over_v k)) (quotient_at start ws c rs k P)
-  quotient_at_gives {P} {ws} {rs} {c} start k kP hu sw sv hc long lw =
+  quotient_at_gives {P} {ws} {rs} {c} start k k_p hu sw sv hc long lw =
       gives_next
-      (fold_gives (valued A env) (λ j. minus A (u k) (sum A (terms k) j)) 0 k (start k) P kP (has_same (sym (ap (minus A (u k)) (sum_none A (terms k)) ∙ minus_zero M (u k))) hu) (λ Q a j k_q g_q l m ha.
-      gives_next (mul_gives M env k_q (has_later kP g_q (sv.entry j (omega arith))) (has_later kP g_q (sw.entry (k - j) (omega arith)))) (λ t R k_r g_r ht.
+      (fold_gives (valued A env) (λ j. minus A (u k) (sum A (terms k) j)) 0 k (start k) P k_p (has_same (sym (ap (minus A (u k)) (sum_none A (terms k)) ∙ minus_zero M (u k))) hu) (λ Q a j k_q g_q l m ha.
+      gives_next (mul_gives M env k_q (has_later k_p g_q (sv.entry j (omega arith))) (has_later k_p g_q (sw.entry (k - j) (omega arith)))) (λ t R k_r g_r ht.
       is_same (less_more (u k) (sum A (terms k) j) (terms k j) ∙ ap (minus A (u k)) (sym (sum_more A (terms k) j))) (sub_gives M env k_r (has_later k_q g_r ha) ht)))) (λ s Q k_q g_q hs.
-      is_same (ap (λ j. scale ⊗ minus A (u k) (sum A (terms k) j)) (none k) ∙ sym (solves k)) (mul_gives M env k_q (has_later kP g_q hc) hs))
+      is_same (ap (λ j. scale ⊗ minus A (u k) (sum A (terms k) j)) (none k) ∙ sym (solves k)) (mul_gives M env k_q (has_later k_p g_q hc) hs))
     where
       none : (n : ℕ) → 0 + n ≡ n
       none n = omega arith

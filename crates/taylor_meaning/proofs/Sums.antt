@@ -7,7 +7,7 @@ use lib.IntN.{pos}
 use Rattle.meaning.specs.Model.{Algebra}
 use Rattle.meaning.proofs.Recursion.{LooksBelow, recursion_solves}
 use Rattle.meaning.proofs.Values.{same_op}
-use Rattle.taylor_meaning.specs.Series.{sum, minus, Series, below, recurrence, overFrom, overStep, expStep, logStep}
+use Rattle.taylor_meaning.specs.Series.{sum, minus, Series, below, recurrence, over_from, over_step, exp_step, log_step}
 
 module _ (A : Algebra) where
   open A use {carrier, int, plus as ◌⊕◌, times as ◌⊗◌, over as ◌⊘◌}
@@ -32,30 +32,30 @@ module _ (A : Algebra) where
   unfolding recurrence below
   recurrence_solves step looks = recursion_solves step (below A step) (λ n k. refl) looks
 
-  pub over_looks_below : (u w : Series A) → LooksBelow (overStep A u w)
-  unfolding overStep
+  pub over_looks_below : (u w : Series A) → LooksBelow (over_step A u w)
+  unfolding over_step
   over_looks_below u w =
       record {
         same = λ f g k h.
-            ap (overFrom A (w 0) (u k)) (sum_same (λ j. f j ⊗ w (k - j)) (λ j. g j ⊗ w (k - j)) k (λ j l. ap (λ x. x ⊗ w (k - j)) (h j l)));
+            ap (over_from A (w 0) (u k)) (sum_same (λ j. f j ⊗ w (k - j)) (λ j. g j ⊗ w (k - j)) k (λ j l. ap (λ x. x ⊗ w (k - j)) (h j l)));
       }
 
-  pub exp_looks_below : (u : Series A) → LooksBelow (expStep A u)
-  unfolding expStep
+  pub exp_looks_below : (u : Series A) → LooksBelow (exp_step A u)
+  unfolding exp_step
   exp_looks_below u = record { same = go }
     where
-      go : (f g : Series A) (k : ℕ) → ((j : ℕ) → j < k → f j ≡ g j) → expStep A u f k ≡ expStep A u g k
+      go : (f g : Series A) (k : ℕ) → ((j : ℕ) → j < k → f j ≡ g j) → exp_step A u f k ≡ exp_step A u g k
       go f g zero h = refl
       go f g (suc k) h =
           ap (λ x. x ⊘ int (pos (suc k)))
           (sum_same (λ i. f (k - i) ⊗ (int (pos (suc i)) ⊗ u (suc i))) (λ i. g (k - i) ⊗ (int (pos (suc i)) ⊗ u (suc i))) (suc k)
           (λ i l. ap (λ x. x ⊗ (int (pos (suc i)) ⊗ u (suc i))) (h (k - i) (omega arith))))
 
-  pub log_looks_below : (u : Series A) → LooksBelow (logStep A u)
-  unfolding logStep
+  pub log_looks_below : (u : Series A) → LooksBelow (log_step A u)
+  unfolding log_step
   log_looks_below u = record { same = go }
     where
-      go : (f g : Series A) (k : ℕ) → ((j : ℕ) → j < k → f j ≡ g j) → logStep A u f k ≡ logStep A u g k
+      go : (f g : Series A) (k : ℕ) → ((j : ℕ) → j < k → f j ≡ g j) → log_step A u f k ≡ log_step A u g k
       go f g zero h = refl
       go f g (suc k) h =
           ap (λ x. minus A (int (pos (suc k)) ⊗ u (suc k)) x ⊘ u 0 ⊘ int (pos (suc k)))

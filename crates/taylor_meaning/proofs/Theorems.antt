@@ -25,8 +25,8 @@ use Rattle.meaning.specs.Model as model
 use Rattle.meaning.specs.Value.{Values, value, Means}
 use Rattle.meaning.proofs.Values.{each_below, value_kept}
 use Rattle.meaning.proofs.Theorems.{meant}
-use Rattle.taylor_meaning.specs.Series.{minus, Series, constantSeries, composed, factorialIn, plusSeries, timesSeries, recurrence, overStep, expStep, logStep, series, Fractions}
-use Rattle.taylor_meaning.specs.Coefficients.{Present, Long, InPool, coefficient, MeansSeries, asSeries}
+use Rattle.taylor_meaning.specs.Series.{minus, Series, constant_series, composed, factorial_in, plus_series, times_series, recurrence, over_step, exp_step, log_step, series, Fractions}
+use Rattle.taylor_meaning.specs.Coefficients.{Present, Long, InPool, coefficient, MeansSeries, as_series}
 use Rattle.taylor_meaning.proofs.Operations.{Expands, constant, list, add_to_gives, negate_gives, sub_from_gives, times_gives}
 use Rattle.taylor_meaning.proofs.Elementary.{exponential_gives, logarithm_gives}
 use Rattle.taylor_meaning.proofs.Quotients.{quotient_by_list_gives, quotient_gives}
@@ -96,15 +96,15 @@ module _ {A : Algebra} (M : Model A) (env : Values A) where
       pub coeff_means : {i : ℕ} {Q : Pool} → (k : ℕ) → k < n → coeff s k P ≡ done i Q → Means A env P (u k) i Q
       coeff_means k l eq = meant M env keeps (coeff_gives M env k l keeps itself) eq
 
-      pub derivative_means : {i : ℕ} {Q : Pool} → (k : ℕ) → k < n → derivative s k P ≡ done i Q → Means A env P (A.times (factorialIn A k) (u k)) i Q
+      pub derivative_means : {i : ℕ} {Q : Pool} → (k : ℕ) → k < n → derivative s k P ≡ done i Q → Means A env P (A.times (factorial_in A k) (u k)) i Q
       derivative_means k l eq = meant M env keeps (derivative_gives M env k l keeps itself) eq
 
       -- the series of the book's recurrence for exp u
-      pub exponential_means : {e : Expansion} {Q : Pool} → exponential s P ≡ done e Q → MeansSeries A env P n (recurrence A (expStep A u)) e Q
+      pub exponential_means : {e : Expansion} {Q : Pool} → exponential s P ≡ done e Q → MeansSeries A env P n (recurrence A (exp_step A u)) e Q
       exponential_means eq = series_meant (exponential_gives M env u keeps itself) eq
 
       -- the series of the book's recurrence for ln u
-      pub logarithm_means : {e : Expansion} {Q : Pool} → logarithm s P ≡ done e Q → MeansSeries A env P n (recurrence A (logStep A u)) e Q
+      pub logarithm_means : {e : Expansion} {Q : Pool} → logarithm s P ≡ done e Q → MeansSeries A env P n (recurrence A (log_step A u)) e Q
       logarithm_means eq = series_meant (logarithm_gives M env u keeps itself) eq
 
       -- a power is a repeated product
@@ -119,7 +119,7 @@ module _ {A : Algebra} (M : Model A) (env : Values A) where
         itself' = expands_itself t ht lt
 
         -- v_k = u_k + w_k
-        pub add_to_means : {e : Expansion} {Q : Pool} → add_to s t P ≡ done e Q → MeansSeries A env P n (plusSeries A u w) e Q
+        pub add_to_means : {e : Expansion} {Q : Pool} → add_to s t P ≡ done e Q → MeansSeries A env P n (plus_series A u w) e Q
         add_to_means eq = series_meant (add_to_gives M env keeps itself itself') eq
 
         -- v_k = u_k - w_k
@@ -127,15 +127,15 @@ module _ {A : Algebra} (M : Model A) (env : Values A) where
         sub_from_means eq = series_meant (sub_from_gives M env keeps itself itself') eq
 
         -- v_k = Σ_(j=0..k) u_j × w_(k-j)
-        pub times_means : {e : Expansion} {Q : Pool} → times s t P ≡ done e Q → MeansSeries A env P n (timesSeries A u w) e Q
+        pub times_means : {e : Expansion} {Q : Pool} → times s t P ≡ done e Q → MeansSeries A env P n (times_series A u w) e Q
         times_means eq = series_meant (times_gives M env keeps itself itself') eq
 
         -- the series of the book's recurrence for u / w
-        pub quotient_means : {e : Expansion} {Q : Pool} → Distributive A → Fractions A → quotient s t P ≡ done e Q → MeansSeries A env P n (recurrence A (overStep A u w)) e Q
+        pub quotient_means : {e : Expansion} {Q : Pool} → Distributive A → Fractions A → quotient s t P ≡ done e Q → MeansSeries A env P n (recurrence A (over_step A u w)) e Q
         quotient_means D fractions eq = series_meant (quotient_gives M D env u w fractions keeps itself itself') eq
 
         -- a maximum is one of constants
-        pub maximum_means : {e : Expansion} {Q : Pool} → maximum s t P ≡ done e Q → MeansSeries A env P n (constantSeries A (A.max (u 0) (w 0))) e Q
+        pub maximum_means : {e : Expansion} {Q : Pool} → maximum s t P ≡ done e Q → MeansSeries A env P n (constant_series A (A.max (u 0) (w 0))) e Q
         maximum_means eq = series_meant (maximum_gives M env keeps itself itself') eq
 
       -- a list with s put in for t: c_0 + c_1 × s + c_2 × s^2 + ..
@@ -145,7 +145,7 @@ module _ {A : Algebra} (M : Model A) (env : Values A) where
 
       -- by a list no law of fractions is needed
       pub quotient_by_list_means :
-          {e : Expansion} {Q : Pool} → Distributive A → (ws : List ℕ) → InPool P (Polynomial ws) → Long n (Polynomial ws) → quotient s (Polynomial ws) P ≡ done e Q → MeansSeries A env P n (recurrence A (overStep A u (coefficient A env P (Polynomial ws)))) e Q
+          {e : Expansion} {Q : Pool} → Distributive A → (ws : List ℕ) → InPool P (Polynomial ws) → Long n (Polynomial ws) → quotient s (Polynomial ws) P ≡ done e Q → MeansSeries A env P n (recurrence A (over_step A u (coefficient A env P (Polynomial ws)))) e Q
       quotient_by_list_means D ws ht lt eq =
           series_meant (quotient_by_list_gives M D env u (coefficient A env P (Polynomial ws)) keeps itself (expands_itself (Polynomial ws) ht lt)) eq
 
@@ -166,7 +166,7 @@ module _ {A : Algebra} (M : Model A) (env : Values A) where
 
       expression_gives :
           Fractions A → ((i : ℕ) → get_or P.words i 0 < 2 ^ 64) → (root : ℕ) → root < P.count
-          → Gives P (Expands A env (suc order) (value (series A) (asSeries A env v x) (node_at P) root)) (expand root v x order P)
+          → Gives P (Expands A env (suc order) (value (series A) (as_series A env v x) (node_at P) root)) (expand root v x order P)
       expression_gives fractions words root h =
           expansion_gives M D env keeps v known x order (λ i. i < P.count) (λ i l. l) (λ i l. each_below (parts (node_at P i)) (parts_below keeps i) (λ a m. m)) (λ i l. short_allowed fractions (node_at P i) (node_short P words i)) root h
 
@@ -174,7 +174,7 @@ module _ {A : Algebra} (M : Model A) (env : Values A) where
       pub expansion_means :
           Fractions A → ((i : ℕ) → get_or P.words i 0 < 2 ^ 64) → {e : Expansion} {Q : Pool} (root : ℕ) → root < P.count
           → expand root v x order P ≡ done e Q
-          → MeansSeries A env P (suc order) (value (series A) (asSeries A env v x) (node_at P) root) e Q
+          → MeansSeries A env P (suc order) (value (series A) (as_series A env v x) (node_at P) root) e Q
       expansion_means fractions words root h eq = series_meant (expression_gives fractions words root h) eq
 
       pub expansion_keeps : Fractions A → ((i : ℕ) → get_or P.words i 0 < 2 ^ 64) → {e : Expansion} {Q : Pool} (root : ℕ) → root < P.count → expand root v x order P ≡ done e Q → Keeps Q

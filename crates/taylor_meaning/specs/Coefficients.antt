@@ -7,7 +7,7 @@ use Rattle.taylor.specs.Expansion.{Expansion, Constant, Polynomial}
 use Rattle.taylor.specs.Expand.{Point, none, point}
 use Rattle.meaning.specs.Model.{Algebra}
 use Rattle.meaning.specs.Value.{Values, value}
-use Rattle.taylor_meaning.specs.Series.{Series, constantSeries, shifted, series}
+use Rattle.taylor_meaning.specs.Series.{Series, constant_series, shifted, series}
 
 -- coefficient k is there: every one of a constant, and those of a list
 abbrev pub Present : Expansion → ℕ → Type 0
@@ -43,4 +43,4 @@ module _ (A : Algebra) (env : Values A) where
 
   -- the variables as series: the one sought is its value and t, the others are constants
   abbrev pub as_series : ℕ → Point → Values (series A)
-  as_series v x u = cond (eqb u v) (shifted A (base v x)) (constantSeries A (env u))
+  as_series v x u = cond (eqb u v) (shifted A (base v x)) (constant_series A (env u))

@@ -29,7 +29,7 @@ module _ {P : Pool} (keeps : Keeps P) where
   series_kept {k} work w = go (w.kept P keeps (le_refl P.count))
     where
       go : {r : Result Expansion} → KeptAs (Series k) P r → KeptBy P (λ j. j ≡ k) r
-      go (gave {x = e} kQ g s) = record { grown = g; keeps = kQ; fits = fits e s.within; order = s.order }
+      go (gave {x = e} k_q g s) = record { grown = g; keeps = k_q; fits = fits e s.within; order = s.order }
       go ended = tt
 
   node_kept : (work : Work ℕ) → Keeping P.count Node work → NodeKeptBy P (work P)
@@ -83,5 +83,5 @@ module _ {P : Pool} (keeps : Keeps P) where
   expand_kept root v x order lr lv lo = go (expand_comes order lo v x lv root keeps lr)
     where
       go : {r : Result Expansion} → KeptAs (Come order lo) P r → KeptBy P (ExpandedOrder order) r
-      go (gave {x = e} kQ g s) = record { grown = g; keeps = kQ; fits = fits e s.within; order = s.size }
+      go (gave {x = e} k_q g s) = record { grown = g; keeps = k_q; fits = fits e s.within; order = s.size }
       go ended = tt

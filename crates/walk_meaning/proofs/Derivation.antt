@@ -18,11 +18,11 @@ use Rattle.walks.specs.Walk.{State, Went, Walk, bind}
 use Rattle.walks.specs.Derive.{lit, add, mul, div, neg, pow, quotient_rule, derive_node, derive_at, derive}
 use Rattle.walk_laws.proofs.Walking.{Good, Walked, ended_walk, Walks, walked_next, both_walked, lift_walked, walk_gives}
 use Rattle.meaning.specs.Model.{Algebra, Model, power}
-use Rattle.meaning.specs.Value.{Values, valueNode, value, Means}
+use Rattle.meaning.specs.Value.{Values, value_node, value, Means}
 use Rattle.meaning.proofs.Values.{falling, value_law}
 use Rattle.meaning.proofs.Running.{Has, has_later, has_same, has_first, valued, literal_gives, calls_mean}
 use Rattle.meaning.proofs.Theorems.{meant}
-use Rattle.walk_meaning.specs.Slope.{quotientSlope, slopeNode, slope}
+use Rattle.walk_meaning.specs.Slope.{quotient_slope, slope_node, slope}
 use Rattle.walk_meaning.proofs.Slopes.{slope_law}
 
 module _ {A : Algebra} (M : Model A) (env : Values A) {P₀ : Pool} (keeps : Keeps P₀) (var : ℕ) where
@@ -77,7 +77,7 @@ module _ {A : Algebra} (M : Model A) (env : Values A) {P₀ : Pool} (keeps : Kee
       add_gives good_U (has_later good_T.keeps g_u hp) hq))
 
   -- (a × db - b × da) / b^2
-  quotient_gives : {S : State} {a b da db : ℕ} {x y x' y' : carrier} → Fit S → Has A env S.pool a x → Has A env S.pool b y → Has A env S.pool da x' → Has A env S.pool db y' → Gives S (quotientSlope A env var x y x' y') (quotient_rule a b da db S)
+  quotient_gives : {S : State} {a b da db : ℕ} {x y x' y' : carrier} → Fit S → Has A env S.pool a x → Has A env S.pool b y → Has A env S.pool da x' → Has A env S.pool db y' → Gives S (quotient_slope A env var x y x' y') (quotient_rule a b da db S)
   quotient_gives good ha hb hda hdb =
       walked_next (mul_gives good ha hdb) (λ p T good_T g_t hp.
       walked_next (mul_gives good_T (has_later good.keeps g_t hb) (has_later good.keeps g_t hda)) (λ q U good_U g_u hq.
@@ -93,15 +93,15 @@ module _ {A : Algebra} (M : Model A) (env : Values A) {P₀ : Pool} (keeps : Kee
     picked true = refl
     picked false = refl
 
-    from_parts : {x : Node} → node_at P₀ term ≡ x → goal term ≡ slopeNode A env var (val P₀) goal x
-    from_parts e = slope_law A env var (node_at P₀) (falling keeps) term ∙ ap (slopeNode A env var (val P₀) goal) e
+    from_parts : {x : Node} → node_at P₀ term ≡ x → goal term ≡ slope_node A env var (val P₀) goal x
+    from_parts e = slope_law A env var (node_at P₀) (falling keeps) term ∙ ap (slope_node A env var (val P₀) goal) e
 
-    value_from_parts : {x : Node} → node_at P₀ term ≡ x → val P₀ term ≡ valueNode A env (val P₀) x
-    value_from_parts e = value_law A env (node_at P₀) (falling keeps) term ∙ ap (valueNode A env (val P₀)) e
+    value_from_parts : {x : Node} → node_at P₀ term ≡ x → val P₀ term ≡ value_node A env (val P₀) x
+    value_from_parts e = value_law A env (node_at P₀) (falling keeps) term ∙ ap (value_node A env (val P₀)) e
 
     -- what is done at a node gives its slope from its parts' values and slopes
-    node_gives : (x : Node) → node_at P₀ term ≡ x → AllBelow P₀.count (parts x) → (S : State) → Fit S → Gives S (slopeNode A env var (val P₀) goal x) (derive_node var down term x S)
-    unfolding slopeNode valueNode
+    node_gives : (x : Node) → node_at P₀ term ≡ x → AllBelow P₀.count (parts x) → (S : State) → Fit S → Gives S (slope_node A env var (val P₀) goal x) (derive_node var down term x S)
+    unfolding slope_node value_node
     node_gives Empty e l S good = ended_walk
     node_gives (Variable v) e l S good = rw (sym (picked (eqb v var))) (lit_gives good (cond (eqb v var) (pos 1) (pos 0)))
     node_gives (Lit z) e l S good = lit_gives good (pos 0)

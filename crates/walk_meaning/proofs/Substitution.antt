@@ -17,7 +17,7 @@ use Rattle.walks.specs.Walk.{State, Went, Walk, bind, yield, lift}
 use Rattle.walks.specs.Substitute.{unless, substitute_node, substitute_at, substitute_var}
 use Rattle.walk_laws.proofs.Walking.{Good, Walked, ended_walk, Walks, walked_next, walked_here, both_walked, lift_walked, walk_gives}
 use Rattle.meaning.specs.Model.{Algebra, Model, power}
-use Rattle.meaning.specs.Value.{Values, valueNode, value, Means}
+use Rattle.meaning.specs.Value.{Values, value_node, value, Means}
 use Rattle.meaning.proofs.Values.{falling, same_op, value_law, value_kept}
 use Rattle.meaning.proofs.Running.{has_same, has_first, Is, valued, is_same, TwoMean, OneMeans, calls_mean}
 use Rattle.meaning.proofs.Theorems.{meant}
@@ -43,11 +43,11 @@ module _ {A : Algebra} (M : Model A) (env : Values A) {P₀ : Pool} (keeps : Kee
   Comes = Walked (valued A env) P₀ goal
 
   -- the value of a node, from its parts' values
-  from_parts : (i : ℕ) {x : Node} → node_at P₀ i ≡ x → val P₀ i ≡ valueNode A env (val P₀) x
-  from_parts i e = value_law A env (node_at P₀) (falling keeps) i ∙ ap (valueNode A env (val P₀)) e
+  from_parts : (i : ℕ) {x : Node} → node_at P₀ i ≡ x → val P₀ i ≡ value_node A env (val P₀) x
+  from_parts i e = value_law A env (node_at P₀) (falling keeps) i ∙ ap (value_node A env (val P₀)) e
 
-  goal_from_parts : (i : ℕ) {x : Node} → node_at P₀ i ≡ x → goal i ≡ valueNode A set_values goal x
-  goal_from_parts i e = value_law A set_values (node_at P₀) (falling keeps) i ∙ ap (valueNode A set_values goal) e
+  goal_from_parts : (i : ℕ) {x : Node} → node_at P₀ i ≡ x → goal i ≡ value_node A set_values goal x
+  goal_from_parts i e = value_law A set_values (node_at P₀) (falling keeps) i ∙ ap (value_node A set_values goal) e
 
   -- a node that came back has the value that it should have
   came_back : {S : State} → Fit S → (a a2 : ℕ) → a < P₀.count → eqb a a2 ≡ true → Is A env (goal a) S.pool a2 → val P₀ a ≡ goal a
@@ -95,7 +95,7 @@ module _ {A : Algebra} (M : Model A) (env : Values A) {P₀ : Pool} (keeps : Kee
         go a2 U good_U ha false t = lift_walked (make a2) good_U (is_same (sym there) (means U.pool good_U.keeps a2 _ ha))
 
     variable_walked : (v : ℕ) → node_at P₀ term ≡ Variable v → (S : State) → Fit S → Comes S (goal term) (yield (cond (eqb v var) given term) S)
-    unfolding valueNode
+    unfolding value_node
     variable_walked v e S good = go (eqb v var) (from_parts term e) (goal_from_parts term e)
       where
         go : (t : Bool) → val P₀ term ≡ env v → goal term ≡ cond t (val P₀ given) (env v) → Comes S (goal term) (yield (cond t given term) S)
@@ -104,7 +104,7 @@ module _ {A : Algebra} (M : Model A) (env : Values A) {P₀ : Pool} (keeps : Kee
 
     node_walked :
         (x : Node) → node_at P₀ term ≡ x → AllBelow P₀.count (parts x) → (S : State) → Fit S → Comes S (goal term) (substitute_node var given down term x S)
-    unfolding valueNode
+    unfolding value_node
     node_walked Empty e l S good = ended_walk
     node_walked (Variable v) e l S good = variable_walked v e S good
     node_walked (Lit z) e l S good = itself good (from_parts term e ∙ sym (goal_from_parts term e))

@@ -2,8 +2,8 @@
 -- Assumes nothing.
 use borrow.Author.Rules.{rules}
 use Rattle.pool.specs.Pool.{node_in}
-use Rattle.constructors.specs.Tables.{mulLits, mulExps, mulLeft, mulPows}
-use Rattle.mul_rules.proofs.Groups.{decides, passes, fromExps, fromLeft, fromPows, fromLast}
+use Rattle.constructors.specs.Tables.{mul_lits, mul_exps, mul_left, mul_pows}
+use Rattle.mul_rules.proofs.Groups.{decides, passes, from_exps, from_left, from_pows, from_last}
 use Rattle.mul_rules.proofs.mul_rule.Statement.{statement}
 use Rattle.mul_rules.proofs.mul_rule.Tie as tie
 
@@ -25,7 +25,7 @@ returns c =
     let at = node_in start.args.kinds.now start.args.words.now in
     let lhs = start.args.lhs in
     let rhs = start.args.rhs in
-    decides (mulLits at lhs rhs) (fromExps at lhs rhs) c.before.before.before.lits.ensures c.before.rule.given.1
+    decides (mul_lits at lhs rhs) (from_exps at lhs rhs) c.before.before.before.lits.ensures c.before.rule.given.1
 
 enum_told : tie.Need-enum-told
 enum_told c = search rules
@@ -43,8 +43,8 @@ returns_2 c =
     let at = node_in start.args.kinds.now start.args.words.now in
     let lhs = start.args.lhs in
     let rhs = start.args.rhs in
-    passes (mulLits at lhs rhs) (fromExps at lhs rhs) lits.before.before.lits.ensures lits.enum_told.given.1
-    (decides (mulExps at lhs rhs) (fromLeft at lhs rhs) c.before.before.before.exps.ensures c.before.rule2.given.1)
+    passes (mul_lits at lhs rhs) (from_exps at lhs rhs) lits.before.before.lits.ensures lits.enum_told.given.1
+    (decides (mul_exps at lhs rhs) (from_left at lhs rhs) c.before.before.before.exps.ensures c.before.rule2.given.1)
 
 enum_told_2 : tie.Need-enum-told-2
 enum_told_2 c = search rules
@@ -63,9 +63,9 @@ returns_3 c =
     let at = node_in start.args.kinds.now start.args.words.now in
     let lhs = start.args.lhs in
     let rhs = start.args.rhs in
-    passes (mulLits at lhs rhs) (fromExps at lhs rhs) lits.before.before.lits.ensures lits.enum_told.given.1
-    (passes (mulExps at lhs rhs) (fromLeft at lhs rhs) exps.before.before.exps.ensures exps.enum-told2.given.1
-    (decides (mulLeft at lhs rhs) (fromPows at lhs rhs) c.before.before.before.ahead.ensures c.before.rule3.given.1))
+    passes (mul_lits at lhs rhs) (from_exps at lhs rhs) lits.before.before.lits.ensures lits.enum_told.given.1
+    (passes (mul_exps at lhs rhs) (from_left at lhs rhs) exps.before.before.exps.ensures exps.enum-told2.given.1
+    (decides (mul_left at lhs rhs) (from_pows at lhs rhs) c.before.before.before.ahead.ensures c.before.rule3.given.1))
 
 enum_told_3 : tie.Need-enum-told-3
 enum_told_3 c = search rules
@@ -85,10 +85,10 @@ returns_4 c =
     let at = node_in start.args.kinds.now start.args.words.now in
     let lhs = start.args.lhs in
     let rhs = start.args.rhs in
-    passes (mulLits at lhs rhs) (fromExps at lhs rhs) lits.before.before.lits.ensures lits.enum_told.given.1
-    (passes (mulExps at lhs rhs) (fromLeft at lhs rhs) exps.before.before.exps.ensures exps.enum-told2.given.1
-    (passes (mulLeft at lhs rhs) (fromPows at lhs rhs) ahead.before.before.ahead.ensures ahead.enum-told3.given.1
-    (decides (mulPows at lhs rhs) (fromLast at lhs rhs) c.before.before.before.pows.ensures c.before.rule4.given.1)))
+    passes (mul_lits at lhs rhs) (from_exps at lhs rhs) lits.before.before.lits.ensures lits.enum_told.given.1
+    (passes (mul_exps at lhs rhs) (from_left at lhs rhs) exps.before.before.exps.ensures exps.enum-told2.given.1
+    (passes (mul_left at lhs rhs) (from_pows at lhs rhs) ahead.before.before.ahead.ensures ahead.enum-told3.given.1
+    (decides (mul_pows at lhs rhs) (from_last at lhs rhs) c.before.before.before.pows.ensures c.before.rule4.given.1)))
 
 enum_told_4 : tie.Need-enum-told-4
 enum_told_4 c = search rules
@@ -106,10 +106,10 @@ returns_5 c =
     let at = node_in start.args.kinds.now start.args.words.now in
     let lhs = start.args.lhs in
     let rhs = start.args.rhs in
-    passes (mulLits at lhs rhs) (fromExps at lhs rhs) lits.before.before.lits.ensures lits.enum_told.given.1
-    (passes (mulExps at lhs rhs) (fromLeft at lhs rhs) exps.before.before.exps.ensures exps.enum-told2.given.1
-    (passes (mulLeft at lhs rhs) (fromPows at lhs rhs) ahead.before.before.ahead.ensures ahead.enum-told3.given.1
-    (passes (mulPows at lhs rhs) (fromLast at lhs rhs) pows.before.before.pows.ensures pows.enum-told4.given.1
+    passes (mul_lits at lhs rhs) (from_exps at lhs rhs) lits.before.before.lits.ensures lits.enum_told.given.1
+    (passes (mul_exps at lhs rhs) (from_left at lhs rhs) exps.before.before.exps.ensures exps.enum-told2.given.1
+    (passes (mul_left at lhs rhs) (from_pows at lhs rhs) ahead.before.before.ahead.ensures ahead.enum-told3.given.1
+    (passes (mul_pows at lhs rhs) (from_last at lhs rhs) pows.before.before.pows.ensures pows.enum-told4.given.1
     c.last.ensures)))
 
 pub mul_rule_spec : {M : Type 1} → statement M
