@@ -231,11 +231,13 @@ def rewrite(body, f, place, said, var="c", need=None, used=None):
         i = 0
         while i < len(segs) and segs[i] == "before":
             q = f.places[p][0] if p in f.places else None
-            if q is None:
-                break
-            p = q
+            if q is not None:
+                p = q
             i += 1
-        return p, segs[i:]
+        left = segs[i:]
+        if left and norm(left[0]) not in START and f.owner(p, left[0]) is None and f.owner(place, left[0]) is not None:
+            p = place
+        return p, left
 
     def record(p):
         """A place as a value."""
