@@ -44,7 +44,7 @@ def signatures(root):
                     if "\n{" in before or re.search(r"\bfn ", before):
                         break
                     clauses[k.group(1)].append(k.group(2))
-                got[f"{crate}::{mod}{m.group(1)}"] = ([a for a, _ in ps], [a for a, b in ps if "mut" in b], clauses)
+                got[f"{crate}::{mod}{m.group(1)}"] = ([a for a, _ in ps], [a for a, b in ps if "mut" in b], clauses, [a for a, b in ps if "&" in b])
     return got
 
 
@@ -104,7 +104,11 @@ class Function:
             if not arm:
                 continue
             for field, step, path in arm[2]:
-                if norm(step) != norm(label) or field.endswith("-own"):
+                if norm(step) != norm(label):
+                    continue
+                if field.endswith("-own"):
+                    if norm(step) == "match" and rest and not path and re.match(r"(keys|rest|key)", rest[0]) and p in list(self.up(place))[:list(self.up(place)).index(place) + 99]:
+                        return [arm[0], field] + rest, False
                     continue
                 if rest[:len(path)] == path:
                     return [arm[0], field] + rest[len(path):], False
@@ -287,7 +291,54 @@ def rewrite(body, f, place, said, var="c", need=None, used=None):
             line = m.group(1).rstrip(" ") + (" " if m.group(1).strip() and m.group(5) else "") + (m.group(5) or "") if m.group(1).strip() else (m.group(1) + m.group(5) if m.group(5) else "")
         if line.strip() or not out:
             out.append(pattern.sub(path, line))
-    return "\n".join(out)
+    return re.sub(r"\(record \{ sfits = c\.known_told[\w-]*\.given[.\d]* \}\)", "(search rules)", "\n".join(out))
+
+
+def parts_of(t):
+    """The parts of a tuple in parentheses, or None."""
+    t = t.strip()
+    if not (t.startswith("(") and t.endswith(")")):
+        return None
+    deep, out, start = 0, [], 1
+    for i, ch in enumerate(t):
+        deep += (ch in "([{") - (ch in ")]}")
+        if deep == 0 and i < len(t) - 1:
+            return None
+        if ch == "," and deep == 1:
+            out.append(t[start:i].strip())
+            start = i + 1
+    last = t[start:-1].strip()
+    if last:
+        out.append(last)
+    return out if len(out) > 1 else None
+
+
+def as_record(body, names):
+    """An answer to several clauses, by their names."""
+    if len(names) < 2:
+        return body
+    t = body.rstrip()
+    deep = 0
+    for i in range(len(t) - 1, -1, -1):
+        deep += (t[i] in ")]}") - (t[i] in "([{")
+        if deep == 0:
+            break
+    head, tail = t[:i], t[i:]
+    if head.strip() and not head.rstrip().endswith(" in") and not head.rstrip().endswith("="):
+        return body
+    got = parts_of(tail)
+    if got is None:
+        return body
+    while len(got) < len(names):
+        more = parts_of(got[-1])
+        if more is None:
+            return body
+        got = got[:-1] + more
+    if len(got) > len(names):
+        got = got[:len(names)] if all(x == "tt" for x in got[len(names):]) else None
+    if not got:
+        return body
+    return head + "record { " + "; ".join(f"{n} = {g}" for n, g in zip(names, got)) + " }"
 
 
 def substitute(body, names):
@@ -400,8 +451,11 @@ def turn(crate, where, f, said, prefix=None):
             cited = len(re.findall(r"(?<![\w'.-])" + re.escape(nm) + r"(?![\w'-])", all_text)) > 2
             if re.sub(r"\s+", " ", after).strip() in ("search rules", "omega arith") and not cited:
                 continue
+            if re.match(r"(enum_known|enum_told)", new) and re.match(r"^\s*c\.match\.keys?\d*\s*$", after):
+                continue
             c = args[0]
             text2 = rewrite(after, f, place, said, c, new, used)
+            text2 = as_record(text2, f.data["asked"].get(new, []))
             text2 = substitute(text2, {k: v for k, v in answer_names.items() if k != v and k not in alias_words(text2)})
             ans.append("\n".join(comments + [f"pub {new} : goal.{new}"] + unf + [f"{new} {c} ={text2}"]).rstrip())
             continue
@@ -420,6 +474,8 @@ def turn(crate, where, f, said, prefix=None):
             said.append(f"no place {m.group(2)}")
         helpers.append("\n".join(comments + b["lines"]).rstrip())
     places = [f"use Rattle.{name}.proofs.{mod}.Goals.{{{', '.join(sorted(used))}}}"] if used and helpers else []
+    if "search rules" in "\n".join(helpers + ans) and not re.search(r"\brules\b", "\n".join(uses)):
+        uses.append("use Rattle.std.proofs.Common.{rules}")
     if inv:
         words = set(re.findall(W + r"|◌[^\s,{}]*◌|[^\s\w(){},.;]+", "\n".join(inv)))
         src = [u for u in uses if any(w in u for w in words) or True]
@@ -432,18 +488,124 @@ def turn(crate, where, f, said, prefix=None):
     os.remove(os.path.join(folder, "Proof.antt"))
 
 
+def turn_cycle(crate, where, members, sigs, said):
+    """A cycle's folder: members is a list of (function name, Function)."""
+    folder = os.path.join(crate, "proofs", where)
+    text = open(os.path.join(folder, "Proof.antt"), encoding="utf-8").read()
+    name = os.path.basename(os.path.abspath(crate))
+    mod = where.replace("/", ".")
+    by = {}
+    bs = blocks(text)
+    head, uses, inv, ans, helpers, used = [], [], [], [], [], set()
+    for b in bs:
+        if b["kind"] == "use":
+            u = "\n".join(b["lines"]).rstrip()
+            head += b["comments"]
+            m = re.match(r"^use \S+\.Lts(?:-(\S+))? as (\S+)", u)
+            if m:
+                for fn, f in members:
+                    if m.group(1) is None or norm(fn) == norm(m.group(1)):
+                        by[m.group(2)] = (fn, f)
+                continue
+            if re.search(r"\.(Statement|Tie|Reads|Kinds)( as |\.\{)", u) or re.search(r"\.\+\S+\.\{statement\}", u) or "borrow.Fn." in u:
+                continue
+            uses.append(u)
+    answer_names = {}
+    lts = "|".join(re.escape(k) for k in sorted(by, key=len, reverse=True)) or "lts"
+    for b in bs:
+        if b["kind"] == "decl" and b["name"]:
+            m = re.search(r"(?<![\w'-])(" + lts + r")\.Need-([\w'-]+)", split_sig(b["lines"], b["name"])[0])
+            if m and by[m.group(1)][1].need(m.group(2)):
+                f = by[m.group(1)][1]
+                answer_names[b["name"]] = f.data["stem"] + f.need(m.group(2))
+    for b in bs:
+        if b["kind"] == "use":
+            continue
+        nm, comments = b["name"], b["comments"]
+        whole = "\n".join(b["lines"]).rstrip()
+        if nm is None:
+            helpers.append("\n".join(comments + [whole]))
+            continue
+        sig, rest = split_sig(b["lines"], nm)
+        if re.search(r"[-_]spec$", nm) and "statement" in sig:
+            continue
+        if re.search(r":\s*Measures\b", sig):
+            word = re.sub(r"^μ-?_?", "", nm).replace("-", "_") or members[0][0]
+            fns = [fn for fn, f in members if norm(fn) == norm(word)] or [members[0][0]]
+            fn = fns[0]
+            key = [k for k in sigs if k.split("::")[0] == name and k.split("::")[-1] == fn]
+            body = "\n".join(rest)
+            body = body[body.index("=") + 1:].strip()
+            params = sigs[key[0]][0] if key else []
+            refs = sigs[key[0]][3] if key else []
+
+            def arg(m):
+                k = m.group(1).count("1")
+                return "l." + params[k] + (".now" if params[k] in refs else "") if k < len(params) else m.group(0)
+
+            body = re.sub(r"(?<![\w.])a((?:\.1)*\.0)(?![\w.])", arg, body)
+            inv.append("\n".join(comments + [f"abbrev pub decreases-{fn} : goal.decreases-{fn}", f"decreases-{fn} l = {body}"]))
+            continue
+        m = re.search(r"(?<![\w'-])(" + lts + r")\.Need-([\w'-]+)", sig)
+        if m:
+            fn, f = by[m.group(1)]
+            new = f.need(m.group(2))
+            if new is None:
+                if norm(m.group(2)) not in f.settled:
+                    said.append(f"no goal {m.group(2)} ({nm})")
+                continue
+            place = f.at[new]
+            full = f.data["stem"] + new
+            unf = [l for l in rest if l.startswith("unfolding")]
+            body = "\n".join(l for l in rest if not l.startswith("unfolding")).rstrip()
+            mm = re.match(re.escape(nm) + r"((?:\s+[^\s=]+)*)\s*=", body)
+            if not mm:
+                said.append(f"clause of {nm}")
+                continue
+            args = [a for a in mm.group(1).split() if not a.startswith("κ")]
+            after = body[mm.end():]
+            cited = len(re.findall(r"(?<![\w'.-])" + re.escape(nm) + r"(?![\w'-])", text)) > 3
+            if re.sub(r"\s+", " ", after).strip() in ("search rules", "omega arith", "c.match.keys1", "c.match.keys2") and not cited:
+                continue
+            if re.match(r"(enum_known|enum_told)", new) and re.search(r"\.keys?\d", after) or new.endswith("requires") and re.match(r"^\(\s*omega.*,\s*tt\s*\)$", re.sub(r"let start = \S+ in", "", re.sub(r"\s+", " ", after)).strip()):
+                continue
+            c = args[-1]
+            t2 = rewrite(after, f, place, said, c, full, used)
+            t2 = as_record(t2, f.data["asked"].get(new, []))
+            t2 = substitute(t2, {k: v for k, v in answer_names.items() if k != v and k not in alias_words(t2)})
+            ans.append("\n".join(comments + [f"pub {full} : goal.{full}"] + unf + [f"{full} {' '.join(args)} ={t2}"]).rstrip())
+            continue
+        if "kinds.ps" in whole or re.search(r"\bIn \d", whole):
+            continue
+        helpers.append("\n".join(comments + [whole]))
+    if "search rules" in "\n".join(helpers + ans) and not re.search(r"\brules\b", "\n".join(uses)):
+        uses.append("use Rattle.std.proofs.Common.{rules}")
+    if inv:
+        with open(os.path.join(folder, "Invariants.antt"), "w", encoding="utf-8") as o:
+            o.write("\n".join(head + uses + [f"use Rattle.{name}.proofs.{mod}.Given as goal"]) + "\n\n" + "\n\n".join(inv) + "\n")
+    if ans or helpers:
+        with open(os.path.join(folder, "Answers.antt"), "w", encoding="utf-8") as o:
+            o.write("\n".join(head + uses + [f"use Rattle.{name}.proofs.{mod}.Goals as goal"]) + "\n\n" + "\n\n".join(helpers + ans) + "\n")
+    os.remove(os.path.join(folder, "Proof.antt"))
+
+
 def main():
     crate, names = sys.argv[1], json.load(open(sys.argv[2]))
     only = sys.argv[3:]
     name = os.path.basename(os.path.abspath(crate))
     sigs = signatures(os.path.dirname(os.path.dirname(os.path.abspath(crate))))
+    cycles = {}
     for key, data in sorted(names.items()):
         m = re.match(r"^Rattle-" + name + r"-proofs\.(.*)\.Lts$", key)
         if not m:
-            if ".Lts-" in key:
-                print("look: a cycle, by hand:", key)
+            m2 = re.match(r"^Rattle-" + name + r"-proofs\.(.*\+[^.]*)\.Lts-(.*)$", key)
+            if m2:
+                cycles.setdefault(m2.group(1).replace(".", "/"), []).append((m2.group(2), Function(data, sigs)))
             continue
         where = m.group(1).replace(".", "/")
+        if "/+" in "/" + where:
+            cycles.setdefault(where, []).append((where.split("+")[-1], Function(data, sigs)))
+            continue
         if only and where not in only:
             continue
         if not os.path.exists(os.path.join(crate, "proofs", where, "Proof.antt")):
@@ -453,6 +615,13 @@ def main():
             turn(crate, where, Function(data, sigs), said)
         except Exception as e:
             said.append(f"not turned: {type(e).__name__} {e}")
+        for s in said:
+            print(f"look: {name} {where}: {s}")
+    for where, members in sorted(cycles.items()):
+        if only and where not in only or not os.path.exists(os.path.join(crate, "proofs", where, "Proof.antt")):
+            continue
+        said = []
+        turn_cycle(crate, where, members, sigs, said)
         for s in said:
             print(f"look: {name} {where}: {s}")
 

@@ -15,12 +15,11 @@ pub node_at-requires : goal.node_at-requires
 node_at-requires c = tt
 
 pub node_reaches-answer-requires : goal.node_reaches-answer-requires
-node_reaches-answer-requires c = omega (arith, c.loop-test.true, c.before.requires.1)
+node_reaches-answer-requires c = omega (arith, c.loop-i-test.true, c.requires.end_le_limit)
 
 pub overflow_cast-found : goal.overflow_cast-found
 overflow_cast-found c =
-    let start = c.before in
-    omega (arith, c.loop-test.true, start.requires.1)
+    omega (arith, c.loop-i-test.true, c.requires.end_le_limit)
 
 pub bounds-found-i : goal.bounds-found-i
 bounds-found-i c =
