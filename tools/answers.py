@@ -63,6 +63,8 @@ class Function:
         self.at, self.new_of, self.exact = {}, {}, {}
         for (old, new), (place, _) in zip(data["needs"], data["asked_at"]):
             self.at[new] = place
+            self.old_of = getattr(self, "old_of", {})
+            self.old_of[new] = old
             self.new_of.setdefault(norm(old), new)
             self.exact.setdefault(norm(new), new)
         self.settled = {norm(x) for x in data.get("settled", [])}
@@ -71,6 +73,11 @@ class Function:
 
     def need(self, text):
         t = norm(text)
+        if self.need_of(t) is None and "result" in t and self.need_of(t.replace("result", "res")):
+            return self.need_of(t.replace("result", "res"))
+        return self.need_of(t)
+
+    def need_of(self, t):
         for cand in (t, re.sub(r"^overflow-", "", t)):
             if cand in self.new_of:
                 return self.new_of[cand]
@@ -86,6 +93,13 @@ class Function:
             yield place
             place = self.places[place][0]
 
+    def sig_of(self, callee):
+        sig = self.sigs.get(callee) if callee else None
+        if sig is None and callee:
+            tails = [k for k in self.sigs if k.split("::")[0] == callee.split("::")[0] and k.split("::")[-1] == callee.split("::")[-1]]
+            sig = self.sigs[tails[0]] if len(tails) == 1 else None
+        return sig
+
     def owner(self, place, label):
         """The place whose step has this old label, seen from a place."""
         want = norm(label)
@@ -97,6 +111,9 @@ class Function:
     def translate(self, place, segs):
         """A path's segments by today's names; None where nothing is known. The second is True where only a beginning of an arm's path stands there."""
         label, rest = segs[0], segs[1:]
+        m = re.match(r"^result(\d*)$", label)
+        if m and self.owner(place, label) is None:
+            label = "res" + m.group(1)
         # what an arm binds
         partial = False
         for p in self.up(place):
@@ -129,7 +146,7 @@ class Function:
                 for i, f in enumerate(pre["fields"]):
                     t = tuple_path(i, n, False)
                     t2 = tuple_path(i, n, True)
-                    if rest[:len(t2)] == t2:
+                    if i < n - 1 and rest[:len(t2)] == t2:
                         return ["requires", f] + rest[len(t2):], False
                     if i == n - 1 and rest[:len(t)] == t and not best:
                         best = ["requires", f] + rest[len(t):]
@@ -273,6 +290,17 @@ def rewrite(body, f, place, said, var="c", need=None, used=None):
                 said.append(f"no step {left[0]} at {p}")
                 return ".".join([var] + left)
             new = [n] + left[1:]
+        if left[1:] == ["ensures"] and new[-1] == "ensures":
+            o = f.owner(p, left[0])
+            callee = f.callee.get(o) if o else None
+            sig = f.sig_of(callee)
+            es = sig[2]["ensures"] if sig else []
+            if len(es) > 1 and all(es):
+                base = ".".join([var] + new)
+                t = f"{base}.{es[-1]}"
+                for e in reversed(es[:-1]):
+                    t = f"{base}.{e}, {t}" if t.startswith("(") is False and e == es[-2] else f"{base}.{e}, ({t})"
+                return f"({t})"
         return ".".join([var] + ["type_inv" if x == "type-inv" else x for x in new])
 
     pattern = re.compile(r"(?<![\w'.₀-₉-])(" + W + r")((?:\.(?!\.)" + W + r")*)")
@@ -285,13 +313,18 @@ def rewrite(body, f, place, said, var="c", need=None, used=None):
             p, left = resolve(m.group(3), [s for s in m.group(4).split(".") if s])
             is_place = not left
             is_part = bool(left) and norm(left[0]) not in START and (f.translate(p, left)[1] or len(left) == 1 and f.owner(p, left[0]) is not None)
+            if left[1:] == ["ensures"]:
+                sig = f.sig_of(f.callee.get(f.owner(p, left[0])))
+                is_part = is_part or bool(sig) and len(sig[2]["ensures"]) > 1
+            if [norm(x) for x in left] == ["requires"]:
+                is_part = len((f.data.get("pre") or {}).get("fields") or []) > 1
             if not (is_place or is_part):
                 break
             alias[m.group(2)] = (p, left)
             line = m.group(1).rstrip(" ") + (" " if m.group(1).strip() and m.group(5) else "") + (m.group(5) or "") if m.group(1).strip() else (m.group(1) + m.group(5) if m.group(5) else "")
         if line.strip() or not out:
             out.append(pattern.sub(path, line))
-    return re.sub(r"\(record \{ sfits = c\.known_told[\w-]*\.given[.\d]* \}\)", "(search rules)", "\n".join(out))
+    return re.sub(r"\(record \{ sfits = c\.known_told[\w-]*\.given[.\d]* \}\)", "(search rules)", re.sub(r"not-(?:true|false) _ (c\.if-not-[\w'-]+\.(?:true|false))", r"\1", "\n".join(out)))
 
 
 def parts_of(t):
@@ -324,11 +357,17 @@ def as_record(body, names):
         if deep == 0:
             break
     head, tail = t[:i], t[i:]
-    if head.strip() and not head.rstrip().endswith(" in") and not head.rstrip().endswith("="):
-        return body
-    got = parts_of(tail)
+    whole = t.endswith(")") and (not head.strip() or head.rstrip().endswith(" in") or head.rstrip().endswith("="))
+    got = parts_of(tail) if whole else None
     if got is None:
-        return body
+        words = re.split(r"\bin\b|^\s*=", t)
+        last = t.rfind(" in\n")
+        at = last + 4 if last >= 0 else 0
+        tail = t[at:].strip()
+        if " in " in tail or re.match(r"^(rw|omega|search|grind|simp|cc|record|let|elim|λ|subst|absurd)\b", tail) or not re.match(r"^[a-z_]", tail):
+            return body
+        paths = [tuple_path(i, len(names), False) for i in range(len(names))]
+        return t[:at].rstrip() + ("\n    " if at else " ") + "let h = " + re.sub(r"\s*\n\s*", " ", tail) + " in\n    record { " + "; ".join(f"{n} = h." + ".".join(q) for n, q in zip(names, paths)) + " }"
     while len(got) < len(names):
         more = parts_of(got[-1])
         if more is None:
@@ -455,7 +494,7 @@ def turn(crate, where, f, said, prefix=None):
                 continue
             c = args[0]
             text2 = rewrite(after, f, place, said, c, new, used)
-            text2 = as_record(text2, f.data["asked"].get(new, []))
+            text2 = as_record(text2, f.data["asked"].get(f.old_of[new], []))
             text2 = substitute(text2, {k: v for k, v in answer_names.items() if k != v and k not in alias_words(text2)})
             ans.append("\n".join(comments + [f"pub {new} : goal.{new}"] + unf + [f"{new} {c} ={text2}"]).rstrip())
             continue
@@ -571,7 +610,7 @@ def turn_cycle(crate, where, members, sigs, said):
                 continue
             c = args[-1]
             t2 = rewrite(after, f, place, said, c, full, used)
-            t2 = as_record(t2, f.data["asked"].get(new, []))
+            t2 = as_record(t2, f.data["asked"].get(f.old_of[new], []))
             t2 = substitute(t2, {k: v for k, v in answer_names.items() if k != v and k not in alias_words(t2)})
             ans.append("\n".join(comments + [f"pub {full} : goal.{full}"] + unf + [f"{full} {' '.join(args)} ={t2}"]).rstrip())
             continue

@@ -1,0 +1,31 @@
+-- `lent::copies::copy_kinds` meets its contract: after each turn the copy is the table up to the entry, and from there on it is as it was.
+-- Assumes nothing.
+use native.Mathlib.Omega.{arith}
+use Prim.Native.Nat.{◌≤◌, ◌-◌}
+use Rattle.lent.proofs.Overwrite.{Overwritten, starts_at, one_more, ends_here}
+use Rattle.lent.proofs.copies.copy_kinds.Goals as goal
+
+pub loop-i-init : goal.loop-i-init
+loop-i-init c = (omega arith, starts_at c.requires.same_but)
+
+pub bounds-kinds-i : goal.bounds-kinds-i
+bounds-kinds-i c = omega (arith, c.loop-i-test.true, c.requires.n_le_limit)
+
+pub bounds-k-i : goal.bounds-k-i
+bounds-k-i c = omega (arith, c.loop-i-test.true, c.requires.n_le_limit)
+
+pub overflow_add-i : goal.overflow_add-i
+overflow_add-i c = omega (arith, c.loop-i-test.true, c.requires.n_le_limit)
+
+pub loop-i-smaller : goal.loop-i-smaller
+loop-i-smaller c = omega (arith, c.loop-i-test.true)
+
+pub loop-i-preserved : goal.loop-i-preserved
+loop-i-preserved c =
+    let turn = c.loop-i-test.true in
+    (omega (arith, turn), one_more c.loop-i.invariant.1 (omega (arith, turn, c.requires.n_le_limit)))
+
+pub returns : goal.returns
+returns c =
+    let inv = c.loop-i.invariant in
+    ends_here c.requires.same_but (omega (arith, inv.0, c.loop-i-test.false)) inv.1
