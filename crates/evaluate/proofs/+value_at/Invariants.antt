@@ -1,0 +1,17 @@
+-- `evaluate::value_at` meets its contract: each part has a smaller number, so that the walk ends; the loop goes over the parts, and what is then joined is the node's value.
+-- Assumes nothing.
+use native.Mathlib.Omega.{arith}
+use Prim.Native.Nat.{ℕ, ◌-◌, ◌<◌}
+use Rattle.pool.specs.Pool.{node_in}
+use Rattle.evaluate.proofs.Walking.{Turned, already_kept, none_turned, part_past, part_stopped, part_done, parts_below, value_kept, value_refused}
+use Rattle.evaluate.proofs.+value_at.Given as goal
+
+abbrev pub decreases-value_at : goal.decreases-value_at
+decreases-value_at l = l.i
+
+abbrev pub invariant-loop-j : goal.invariant-loop-j
+invariant-loop-j l =
+    Turned (node_in l.kinds l.words) l.values l.i l.node l.initial.kept l.kept l.seen l.j l.part
+
+abbrev pub decreases-loop-j : goal.decreases-loop-j
+decreases-loop-j l = l.parts.count - l.j
