@@ -4,15 +4,21 @@
 ghost use Rattle.std.specs.Prelude.{◌≤◌, length};
 ghost use Rattle.inputs.specs.Rooms.{Within, More, Decides};
 
-use libc::{ENOENT, STDERR_FILENO};
 use low_bytes::TEXT_MAX;
 use pool::LIMIT;
+use std::env::{Env, FillError};
+use std::fs;
+use std::fs::Files;
+use std::io::{Eprint, ErrorKind, Read};
 
 // One byte more than the longest file has: a file that fills this room is too long.
 pub const FILE_ROOM: usize = 4 + 9 * LIMIT + 1;
 
 // One byte more than the longest strip has.
 pub const STRIP_ROOM: usize = TEXT_MAX + 1;
+
+// One byte more than the longest path has.
+const NAME_ROOM: usize = 4096;
 
 // How many bytes were read; that there is no such file; or that reading failed, which standard error has been told.
 #[derive(Clone, Copy)]
@@ -23,27 +29,33 @@ pub enum Input {
 }
 
 // One read, behind the bytes that are there. At the input's end it has 0 bytes.
-fn read_more(fd: i32, room: &mut [u8], done: usize) -> Input
+fn read_more<R: Read>(
+    rt: &impl Eprint,
+    reader: &mut R,
+    name: &str,
+    room: &mut [u8],
+    done: usize,
+) -> Input
     requires { done ≤ length room.old }
     ensures { More result done (length room.new) }
 {
-    let rest = &mut room[done..];
-    let got = libc::read(fd, rest);
-    if got < 0 {
-        return Input::Failed;
+    match reader.read(&mut room[done..]) {
+        Ok(n) => Input::Bytes(n),
+        Err(error) => {
+            outputs::say_failed(rt, name, error);
+            Input::Failed
+        }
     }
-    Input::Bytes(io::count(got, rest))
 }
 
 // An input until it ends or the room is full. One that is not ready, as a pipe that does not wait, has failed.
-pub fn read_input(fd: i32, name: &[u8], room: &mut [u8]) -> Input
+pub fn read_input<R: Read>(rt: &impl Eprint, reader: &mut R, name: &str, room: &mut [u8]) -> Input
     ensures { Within result room.new }
 {
     let mut done = 0;
     while done < room.len() {
-        let more = read_more(fd, room, done);
+        let more = read_more(rt, reader, name, room, done);
         let Input::Bytes(n) = more else {
-            os::fail(name);
             return Input::Failed;
         };
         if n == 0 {
@@ -55,70 +67,87 @@ pub fn read_input(fd: i32, name: &[u8], room: &mut [u8]) -> Input
 }
 
 // The file of a name.
-pub fn read_file(name: &[u8], room: &mut [u8]) -> Input
+pub fn read_file(rt: &(impl Files + Eprint), name: &str, room: &mut [u8]) -> Input
     ensures { Within result room.new }
 {
-    let fd = os::open_read(name);
-    if fd < 0 {
-        if os::errno() == ENOENT {
-            return Input::Missing;
+    match fs::open(rt, name) {
+        Ok(mut file) => read_input(rt, &mut file, name, room),
+        Err(error) => {
+            if error.kind() == ErrorKind::NotFound {
+                return Input::Missing;
+            }
+            outputs::say_failed(rt, name, error);
+            Input::Failed
         }
-        os::fail(name);
-        return Input::Failed;
     }
-    let input = read_input(fd, name, room);
-    libc::close(fd);
-    input
+}
+
+// That there is no file of that name.
+pub fn say_missing(rt: &impl Eprint, name: &str) {
+    outputs::say(rt, name, "No such file or directory");
 }
 
 // nodes.bin in the working directory.
-pub fn read_nodes(room: &mut [u8; FILE_ROOM]) -> Input
+pub fn read_nodes(rt: &(impl Files + Eprint), room: &mut [u8; FILE_ROOM]) -> Input
     ensures { Decides result room.new }
 {
-    read_file(b"nodes.bin", room)
+    read_file(rt, "nodes.bin", room)
 }
 
-// The file that the program's only argument names.
-fn read_argument(room: &mut [u8]) -> Input
+// The file of a name, where a missing one has failed.
+fn read_named(rt: &(impl Files + Eprint), name: &str, room: &mut [u8]) -> Input
     ensures { Within result room.new }
 {
-    if os::arg_count() != 2 {
-        io::write_all(
-            STDERR_FILENO,
-            b"one argument is needed, the name of a strip's file\n",
-        );
-        return Input::Failed;
-    }
-    let mut name = io::buffer();
-    let n = os::arg(1, &mut name);
-    if os::errno() != 0 {
-        os::fail(b"the name of the strip's file");
-        return Input::Failed;
-    }
-    let input = read_file(&name[..n], room);
+    let input = read_file(rt, name, room);
     match input {
-        Input::Bytes(m) => Input::Bytes(m),
+        Input::Bytes(n) => Input::Bytes(n),
         Input::Missing => {
-            os::fail(&name[..n]);
+            say_missing(rt, name);
             Input::Failed
         }
         Input::Failed => Input::Failed,
     }
 }
 
-// The strip in the file that the program's only argument names, unless it is longer than any strip.
-pub fn read_strip(room: &mut [u8; STRIP_ROOM]) -> Input
+// Whether the program has an argument of that number. One that does not fit into no room is there.
+fn has_argument(rt: &impl Env, number: usize) -> bool {
+    match rt.arg(number, &mut []) {
+        Ok(_) => true,
+        Err(FillError::TooLong) => true,
+        Err(FillError::NotPresent) => false,
+    }
+}
+
+// The file that the program's only argument names.
+fn read_argument(rt: &(impl Env + Files + Eprint), room: &mut [u8]) -> Input
     ensures { Within result room.new }
 {
-    let input = read_argument(room);
+    if !has_argument(rt, 1) || has_argument(rt, 2) {
+        let _ = eprintln!(rt; "one argument is needed, the name of a strip's file");
+        return Input::Failed;
+    }
+    let mut name = [0u8; NAME_ROOM];
+    let Ok(n) = rt.arg(1, &mut name) else {
+        outputs::say(rt, "the name of the strip's file", "File name too long");
+        return Input::Failed;
+    };
+    let Ok(text) = str::from_utf8(&name[..n]) else {
+        outputs::say(rt, "the name of the strip's file", "it is not UTF-8 text");
+        return Input::Failed;
+    };
+    read_named(rt, text, room)
+}
+
+// The strip in the file that the program's only argument names, unless it is longer than any strip.
+pub fn read_strip(rt: &(impl Env + Files + Eprint), room: &mut [u8; STRIP_ROOM]) -> Input
+    ensures { Within result room.new }
+{
+    let input = read_argument(rt, room);
     let Input::Bytes(n) = input else {
         return Input::Failed;
     };
     if TEXT_MAX < n {
-        io::write_all(
-            STDERR_FILENO,
-            b"the strip's file has more than 65535 bytes\n",
-        );
+        let _ = eprintln!(rt; "the strip's file has more than {TEXT_MAX} bytes");
         return Input::Failed;
     }
     Input::Bytes(n)

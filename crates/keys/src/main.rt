@@ -5,7 +5,9 @@ use double::Valued;
 use engine_values::VALUES_MAX;
 use inputs::{Input, STRIP_ROOM};
 use key_values::{LINE_MAX, Values};
-use libc::{STDERR_FILENO, STDIN_FILENO};
+use std::env::Env;
+use std::fs::Files;
+use std::io::{Eprint, Print};
 
 // One place more than values are taken, so that too many are refused.
 const VALUES_ROOM: usize = VALUES_MAX + 1;
@@ -14,43 +16,43 @@ const VALUES_ROOM: usize = VALUES_MAX + 1;
 const LINE_ROOM: usize = LINE_MAX + 1;
 
 // The answer's line.
-fn put_double(x: f64) -> bool {
+fn put_double(rt: &(impl Print + Eprint), x: f64) -> bool {
     let mut out = [0u8; key_texts::LINE_ROOM];
     let n = key_texts::put_answer(&mut out, x);
-    outputs::put(&out[..n])
+    outputs::put(rt, &out[..n])
 }
 
 // The strip is looked at once the values are known.
-fn run_over(values: &[f64]) -> bool {
+fn run_over(rt: &(impl Env + Files + Print + Eprint), values: &[f64]) -> bool {
     let mut room = [0u8; STRIP_ROOM];
-    let input = inputs::read_strip(&mut room);
+    let input = inputs::read_strip(rt, &mut room);
     let Input::Bytes(n) = input else {
         return false;
     };
     match engine_strip::run_strip(&room[..n], values) {
-        Valued::Double(x) => put_double(x),
-        Valued::Refused(number) => outputs::put_refused(number),
+        Valued::Double(x) => put_double(rt, x),
+        Valued::Refused(number) => outputs::put_refused(rt, number),
     }
 }
 
 // The values of the line.
-fn run_line(line: &[u8]) -> bool {
+fn run_line(rt: &(impl Env + Files + Print + Eprint), line: &[u8]) -> bool {
     if LINE_MAX < line.len() {
-        return io::write_all(STDERR_FILENO, b"standard input: the line is too long\n");
+        return eprintln!(rt; "standard input: the line is too long").is_ok();
     }
     let mut values = [0.0; VALUES_ROOM];
     let given = key_values::fill(line, &mut values);
     match given {
-        Values::Usage => outputs::put(b"usage\n"),
-        Values::Count(n) => run_over(&values[..n]),
+        Values::Usage => outputs::put(rt, b"usage\n"),
+        Values::Count(n) => run_over(rt, &values[..n]),
     }
 }
 
-fn main() {
+fn main(rt: HostRuntime) {
     let mut line = [0u8; LINE_ROOM];
-    let typed = inputs::read_input(STDIN_FILENO, b"standard input", &mut line);
+    let typed = inputs::read_input(&rt, &mut rt.stdin(), "standard input", &mut line);
     let Input::Bytes(m) = typed else {
         return;
     };
-    run_line(&line[..m]);
+    run_line(&rt, &line[..m]);
 }

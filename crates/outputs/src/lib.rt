@@ -1,38 +1,53 @@
 // What the programs print. Each function answers whether all of it was written; where not, standard error is told.
 #![tactic(auto)]
 
-use libc::STDOUT_FILENO;
+use std::fmt::InlineText;
+use std::io;
+use std::io::{Eprint, Print};
+
+// Room for the text of any error.
+const ERROR_ROOM: usize = 256;
+
+// What std puts behind the text of an error of the system's, before its number.
+const BEFORE_NUMBER: &str = " (os error ";
+
+// A line to standard error: what failed, a colon and why. Where standard error takes nothing, it is told nowhere.
+pub fn say(rt: &impl Eprint, what: &str, why: &str) {
+    let _ = eprintln!(rt; "{what}: {why}");
+}
+
+// The same, with an error's text.
+pub fn say_failed(rt: &impl Eprint, what: &str, error: io::Error) {
+    let text = InlineText::<ERROR_ROOM>::of(error);
+    let all = text.as_str();
+    match all.split_once(BEFORE_NUMBER) {
+        Some((why, _)) => say(rt, what, why),
+        None => say(rt, what, all),
+    }
+}
+
+// Whether standard output was written; where not, standard error is told.
+fn is_put(rt: &impl Eprint, written: io::Result<()>) -> bool {
+    match written {
+        Ok(()) => true,
+        Err(error) => {
+            say_failed(rt, "standard output", error);
+            false
+        }
+    }
+}
 
 // Bytes to standard output.
-pub fn put(bytes: &[u8]) -> bool {
-    if io::write_all(STDOUT_FILENO, bytes) {
-        return true;
-    }
-    os::fail(b"standard output");
-    false
+pub fn put(rt: &(impl Print + Eprint), bytes: &[u8]) -> bool {
+    is_put(rt, rt.write_all(bytes))
 }
 
-// `refused`, a space and the number, to a descriptor.
-fn write_refused(fd: i32, number: u32) -> bool {
-    if !io::write_all(fd, b"refused ") {
-        return false;
-    }
-    if !io::print_decimal(fd, number as u64) {
-        return false;
-    }
-    io::write_all(fd, b"\n")
-}
-
-// A refusal as the answer.
-pub fn put_refused(number: u32) -> bool {
-    if write_refused(STDOUT_FILENO, number) {
-        return true;
-    }
-    os::fail(b"standard output");
-    false
+// A refusal as the answer: `refused`, a space and the number.
+pub fn put_refused(rt: &(impl Print + Eprint), number: u32) -> bool {
+    is_put(rt, println!(rt; "refused {number}"))
 }
 
 // A refusal where standard output has only what is asked for.
-pub fn say_refused(number: u32) -> bool {
-    write_refused(libc::STDERR_FILENO, number)
+pub fn say_refused(rt: &impl Eprint, number: u32) -> bool {
+    eprintln!(rt; "refused {number}").is_ok()
 }

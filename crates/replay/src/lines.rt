@@ -1,8 +1,11 @@
 // The list from its first line to its last.
+ghost use Rattle.std.specs.Io.{ReadsAtMost};
+
 use crate::calls::call_is_right;
 use crate::raw::{TABLE, set_both};
-use libc::{STDIN_FILENO, STDOUT_FILENO};
 use number_list::{at_end, next};
+use std::io;
+use std::io::{Print, Read};
 
 const FIRST_CALL: u64 = 10;
 
@@ -11,44 +14,30 @@ const BLOCK: usize = 16_384;
 
 const BLOCKS: usize = 64;
 
-fn put(bytes: &[u8]) {
-    io::write_all(STDOUT_FILENO, bytes);
-}
-
-fn put_number(n: u64) {
-    io::print_decimal(STDOUT_FILENO, n);
-}
-
 fn one_more(n: &mut u64) {
     *n = std::num::wrapping_add_u64(*n, 1);
 }
 
 // A difference, with what finds its line.
-fn report(call: u64, op: u64) {
-    put(b"call ");
-    put_number(call);
-    put(b", operation ");
-    put_number(op);
-    put(b": differs\n");
+fn report(rt: &impl Print, call: u64, op: u64) -> io::Result<()> {
+    println!(rt; "call {call}, operation {op}: differs")
 }
 
-fn tell(right: bool, call: u64, op: u64, differing: &mut u64) {
+fn tell(rt: &impl Print, right: bool, call: u64, op: u64, differing: &mut u64) -> io::Result<()> {
     if right {
-        return;
+        return Ok(());
     }
     one_more(differing);
-    report(call, op);
+    report(rt, call, op)
 }
 
-fn report_all(calls: u64, differing: u64) {
-    put_number(calls);
-    put(b" calls replayed, ");
-    put_number(differing);
-    put(b" differ\n");
+fn report_all(rt: &impl Print, calls: u64, differing: u64) -> io::Result<()> {
+    println!(rt; "{calls} calls replayed, {differing} differ")
 }
 
 // The next line, if there is one.
 fn line(
+    rt: &impl Print,
     text: &[u8],
     at: &mut usize,
     k: &mut [u8],
@@ -59,22 +48,23 @@ fn line(
     counted: &mut u64,
     calls: &mut u64,
     differing: &mut u64,
-) {
+) -> io::Result<()> {
     if at_end(text, *at) {
-        return;
+        return Ok(());
     }
     let op = next(text, at);
     if op < FIRST_CALL {
         set_both(op, text, at, k, w, count, kinds, words, counted);
-        return;
+        return Ok(());
     }
     one_more(calls);
     let right = call_is_right(op, text, at, k, w, count, kinds, words, counted);
-    tell(right, *calls, op, differing);
+    tell(rt, right, *calls, op, differing)
 }
 
 // All lines of a block: there are fewer of them than bytes.
 fn run(
+    rt: &impl Print,
     text: &[u8],
     k: &mut [u8],
     w: &mut [u64],
@@ -84,19 +74,37 @@ fn run(
     counted: &mut u64,
     calls: &mut u64,
     differing: &mut u64,
-) {
+) -> io::Result<()> {
     let mut at: usize = 0;
     let mut i: usize = 0;
     while i < text.len() {
         line(
-            text, &mut at, k, w, count, kinds, words, counted, calls, differing,
-        );
+            rt, text, &mut at, k, w, count, kinds, words, counted, calls, differing,
+        )?;
         i += 1;
     }
+    Ok(())
+}
+
+// Reads until the room is full or the input ends, and answers how many bytes there are.
+fn read_full<R: Read>(reader: &mut R, room: &mut [u8]) -> io::Result<usize>
+    ensures { ReadsAtMost result room.new }
+{
+    let mut done = 0;
+    while done < room.len() {
+        let n = reader.read(&mut room[done..])?;
+        if n == 0 {
+            return Ok(done);
+        }
+        done += n;
+    }
+    Ok(done)
 }
 
 // The next block from standard input.
-fn block(
+fn block<R: Read>(
+    rt: &impl Print,
+    reader: &mut R,
     k: &mut [u8],
     w: &mut [u64],
     count: &mut u64,
@@ -105,10 +113,11 @@ fn block(
     counted: &mut u64,
     calls: &mut u64,
     differing: &mut u64,
-) {
+) -> io::Result<()> {
     let mut text = [0u8; BLOCK];
-    let n = io::read_full(STDIN_FILENO, &mut text);
+    let n = read_full(reader, &mut text)?;
     run(
+        rt,
         &text[..n],
         k,
         w,
@@ -118,10 +127,17 @@ fn block(
         counted,
         calls,
         differing,
-    );
+    )
 }
 
-fn all_blocks(k: &mut [u8], w: &mut [u64], kinds: &mut [u8], words: &mut [u64]) {
+fn all_blocks<R: Read>(
+    rt: &impl Print,
+    reader: &mut R,
+    k: &mut [u8],
+    w: &mut [u64],
+    kinds: &mut [u8],
+    words: &mut [u64],
+) -> io::Result<()> {
     let mut count: u64 = 0;
     let mut counted: u64 = 0;
     let mut calls: u64 = 0;
@@ -129,6 +145,8 @@ fn all_blocks(k: &mut [u8], w: &mut [u64], kinds: &mut [u8], words: &mut [u64]) 
     let mut i: usize = 0;
     while i < BLOCKS {
         block(
+            rt,
+            reader,
             k,
             w,
             &mut count,
@@ -137,17 +155,17 @@ fn all_blocks(k: &mut [u8], w: &mut [u64], kinds: &mut [u8], words: &mut [u64]) 
             &mut counted,
             &mut calls,
             &mut differing,
-        );
+        )?;
         i += 1;
     }
-    report_all(calls, differing);
+    report_all(rt, calls, differing)
 }
 
 // The engine's tables, and beside them those that the list's entries go to.
-pub fn replay() {
+pub fn replay<R: Read>(rt: &impl Print, reader: &mut R) -> io::Result<()> {
     let mut k = [0u8; TABLE];
     let mut w = [0u64; TABLE];
     let mut kinds = [0u8; TABLE];
     let mut words = [0u64; TABLE];
-    all_blocks(&mut k, &mut w, &mut kinds, &mut words);
+    all_blocks(rt, reader, &mut k, &mut w, &mut kinds, &mut words)
 }

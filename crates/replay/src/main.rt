@@ -8,6 +8,8 @@ mod calls;
 mod lines;
 mod raw;
 
-fn main() {
-    lines::replay();
+use std::io;
+
+fn main(rt: HostRuntime) -> io::Result<()> {
+    lines::replay(&rt, &mut rt.stdin())
 }
