@@ -16,7 +16,7 @@ pub loop-n-preserved : goal.loop-n-preserved
 loop-n-preserved c =
     let next = after_a_turn _ _ c.loop-n.acc c.loop-n.b c.loop-n.n c.loop-n.invariant c.loop-n-test.true in
     elim c.if-n-eq1.branch [
-      then-n-eq1 w ↦ rw (w.acc-is ∙ at_one c.loop-n.acc c.loop-n.b c.loop-n.n w.if-n-eq1.true) next
+      | then-n-eq1 w ↦ rw (w.acc-is ∙ at_one c.loop-n.acc c.loop-n.b c.loop-n.n w.if-n-eq1.true) next
       | else-n-eq1 w ↦ rw (w.acc-is ∙ at_zero c.loop-n.acc c.loop-n.b c.loop-n.n w.if-n-eq1.false) next
     ]
 

@@ -42,8 +42,7 @@ loop-i-smaller c = omega (arith, c.loop-i-test.true)
 pub loop-i-preserved : goal.loop-i-preserved
 loop-i-preserved c =
     let turn = c.loop-i-test.true in
-    let inv = c.loop-i.invariant in
-    (
+    let inv = c.loop-i.invariant in (
       omega (arith, turn),
       (one_more inv.1.0 (omega (arith, turn, inv.1.0.same, c.requires)), one_more inv.1.1 (omega (arith, turn, inv.1.1.same, c.requires))),
     )

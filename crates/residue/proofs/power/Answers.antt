@@ -20,7 +20,7 @@ pub loop-n-preserved : goal.loop-n-preserved
 loop-n-preserved c =
     let start = c.args in
     elim c.if-n-eq1.branch [
-      then-n-eq1 w ↦ rw w.acc-is (squares_odd start.m start.a start.e c.loop-n.acc c.loop-n.b c.loop-n.n w.if-n-eq1.true c.loop-n.invariant)
+      | then-n-eq1 w ↦ rw w.acc-is (squares_odd start.m start.a start.e c.loop-n.acc c.loop-n.b c.loop-n.n w.if-n-eq1.true c.loop-n.invariant)
       | else-n-eq1 w ↦ rw w.acc-is (squares_even start.m start.a start.e c.loop-n.acc c.loop-n.b c.loop-n.n w.if-n-eq1.false c.loop-n.invariant)
     ]
 
