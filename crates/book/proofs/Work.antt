@@ -85,8 +85,8 @@ work_appends (f ⊖ g) = two_append (work_appends f) (work_appends g) sub_append
 work_appends (f ⊗ g) = two_append (work_appends f) (work_appends g) (λ a b. node_appends ((calls_grow depth).mul_at a b))
 work_appends (f ⊘ g) = two_append (work_appends f) (work_appends g) (λ a b. node_appends ((calls_grow depth).div_at a b))
 work_appends (f ⊟ g) = two_append (work_appends g) (work_appends f) (λ b a. sub_appends a b)
-work_appends (Exp f) = λ P. appends_next (work_appends f P) (λ a. node_appends ((calls_grow depth).exp_at_lem a))
-work_appends (Log f) = λ P. appends_next (work_appends f P) (λ a. node_appends ((calls_grow depth).log_at_lem a))
+work_appends (Exp f) = λ P. appends_next (work_appends f P) (λ a. node_appends ((calls_grow depth).exp_at a))
+work_appends (Log f) = λ P. appends_next (work_appends f P) (λ a. node_appends ((calls_grow depth).log_at a))
 
 -- ---- formulas in turn
 

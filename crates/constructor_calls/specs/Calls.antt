@@ -18,6 +18,6 @@ two_work two.Max a b = (calls depth).max_at a b
 -- the constructors of one node
 abbrev pub one_work : One → ℕ → Run
 one_work one.Neg a = (calls depth).neg_at a
-one_work one.Exp a = (calls depth).exp_at_lem a
-one_work one.Log a = (calls depth).log_at_lem a
+one_work one.Exp a = (calls depth).exp_at a
+one_work one.Log a = (calls depth).log_at a
 one_work (one.Pow e) a = (calls depth).pow_at a e

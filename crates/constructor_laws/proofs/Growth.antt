@@ -159,8 +159,8 @@ pub record AllGrow (c : Calls) : Type 0 where
   pub div_at : (lhs rhs : ℕ) → Growing (c.div_at lhs rhs)
   pub max_at : (lhs rhs : ℕ) → Growing (c.max_at lhs rhs)
   pub neg_at : (arg : ℕ) → Growing (c.neg_at arg)
-  pub exp_at_lem : (arg : ℕ) → Growing (c.exp_at_lem arg)
-  pub log_at_lem : (arg : ℕ) → Growing (c.log_at_lem arg)
+  pub exp_at : (arg : ℕ) → Growing (c.exp_at arg)
+  pub log_at : (arg : ℕ) → Growing (c.log_at arg)
   pub pow_at : (base e : ℕ) → Growing (c.pow_at base e)
 
 pub build_grows : {c : Calls} → AllGrow c → (t : Term) → Growing (build c t)
@@ -179,10 +179,10 @@ build_grows g (mul s t) = do
   g.mul_at a b
 build_grows g (exp t) = do
   a ← build_grows g t
-  g.exp_at_lem a
+  g.exp_at a
 build_grows g (log t) = do
   a ← build_grows g t
-  g.log_at_lem a
+  g.log_at a
 build_grows g (pow t e) = do
   a ← build_grows g t
   exponent_grows (leb e greatest_exponent) (g.pow_at a e)
@@ -224,8 +224,8 @@ deeper_grow g =
       div_at = λ lhs rhs. table_grows g (λ P. div_table (node_at P) lhs rhs);
       max_at = λ lhs rhs. table_grows g (λ P. max_table (node_at P) lhs rhs);
       neg_at = λ arg. table_grows g (λ P. neg_table (node_at P) arg);
-      exp_at_lem = λ arg. table_grows g (λ P. exp_table (node_at P) arg);
-      log_at_lem = λ arg. table_grows g (λ P. log_table (node_at P) arg);
+      exp_at = λ arg. table_grows g (λ P. exp_table (node_at P) arg);
+      log_at = λ arg. table_grows g (λ P. log_table (node_at P) arg);
       pow_at = λ base e. table_grows g (λ P. pow_table (node_at P) base e);
     }
 
@@ -237,8 +237,8 @@ none_grow =
       div_at = λ lhs rhs. refuse_grows too_deep;
       max_at = λ lhs rhs. refuse_grows too_deep;
       neg_at = λ arg. refuse_grows too_deep;
-      exp_at_lem = λ arg. refuse_grows too_deep;
-      log_at_lem = λ arg. refuse_grows too_deep;
+      exp_at = λ arg. refuse_grows too_deep;
+      log_at = λ arg. refuse_grows too_deep;
       pow_at = λ base e. refuse_grows too_deep;
     }
 

@@ -112,8 +112,8 @@ pub record AllKeep (c : Calls) : Type 0 where
   pub div_at : KeepTwo c.div_at
   pub max_at : KeepTwo c.max_at
   pub neg_at : KeepOne c.neg_at
-  pub exp_at_lem : KeepOne c.exp_at_lem
-  pub log_at_lem : KeepOne c.log_at_lem
+  pub exp_at : KeepOne c.exp_at
+  pub log_at : KeepOne c.log_at
   pub pow_at : (e : ℕ) → KeepOne (λ base. c.pow_at base e)
 
 pub build_keeps : {c : Calls} → AllKeep c → {n : ℕ} (t : Term) → Sound n t → Keeping n (build c t)
@@ -124,8 +124,8 @@ build_keeps k (lit-exp z) h = literal_keeps (exp_of z) (picked_in_literals (is_z
 build_keeps k (lit-log z) h = literal_keeps (log_of z) (picked_in_literals (is_one z) (pos 0) no_exp_or_log (λ t. refl))
 build_keeps k (add s t) h = both_keep (build_keeps k s h.0) (build_keeps k t h.1) k.add_at
 build_keeps k (mul s t) h = both_keep (build_keeps k s h.0) (build_keeps k t h.1) k.mul_at
-build_keeps k (exp t) h = next_keeps (build_keeps k t h) (λ m a more. k.exp_at_lem m a)
-build_keeps k (log t) h = next_keeps (build_keeps k t h) (λ m a more. k.log_at_lem m a)
+build_keeps k (exp t) h = next_keeps (build_keeps k t h) (λ m a more. k.exp_at m a)
+build_keeps k (log t) h = next_keeps (build_keeps k t h) (λ m a more. k.log_at m a)
 build_keeps k (pow t e) h = next_keeps (build_keeps k t h) (λ m a more l. exponent_keeps (leb e greatest_exponent) (k.pow_at e m a l))
 build_keeps k (Add s t) h = both_keep (build_keeps k s h.0) (build_keeps k t h.1) (λ m a b l r. append_keeps (record { below = (l, (r, tt)); range = tt }))
 build_keeps k (Mul s t) h = both_keep (build_keeps k s h.0) (build_keeps k t h.1) (λ m a b l r. append_keeps (record { below = (l, (r, tt)); range = tt }))
@@ -165,8 +165,8 @@ deeper_keep k =
       div_at = two_deeper k div_table div_sound;
       max_at = two_deeper k max_table max_sound;
       neg_at = one_deeper k neg_table neg_sound;
-      exp_at_lem = one_deeper k exp_table exp_sound;
-      log_at_lem = one_deeper k log_table log_sound;
+      exp_at = one_deeper k exp_table exp_sound;
+      log_at = one_deeper k log_table log_sound;
       pow_at = λ e. one_deeper k (λ at base. pow_table at base e) (λ n at below base h. pow_sound n at below base h e);
     }
 
@@ -178,8 +178,8 @@ none_keep =
       div_at = λ n lhs rhs l r. refuse_keeps too_deep;
       max_at = λ n lhs rhs l r. refuse_keeps too_deep;
       neg_at = λ n arg l. refuse_keeps too_deep;
-      exp_at_lem = λ n arg l. refuse_keeps too_deep;
-      log_at_lem = λ n arg l. refuse_keeps too_deep;
+      exp_at = λ n arg l. refuse_keeps too_deep;
+      log_at = λ n arg l. refuse_keeps too_deep;
       pow_at = λ e n base l. refuse_keeps too_deep;
     }
 
@@ -219,11 +219,11 @@ module _ {P : Pool} (k : Keeps P) where
     pub neg_kept : KeptBy P ((calls left).neg_at arg P)
     neg_kept = on_this k ((calls_keep left).neg_at P.count arg h)
 
-    pub exp_kept : KeptBy P ((calls left).exp_at_lem arg P)
-    exp_kept = on_this k ((calls_keep left).exp_at_lem P.count arg h)
+    pub exp_kept : KeptBy P ((calls left).exp_at arg P)
+    exp_kept = on_this k ((calls_keep left).exp_at P.count arg h)
 
-    pub log_kept : KeptBy P ((calls left).log_at_lem arg P)
-    log_kept = on_this k ((calls_keep left).log_at_lem P.count arg h)
+    pub log_kept : KeptBy P ((calls left).log_at arg P)
+    log_kept = on_this k ((calls_keep left).log_at P.count arg h)
 
     pub pow_kept : (e : ℕ) → KeptBy P ((calls left).pow_at arg e P)
     pow_kept e = on_this k ((calls_keep left).pow_at e P.count arg h)

@@ -18,8 +18,8 @@ pub record Calls : Type 0 where
   pub div_at : ℕ → ℕ → Run
   pub max_at : ℕ → ℕ → Run
   pub neg_at : ℕ → Run
-  pub exp_at_lem : ℕ → Run
-  pub log_at_lem : ℕ → Run
+  pub exp_at : ℕ → Run
+  pub log_at : ℕ → Run
   pub pow_at : ℕ → ℕ → Run
 
 -- a folded literal becomes a node: 11 or 12 first, then 18
@@ -47,10 +47,10 @@ build c (mul s t) = do
   c.mul_at a b
 build c (exp t) = do
   a ← build c t
-  c.exp_at_lem a
+  c.exp_at a
 build c (log t) = do
   a ← build c t
-  c.log_at_lem a
+  c.log_at a
 build c (pow t e) = do
   a ← build c t
   if_exponent_fits (leb e greatest_exponent) (c.pow_at a e)
@@ -89,8 +89,8 @@ no_calls =
       div_at = λ lhs rhs. refuse too_deep;
       max_at = λ lhs rhs. refuse too_deep;
       neg_at = λ arg. refuse too_deep;
-      exp_at_lem = λ arg. refuse too_deep;
-      log_at_lem = λ arg. refuse too_deep;
+      exp_at = λ arg. refuse too_deep;
+      log_at = λ arg. refuse too_deep;
       pow_at = λ base e. refuse too_deep;
     }
 
@@ -103,8 +103,8 @@ deeper c =
       div_at = λ lhs rhs P. build c (div_table (node_at P) lhs rhs) P;
       max_at = λ lhs rhs P. build c (max_table (node_at P) lhs rhs) P;
       neg_at = λ arg P. build c (neg_table (node_at P) arg) P;
-      exp_at_lem = λ arg P. build c (exp_table (node_at P) arg) P;
-      log_at_lem = λ arg P. build c (log_table (node_at P) arg) P;
+      exp_at = λ arg P. build c (exp_table (node_at P) arg) P;
+      log_at = λ arg P. build c (log_table (node_at P) arg) P;
       pow_at = λ base e P. build c (pow_table (node_at P) base e) P;
     }
 

@@ -17,6 +17,6 @@ two_grows two.Max a b = (calls_grow depth).max_at a b
 
 pub one_grows : (op : One) (a : ℕ) → Growing (one_work op a)
 one_grows one.Neg a = (calls_grow depth).neg_at a
-one_grows one.Exp a = (calls_grow depth).exp_at_lem a
-one_grows one.Log a = (calls_grow depth).log_at_lem a
+one_grows one.Exp a = (calls_grow depth).exp_at a
+one_grows one.Log a = (calls_grow depth).log_at a
 one_grows (one.Pow e) a = (calls_grow depth).pow_at a e

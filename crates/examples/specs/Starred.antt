@@ -81,10 +81,10 @@ unfoldable pub square : Run
 square = mul x0 x0
 
 unfoldable pub logarithm : Run
-logarithm = (calls depth).log_at_lem x0
+logarithm = (calls depth).log_at x0
 
 unfoldable pub exponential : Run
-exponential = (calls depth).exp_at_lem x0
+exponential = (calls depth).exp_at x0
 
 -- `pow` of literal 0 by 0
 unfoldable pub zero_to_the_zeroth : Run
@@ -96,7 +96,7 @@ zero_to_the_zeroth = do
 unfoldable pub exp_of_one : Run
 exp_of_one = do
   one ← lit (pos 1)
-  (calls depth).exp_at_lem one
+  (calls depth).exp_at one
 
 -- 1/2
 unfoldable pub half : Run

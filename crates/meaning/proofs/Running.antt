@@ -98,8 +98,8 @@ module _ (A : Algebra) (env : Values A) where
     pub div_at : TwoMean c.div_at A.over
     pub max_at : TwoMean c.max_at A.max
     pub neg_at : OneMeans c.neg_at (A.times (A.int (negsuc 0)))
-    pub exp_at_lem : OneMeans c.exp_at_lem A.exp
-    pub log_at_lem : OneMeans c.log_at_lem A.log
+    pub exp_at : OneMeans c.exp_at A.exp
+    pub log_at : OneMeans c.log_at A.log
     pub pow_at : (e : ℕ) → OneMeans (λ base. c.pow_at base e) (λ x. power A x e)
 
   -- the plain nodes
@@ -122,8 +122,8 @@ module _ (A : Algebra) (env : Values A) where
         div_at = λ P k a b x y ha hb. ended;
         max_at = λ P k a b x y ha hb. ended;
         neg_at = λ P k a x ha. ended;
-        exp_at_lem = λ P k a x ha. ended;
-        log_at_lem = λ P k a x ha. ended;
+        exp_at = λ P k a x ha. ended;
+        log_at = λ P k a x ha. ended;
         pow_at = λ e P k a x ha. ended;
       }
 
@@ -173,8 +173,8 @@ module _ {A : Algebra} (M : Model A) (env : Values A) where
         gives_weaker (λ Q i g_q e. (e.0, has_same (sym (ap (λ n. A.log (A.int n)) (one_is z e.0) ∙ M.log_one)) e.1)) (picked_gives A env k (is_one z) (pos 0) no_exp_or_log (λ t. refl))
     build_means c (add s t) h P k g = both_ran A.plus s t c.add_at (build_means c s h.0) (build_means c t h.1) P k g
     build_means c (mul s t) h P k g = both_ran A.times s t c.mul_at (build_means c s h.0) (build_means c t h.1) P k g
-    build_means c (exp t) h P k g = one_ran A.exp t c.exp_at_lem (build_means c t h) P k g
-    build_means c (log t) h P k g = one_ran A.log t c.log_at_lem (build_means c t h) P k g
+    build_means c (exp t) h P k g = one_ran A.exp t c.exp_at (build_means c t h) P k g
+    build_means c (log t) h P k g = one_ran A.log t c.log_at (build_means c t h) P k g
     build_means c (pow t e) h P k g = one_ran (λ x. power A x e) t (exponent_means A env (leb e greatest_exponent) (λ x. power A x e) (c.pow_at e)) (build_means c t h) P k g
     build_means c (Add s t) h P k g =
         both_ran A.plus s t (plain_two A env node.Add A.plus (λ n a b l r. record { below = (l, (r, tt)); range = tt }) (λ f a b. refl)) (build_means c s h.0) (build_means c t h.1) P k g
@@ -204,8 +204,8 @@ module _ {A : Algebra} (M : Model A) (env : Values A) where
         div_at = λ P k a b x y ha hb. table_means k c (div_sound P.count (node_at P) (parts_below k) a b ha.below hb.below) (div_right M env (node_at P) (val₀ k) (law_of k) a b) (same_op A.over ha.is hb.is);
         max_at = λ P k a b x y ha hb. table_means k c (max_sound P.count (node_at P) (parts_below k) a b ha.below hb.below) (max_right M env (node_at P) (val₀ k) (law_of k) a b) (same_op A.max ha.is hb.is);
         neg_at = λ P k a x ha. table_means k c (neg_sound P.count (node_at P) (parts_below k) a ha.below) (neg_right M env (node_at P) (val₀ k) (law_of k) a) (ap (A.times (A.int (negsuc 0))) ha.is);
-        exp_at_lem = λ P k a x ha. table_means k c (exp_sound P.count (node_at P) (parts_below k) a ha.below) (exp_right M env (node_at P) (val₀ k) (law_of k) a) (ap A.exp ha.is);
-        log_at_lem = λ P k a x ha. table_means k c (log_sound P.count (node_at P) (parts_below k) a ha.below) (log_right M env (node_at P) (val₀ k) (law_of k) a) (ap A.log ha.is);
+        exp_at = λ P k a x ha. table_means k c (exp_sound P.count (node_at P) (parts_below k) a ha.below) (exp_right M env (node_at P) (val₀ k) (law_of k) a) (ap A.exp ha.is);
+        log_at = λ P k a x ha. table_means k c (log_sound P.count (node_at P) (parts_below k) a ha.below) (log_right M env (node_at P) (val₀ k) (law_of k) a) (ap A.log ha.is);
         pow_at = λ e P k a x ha. table_means k c (pow_sound P.count (node_at P) (parts_below k) a ha.below e) (pow_right M env (node_at P) (val₀ k) (law_of k) a e) (ap (λ x. power A x e) ha.is);
       }
 

@@ -52,11 +52,11 @@ module _ {A : Algebra} (M : Model A) (env : Values A) {P : Pool} (keeps : Keeps 
       pub neg_means : (calls left).neg_at arg P ≡ done i Q → Means A env P (A.times (A.int (negsuc 0)) (val arg)) i Q
       neg_means e = meant ((calls_mean M env left).neg_at P keeps arg _ (has h)) e
 
-      pub exp_means : (calls left).exp_at_lem arg P ≡ done i Q → Means A env P (A.exp (val arg)) i Q
-      exp_means e = meant ((calls_mean M env left).exp_at_lem P keeps arg _ (has h)) e
+      pub exp_means : (calls left).exp_at arg P ≡ done i Q → Means A env P (A.exp (val arg)) i Q
+      exp_means e = meant ((calls_mean M env left).exp_at P keeps arg _ (has h)) e
 
-      pub log_means : (calls left).log_at_lem arg P ≡ done i Q → Means A env P (A.log (val arg)) i Q
-      log_means e = meant ((calls_mean M env left).log_at_lem P keeps arg _ (has h)) e
+      pub log_means : (calls left).log_at arg P ≡ done i Q → Means A env P (A.log (val arg)) i Q
+      log_means e = meant ((calls_mean M env left).log_at P keeps arg _ (has h)) e
 
       pub pow_means : (e : ℕ) → (calls left).pow_at arg e P ≡ done i Q → Means A env P (power A (val arg) e) i Q
       pow_means n e = meant ((calls_mean M env left).pow_at n P keeps arg _ (has h)) e

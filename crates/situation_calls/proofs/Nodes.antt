@@ -189,8 +189,8 @@ module _ (ks ws : List ℕ) (n : ℕ) (fit : (i : ℕ) → get_or ws i 0 < 2 ^ 6
         div_call_lem = λ a b. constructor_call (a ∷ b ∷ []) ((calls depth).div_at a b) (λ r. (of_constructors_lem P r).div_meets a b);
         max_call_lem = λ a b. constructor_call (a ∷ b ∷ []) ((calls depth).max_at a b) (λ r. (of_constructors_lem P r).max_meets a b);
         neg_call_lem = λ a. constructor_call (a ∷ []) ((calls depth).neg_at a) (λ r. (of_constructors_lem P r).neg_meets a);
-        exp_call_lem = λ a. constructor_call (a ∷ []) ((calls depth).exp_at_lem a) (λ r. (of_constructors_lem P r).exp_meets a);
-        log_call_lem = λ a. constructor_call (a ∷ []) ((calls depth).log_at_lem a) (λ r. (of_constructors_lem P r).log_meets a);
+        exp_call_lem = λ a. constructor_call (a ∷ []) ((calls depth).exp_at a) (λ r. (of_constructors_lem P r).exp_meets a);
+        log_call_lem = λ a. constructor_call (a ∷ []) ((calls depth).log_at a) (λ r. (of_constructors_lem P r).log_meets a);
         pow_call_lem = λ a e. constructor_call (a ∷ []) ((calls depth).pow_at a e) (λ r. (of_constructors_lem P r).pow_meets a e);
         substitute_var_call = λ root v value. walk_call (root ∷ value ∷ []) v (substitute_var root v value) (λ r e. (of_walks P r root (root_below root (value ∷ []) e)).substitution v value);
         derive_call = λ root v. walk_call (root ∷ []) v (derive root v) (λ r e. (of_walks P r root (root_below root [] e)).derivation v);

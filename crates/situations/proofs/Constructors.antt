@@ -43,8 +43,8 @@ pub record AllRefuse (c : Calls) : Type 0 where
   pub div_at : (lhs rhs : ℕ) → Refusing of_constructors (c.div_at lhs rhs)
   pub max_at : (lhs rhs : ℕ) → Refusing of_constructors (c.max_at lhs rhs)
   pub neg_at : (arg : ℕ) → Refusing of_constructors (c.neg_at arg)
-  pub exp_at_lem : (arg : ℕ) → Refusing of_constructors (c.exp_at_lem arg)
-  pub log_at_lem : (arg : ℕ) → Refusing of_constructors (c.log_at_lem arg)
+  pub exp_at : (arg : ℕ) → Refusing of_constructors (c.exp_at arg)
+  pub log_at : (arg : ℕ) → Refusing of_constructors (c.log_at arg)
   pub pow_at : (base e : ℕ) → Refusing of_constructors (c.pow_at base e)
 
 pub build_refuses : {c : Calls} → AllRefuse c → (t : Term) → Refusing of_constructors (build c t)
@@ -63,10 +63,10 @@ build_refuses g (mul s t) = do
   g.mul_at a b
 build_refuses g (exp t) = do
   a ← build_refuses g t
-  g.exp_at_lem a
+  g.exp_at a
 build_refuses g (log t) = do
   a ← build_refuses g t
-  g.log_at_lem a
+  g.log_at a
 build_refuses g (pow t e) = do
   a ← build_refuses g t
   exponent_refuses exponent_too_large_lem (leb e greatest_exponent) (g.pow_at a e)
@@ -108,8 +108,8 @@ deeper_refuse g =
       div_at = λ lhs rhs. table_refuses g (λ P. div_table (node_at P) lhs rhs);
       max_at = λ lhs rhs. table_refuses g (λ P. max_table (node_at P) lhs rhs);
       neg_at = λ arg. table_refuses g (λ P. neg_table (node_at P) arg);
-      exp_at_lem = λ arg. table_refuses g (λ P. exp_table (node_at P) arg);
-      log_at_lem = λ arg. table_refuses g (λ P. log_table (node_at P) arg);
+      exp_at = λ arg. table_refuses g (λ P. exp_table (node_at P) arg);
+      log_at = λ arg. table_refuses g (λ P. log_table (node_at P) arg);
       pow_at = λ base e. table_refuses g (λ P. pow_table (node_at P) base e);
     }
 
@@ -121,8 +121,8 @@ none_refuse =
       div_at = λ lhs rhs. refuse_refuses too_deep too_deep_lem;
       max_at = λ lhs rhs. refuse_refuses too_deep too_deep_lem;
       neg_at = λ arg. refuse_refuses too_deep too_deep_lem;
-      exp_at_lem = λ arg. refuse_refuses too_deep too_deep_lem;
-      log_at_lem = λ arg. refuse_refuses too_deep too_deep_lem;
+      exp_at = λ arg. refuse_refuses too_deep too_deep_lem;
+      log_at = λ arg. refuse_refuses too_deep too_deep_lem;
       pow_at = λ base e. refuse_refuses too_deep too_deep_lem;
     }
 

@@ -166,7 +166,7 @@ plus_zero zero R i j e = exp_log_deep
 plus_zero (suc left) R i j e = (add_zero exp_log_full (calls left) (node_at R) i j e).made.refuses R
 
 -- exp of a sum whose right part is the literal b
-exp_of_sum : (left : ℕ) → ByExpLog (calls left).exp_at_lem → (P : Pool) → Long P → (b : ℤ) (a : ℕ) → MakingOn P (calls left) (Terms.mul (lit-exp b) (Terms.exp (# a)))
+exp_of_sum : (left : ℕ) → ByExpLog (calls left).exp_at → (P : Pool) → Long P → (b : ℤ) (a : ℕ) → MakingOn P (calls left) (Terms.mul (lit-exp b) (Terms.exp (# a)))
 unfolding build exp_of
 exp_of_sum left less P l b a = record { on = go (is_zero b) }
   where
@@ -174,19 +174,19 @@ exp_of_sum left less P l b a = record { on = go (is_zero b) }
     after Q i m there (done j R) g h = one_times left R i j (earlier_same g i m ∙ there)
     after Q i m there (refused k) g h = h
 
-    go : (t : Bool) → Among of_exp_log (of_out (bind (literal (cond t (Value (pos 1)) (Refused no_exp_or_log)) P) (λ i Q. bind ((calls left).exp_at_lem a Q) (λ j. (calls left).mul_at i j))))
+    go : (t : Bool) → Among of_exp_log (of_out (bind (literal (cond t (Value (pos 1)) (Refused no_exp_or_log)) P) (λ i Q. bind ((calls left).exp_at a Q) (λ j. (calls left).mul_at i j))))
     go true =
-        append_comes_to (λ o. Among of_exp_log (of_out (bind o (λ i Q. bind ((calls left).exp_at_lem a Q) (λ j. (calls left).mul_at i j))))) (node.Lit (pos 1)) P
+        append_comes_to (λ o. Among of_exp_log (of_out (bind o (λ i Q. bind ((calls left).exp_at a Q) (λ j. (calls left).mul_at i j))))) (node.Lit (pos 1)) P
         (λ room below.
         let Q = appended (node.Lit (pos 1)) P in
-        after Q P.count (omega arith) (appended_there P l below (pos 1) refl) ((calls left).exp_at_lem a Q) (((calls_grow left).exp_at_lem a).grows Q) (less a Q (long_grown (appended_grown (node.Lit (pos 1)) P below) l)))
+        after Q P.count (omega arith) (appended_there P l below (pos 1) refl) ((calls left).exp_at a Q) (((calls_grow left).exp_at a).grows Q) (less a Q (long_grown (appended_grown (node.Lit (pos 1)) P below) l)))
         exp_log_full
     go false = inl refl
 
 -- log of a product whose left part is the literal a
-log_of_product : (left : ℕ) → ByExpLog (calls left).log_at_lem → (P : Pool) → Long P → (b : ℕ) (a : ℤ) → MakingOn P (calls left) (Terms.add (Terms.log (# b)) (lit-log a))
+log_of_product : (left : ℕ) → ByExpLog (calls left).log_at → (P : Pool) → Long P → (b : ℕ) (a : ℤ) → MakingOn P (calls left) (Terms.add (Terms.log (# b)) (lit-log a))
 unfolding build log_of
-log_of_product left less P l b a = record { on = after ((calls left).log_at_lem b P) (((calls_grow left).log_at_lem b).grows P) (less b P l) }
+log_of_product left less P l b a = record { on = after ((calls left).log_at b P) (((calls_grow left).log_at b).grows P) (less b P l) }
   where
     go : (i : ℕ) (Q : Pool) → Long Q → (t : Bool) → Among of_exp_log (of_out (bind (literal (cond t (Value (pos 0)) (Refused no_exp_or_log)) Q) (λ j. (calls left).add_at i j)))
     go i Q m true =
@@ -204,7 +204,7 @@ module _ (left : ℕ) (P : Pool) (l : Long P) (arg : ℕ) where
   unfolding build
   small_on z h = record { on = (literal_refuses exp_log_full z h).refuses P }
 
-  exp_table_lem : ByExpLog (calls left).exp_at_lem → MakingOn P (calls left) (exp_table (node_at P) arg)
+  exp_table_lem : ByExpLog (calls left).exp_at → MakingOn P (calls left) (exp_table (node_at P) arg)
   unfolding exp_arms build
   exp_table_lem less =
       ◌then◌ {H = MakingOn P (calls left)}
@@ -213,7 +213,7 @@ module _ (left : ℕ) (P : Pool) (l : Long P) (arg : ℕ) where
       or (found (add? (node_at P) arg) >>= (λ (a, b) _. inside (found (lit? (node_at P) b) >>= (λ b _. return (exp_of_sum left less P l b a))))))
       (record { on = (append_refuses exp_log_full (node.Exp arg)).refuses P })
 
-  log_table_lem : ByExpLog (calls left).log_at_lem → MakingOn P (calls left) (log_table (node_at P) arg)
+  log_table_lem : ByExpLog (calls left).log_at → MakingOn P (calls left) (log_table (node_at P) arg)
   unfolding log_arms build
   log_table_lem less =
       ◌then◌ {H = MakingOn P (calls left)}
@@ -222,12 +222,12 @@ module _ (left : ℕ) (P : Pool) (l : Long P) (arg : ℕ) where
       or (found (mul? (node_at P) arg) >>= (λ (a, b) _. inside (found (lit? (node_at P) a) >>= (λ a _. return (log_of_product left less P l b a))))))
       (record { on = (append_refuses exp_log_full (node.Log arg)).refuses P })
 
-pub exp_refuses : (left : ℕ) → ByExpLog (calls left).exp_at_lem
+pub exp_refuses : (left : ℕ) → ByExpLog (calls left).exp_at
 unfolding calls
 exp_refuses zero arg P l = exp_log_deep
 exp_refuses (suc left) arg P l = (exp_table_lem left P l arg (exp_refuses left)).on
 
-pub log_refuses : (left : ℕ) → ByExpLog (calls left).log_at_lem
+pub log_refuses : (left : ℕ) → ByExpLog (calls left).log_at
 unfolding calls
 log_refuses zero arg P l = exp_log_deep
 log_refuses (suc left) arg P l = (log_table_lem left P l arg (log_refuses left)).on

@@ -72,8 +72,8 @@ every_constructor =
       mul_holds = λ a b. called of_constructors ((calls_grow depth).mul_at a b) (λ P l. (c.mul_at a b).refuses P);
       div_holds = λ a b. called of_constructors ((calls_grow depth).div_at a b) (λ P l. (c.div_at a b).refuses P);
       neg_holds = λ a. called of_constructors ((calls_grow depth).neg_at a) (λ P l. (c.neg_at a).refuses P);
-      exp_holds = λ a. called of_constructors ((calls_grow depth).exp_at_lem a) (λ P l. (c.exp_at_lem a).refuses P);
-      log_holds = λ a. called of_constructors ((calls_grow depth).log_at_lem a) (λ P l. (c.log_at_lem a).refuses P);
+      exp_holds = λ a. called of_constructors ((calls_grow depth).exp_at a) (λ P l. (c.exp_at a).refuses P);
+      log_holds = λ a. called of_constructors ((calls_grow depth).log_at a) (λ P l. (c.log_at a).refuses P);
     }
 
 pub sum_holds : (a b : ℕ) → Holding (refusing_by of_sums) (add a b)

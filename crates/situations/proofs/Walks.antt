@@ -120,8 +120,8 @@ module _ (P₀ : Pool) (var value : ℕ) (down : ℕ → Walk) (term : ℕ) wher
   substitute_tame (Add a b) v h = two_parts (left a (b ∷ []) h) (right a b h) (λ x y. unless_tame (eqb a x && eqb b y) (called ((calls_grow depth).add_at x y) ((calls_refuse depth).add_at x y)))
   substitute_tame (Mul a b) v h = two_parts (left a (b ∷ []) h) (right a b h) (λ x y. unless_tame (eqb a x && eqb b y) (called ((calls_grow depth).mul_at x y) ((calls_refuse depth).mul_at x y)))
   substitute_tame (Div a b) v h = two_parts (left a (b ∷ []) h) (right a b h) (λ x y. unless_tame (eqb a x && eqb b y) (called ((calls_grow depth).div_at x y) ((calls_refuse depth).div_at x y)))
-  substitute_tame (Exp a) v h = one_part (left a [] h) (λ x. unless_tame (eqb a x) (called ((calls_grow depth).exp_at_lem x) ((calls_refuse depth).exp_at_lem x)))
-  substitute_tame (Log a) v h = one_part (left a [] h) (λ x. unless_tame (eqb a x) (called ((calls_grow depth).log_at_lem x) ((calls_refuse depth).log_at_lem x)))
+  substitute_tame (Exp a) v h = one_part (left a [] h) (λ x. unless_tame (eqb a x) (called ((calls_grow depth).exp_at x) ((calls_refuse depth).exp_at x)))
+  substitute_tame (Log a) v h = one_part (left a [] h) (λ x. unless_tame (eqb a x) (called ((calls_grow depth).log_at x) ((calls_refuse depth).log_at x)))
   substitute_tame (Pow a e) v h = one_part (left a [] h) (λ x. unless_tame (eqb a x) (called ((calls_grow depth).pow_at x e) ((calls_refuse depth).pow_at x e)))
   substitute_tame (Max a b) v h = two_parts (left a (b ∷ []) h) (right a b h) (λ x y. unless_tame (eqb a x && eqb b y) (called ((calls_grow depth).max_at x y) ((calls_refuse depth).max_at x y)))
 

@@ -58,8 +58,8 @@ pub record OfConstructors (P : Pool) : Type 0 where
   pub div_meets : (lhs rhs : ℕ) → Among of_appending (of_out ((calls depth).div_at lhs rhs P))
   pub max_meets : (lhs rhs : ℕ) → Among of_appending (of_out ((calls depth).max_at lhs rhs P))
   pub neg_meets : (arg : ℕ) → Among of_appending (of_out ((calls depth).neg_at arg P))
-  pub exp_meets : (arg : ℕ) → Among of_exp_log (of_out ((calls depth).exp_at_lem arg P))
-  pub log_meets : (arg : ℕ) → Among of_exp_log (of_out ((calls depth).log_at_lem arg P))
+  pub exp_meets : (arg : ℕ) → Among of_exp_log (of_out ((calls depth).exp_at arg P))
+  pub log_meets : (arg : ℕ) → Among of_exp_log (of_out ((calls depth).log_at arg P))
   pub pow_meets : (base e : ℕ) → Among of_appending (of_out ((calls depth).pow_at base e P))
 
 -- the work on an expression that stands in the pool

@@ -44,10 +44,10 @@ sub a b = do
   add a n
 
 abbrev pub exp : ℕ → Work ℕ
-exp a = (calls depth).exp_at_lem a
+exp a = (calls depth).exp_at a
 
 abbrev pub log : ℕ → Work ℕ
-log a = (calls depth).log_at_lem a
+log a = (calls depth).log_at a
 
 abbrev pub max : ℕ → ℕ → Work ℕ
 max a b = (calls depth).max_at a b

@@ -58,8 +58,8 @@ every =
       mul_holds = λ a b. holding ((calls_grow depth).mul_at a b);
       div_holds = λ a b. holding ((calls_grow depth).div_at a b);
       neg_holds = λ a. holding ((calls_grow depth).neg_at a);
-      exp_holds = λ a. holding ((calls_grow depth).exp_at_lem a);
-      log_holds = λ a. holding ((calls_grow depth).log_at_lem a);
+      exp_holds = λ a. holding ((calls_grow depth).exp_at a);
+      log_holds = λ a. holding ((calls_grow depth).log_at a);
     }
 
 -- ---- the operations

@@ -35,10 +35,10 @@ module _ {A : Algebra} (M : Model A) (env : Values A) {P : Pool} (k : Keeps P) w
     neg_gives = (calls_mean M env depth).neg_at P k a x ha
 
     pub exp_gives : Gives P (Is A env (A.exp x)) (exp a P)
-    exp_gives = (calls_mean M env depth).exp_at_lem P k a x ha
+    exp_gives = (calls_mean M env depth).exp_at P k a x ha
 
     pub log_gives : Gives P (Is A env (A.log x)) (log a P)
-    log_gives = (calls_mean M env depth).log_at_lem P k a x ha
+    log_gives = (calls_mean M env depth).log_at P k a x ha
 
 -- self + (-rhs)
 pub sub_gives : {A : Algebra} (M : Model A) (env : Values A) {P : Pool} {a b : ℕ} {x y : A.carrier} → Keeps P → Has A env P a x → Has A env P b y → Gives P (Is A env (minus A x y)) (sub a b P)

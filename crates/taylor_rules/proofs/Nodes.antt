@@ -76,10 +76,10 @@ module _ {n : ℕ} where
   neg_keeps {a} la = node_keeps ((calls_keep depth).neg_at n a la)
 
   pub exp_keeps : {a : ℕ} → a < n → Keeping n Node (exp a)
-  exp_keeps {a} la = node_keeps ((calls_keep depth).exp_at_lem n a la)
+  exp_keeps {a} la = node_keeps ((calls_keep depth).exp_at n a la)
 
   pub log_keeps : {a : ℕ} → a < n → Keeping n Node (log a)
-  log_keeps {a} la = node_keeps ((calls_keep depth).log_at_lem n a la)
+  log_keeps {a} la = node_keeps ((calls_keep depth).log_at n a la)
 
 pub sub_keeps : {n a b : ℕ} → a < n → b < n → Keeping n Node (sub a b)
 sub_keeps la lb = next_keeps (neg_keeps lb) (λ m c more lc. add_keeps (omega arith) lc)

@@ -47,10 +47,10 @@ module _ (var value : ℕ) where
       unless_grows (eqb a a2 && eqb b b2) term (lift_grows ((calls_grow depth).div_at a2 b2))
     node_grows (Exp a) = do
       a2 ← g a
-      unless_grows (eqb a a2) term (lift_grows ((calls_grow depth).exp_at_lem a2))
+      unless_grows (eqb a a2) term (lift_grows ((calls_grow depth).exp_at a2))
     node_grows (Log a) = do
       a2 ← g a
-      unless_grows (eqb a a2) term (lift_grows ((calls_grow depth).log_at_lem a2))
+      unless_grows (eqb a a2) term (lift_grows ((calls_grow depth).log_at a2))
     node_grows (Pow a e) = do
       a2 ← g a
       unless_grows (eqb a a2) term (lift_grows ((calls_grow depth).pow_at a2 e))
@@ -89,9 +89,9 @@ module _ (var value : ℕ) where
     node_keeps (Div a b) (la, (lb, _)) =
         parts_keep keeps (la, lb) (λ m x y m_more lx ly. unless_keeps (eqb a x && eqb b y) (omega arith) (lift_keeps ((calls_keep depth).div_at m x y lx ly)))
     node_keeps (Exp a) (la, _) =
-        next_keeps (part_keeps keeps la) (λ m x m_more lx. unless_keeps (eqb a x) (omega arith) (lift_keeps ((calls_keep depth).exp_at_lem m x lx)))
+        next_keeps (part_keeps keeps la) (λ m x m_more lx. unless_keeps (eqb a x) (omega arith) (lift_keeps ((calls_keep depth).exp_at m x lx)))
     node_keeps (Log a) (la, _) =
-        next_keeps (part_keeps keeps la) (λ m x m_more lx. unless_keeps (eqb a x) (omega arith) (lift_keeps ((calls_keep depth).log_at_lem m x lx)))
+        next_keeps (part_keeps keeps la) (λ m x m_more lx. unless_keeps (eqb a x) (omega arith) (lift_keeps ((calls_keep depth).log_at m x lx)))
     node_keeps (Pow a e) (la, _) =
         next_keeps (part_keeps keeps la) (λ m x m_more lx. unless_keeps (eqb a x) (omega arith) (lift_keeps ((calls_keep depth).pow_at e m x lx)))
     node_keeps (Max a b) (la, (lb, _)) =

@@ -111,8 +111,8 @@ module _ {A : Algebra} (M : Model A) (env : Values A) {P₀ : Pool} (keeps : Kee
     node_walked (Add a b) e (la, (lb, _)) S good = two_parts A.plus a b (calls_mean M env depth).add_at (la, lb) (from_parts term e) (goal_from_parts term e) S good
     node_walked (Mul a b) e (la, (lb, _)) S good = two_parts A.times a b (calls_mean M env depth).mul_at (la, lb) (from_parts term e) (goal_from_parts term e) S good
     node_walked (Div a b) e (la, (lb, _)) S good = two_parts A.over a b (calls_mean M env depth).div_at (la, lb) (from_parts term e) (goal_from_parts term e) S good
-    node_walked (Exp a) e (la, _) S good = one_part A.exp a (calls_mean M env depth).exp_at_lem la (from_parts term e) (goal_from_parts term e) S good
-    node_walked (Log a) e (la, _) S good = one_part A.log a (calls_mean M env depth).log_at_lem la (from_parts term e) (goal_from_parts term e) S good
+    node_walked (Exp a) e (la, _) S good = one_part A.exp a (calls_mean M env depth).exp_at la (from_parts term e) (goal_from_parts term e) S good
+    node_walked (Log a) e (la, _) S good = one_part A.log a (calls_mean M env depth).log_at la (from_parts term e) (goal_from_parts term e) S good
     node_walked (Pow a n) e (la, _) S good = one_part (λ x. power A x n) a ((calls_mean M env depth).pow_at n) la (from_parts term e) (goal_from_parts term e) S good
     node_walked (Max a b) e (la, (lb, _)) S good = two_parts A.max a b (calls_mean M env depth).max_at (la, lb) (from_parts term e) (goal_from_parts term e) S good
 

@@ -36,10 +36,10 @@ substitute_node var value down term (Div a b) = do
 -- Exp(a) => { a2; if same_ref(a, a2) { term } else { exp(a2) } }
 substitute_node var value down term (Exp a) = do
   a2 ← down a
-  unless (eqb a a2) term (lift ((calls depth).exp_at_lem a2))
+  unless (eqb a a2) term (lift ((calls depth).exp_at a2))
 substitute_node var value down term (Log a) = do
   a2 ← down a
-  unless (eqb a a2) term (lift ((calls depth).log_at_lem a2))
+  unless (eqb a a2) term (lift ((calls depth).log_at a2))
 -- Pow(a, exp) => { a2; if same_ref(a, a2) { term } else { pow(a2, exp) } }
 substitute_node var value down term (Pow a e) = do
   a2 ← down a

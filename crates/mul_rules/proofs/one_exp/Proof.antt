@@ -18,7 +18,7 @@ returns : tie.Need-returns
 returns c =
     let start = c.before.before.before.before in
     let at = node_in start.args.kinds.now start.args.words.now in
-    second_exp at _ start.args.a2 _ (sym c.before.before.before.exp_at_lem.ensures ∙ ap exp_arm c.before.x.given.1)
+    second_exp at _ start.args.a2 _ (sym c.before.before.before.exp_at.ensures ∙ ap exp_arm c.before.x.given.1)
 
 enum_told : tie.Need-enum-told
 enum_told c = search rules
@@ -35,7 +35,7 @@ returns_2 c =
     let start = at_enum_told.before.before.before in
     let at = node_in start.args.kinds.now start.args.words.now in
     first_exp at start.args.a1 start.args.a2 _
-    (sym at_enum_told.before.before.exp_at_lem.ensures ∙ ap exp_arm at_enum_told.enum_told.given.1)
+    (sym at_enum_told.before.before.exp_at.ensures ∙ ap exp_arm at_enum_told.enum_told.given.1)
     (sym c.before.before.before.exp-at2.ensures ∙ ap exp_arm c.before.x2.given.1)
 
 enum_told_2 : tie.Need-enum-told-2
@@ -47,7 +47,7 @@ returns_3 c =
     let start = at_exp_at.before in
     let at = node_in start.args.kinds.now start.args.words.now in
     no_exp at start.args.a1 start.args.a2 _
-    (sym at_exp_at.exp_at_lem.ensures ∙ ap exp_arm c.before.before.before.enum_told.given.1)
+    (sym at_exp_at.exp_at.ensures ∙ ap exp_arm c.before.before.before.enum_told.given.1)
     (sym c.before.before.exp-at2.ensures ∙ ap exp_arm c.enum-told2.given.1)
 
 pub one_exp_spec : {M : Type 1} → statement M

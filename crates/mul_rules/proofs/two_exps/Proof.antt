@@ -30,7 +30,7 @@ returns c =
     let b1 = start.args.b1 in
     let b2 = start.args.b2 in
     exp_1_1 at a1 a2 b1 b2
-    (sym at_x.before.before.exp_at_lem.ensures ∙ ap exp_arm at_x.x.given.1)
+    (sym at_x.before.before.exp_at.ensures ∙ ap exp_arm at_x.x.given.1)
     (sym c.before.before.before.exp-at2.ensures ∙ ap exp_arm c.before.y.given.1)
 
 enum_told : tie.Need-enum-told
@@ -53,7 +53,7 @@ returns_2 c =
     let b1 = start.args.b1 in
     let b2 = start.args.b2 in
     exp_1_2 at a1 a2 b1 b2
-    (sym at_x.before.before.exp_at_lem.ensures ∙ ap exp_arm at_x.x.given.1)
+    (sym at_x.before.before.exp_at.ensures ∙ ap exp_arm at_x.x.given.1)
     (sym at_enum_told.before.before.exp-at2.ensures ∙ ap exp_arm at_enum_told.enum_told.given.1)
     (sym c.before.before.before.exp-at3.ensures ∙ ap exp_arm c.before.y2.given.1)
 
@@ -99,7 +99,7 @@ returns_4 c =
     let b1 = start.args.b1 in
     let b2 = start.args.b2 in
     exp_2_1 at a1 a2 b1 b2
-    (sym at_exp_at.exp_at_lem.ensures ∙ ap exp_arm at_x2.before.before.before.enum-told3.given.1)
+    (sym at_exp_at.exp_at.ensures ∙ ap exp_arm at_x2.before.before.before.enum-told3.given.1)
     (sym at_x2.before.before.exp-at4.ensures ∙ ap exp_arm at_x2.x2.given.1)
     (sym c.before.before.before.exp-at5.ensures ∙ ap exp_arm c.before.y3.given.1)
 
@@ -124,7 +124,7 @@ returns_5 c =
     let b1 = start.args.b1 in
     let b2 = start.args.b2 in
     exp_2_2 at a1 a2 b1 b2
-    (sym at_exp_at.exp_at_lem.ensures ∙ ap exp_arm at_x2.before.before.before.enum-told3.given.1)
+    (sym at_exp_at.exp_at.ensures ∙ ap exp_arm at_x2.before.before.before.enum-told3.given.1)
     (sym at_x2.before.before.exp-at4.ensures ∙ ap exp_arm at_x2.x2.given.1)
     (sym at_enum_told4.before.before.exp-at5.ensures ∙ ap exp_arm at_enum_told4.enum-told4.given.1)
     (sym c.before.before.before.exp-at6.ensures ∙ ap exp_arm c.before.y4.given.1)
@@ -158,7 +158,7 @@ returns_7 c =
     let b1 = start.args.b1 in
     let b2 = start.args.b2 in
     no_left_exp at a1 a2 b1 b2
-    (sym at_exp_at.exp_at_lem.ensures ∙ ap exp_arm c.before.before.before.enum-told3.given.1)
+    (sym at_exp_at.exp_at.ensures ∙ ap exp_arm c.before.before.before.enum-told3.given.1)
     (sym c.before.before.exp-at4.ensures ∙ ap exp_arm c.enum-told6.given.1)
 
 pub two_exps_spec : {M : Type 1} → statement M

@@ -49,10 +49,10 @@ returns_2 c =
     (pool_of start.args.kinds.now start.args.words.now start.args.room)) c.before.before.before.at.ensures)
 
 returns_3 : tie.Need-returns-3
-returns_3 c = rw c.before.before.before.before.rule3.given.1 c.exp_at_lem.ensures
+returns_3 c = rw c.before.before.before.before.rule3.given.1 c.exp_at.ensures
 
 returns_4 : tie.Need-returns-4
-returns_4 c = rw c.before.before.before.before.rule4.given.1 c.log_at_lem.ensures
+returns_4 c = rw c.before.before.before.before.rule4.given.1 c.log_at.ensures
 
 pub coefficient_in_spec : {M : Type 1} → statement M
 coefficient_in_spec =
