@@ -1,16 +1,17 @@
 -- `add` and what it builds meet their contracts: each step is a step of the rule's term, and the depth left falls from a rule to its calls.
 -- Assumes nothing.
-use Prim.Native.Nat.{ℕ, ◌+◌, ◌*◌, ◌<◌}
+use Prim.Native.Nat.{◌-◌}
 use mathlib.Core.Path.{refl, ap, ◌∙◌}
 use native.Mathlib.Omega.{arith}
 use mir.Syntax.{w64}
 use mir.ValLaws.{to_z-of_z}
 use Rattle.literal.specs.Literal.{folded}
 use Rattle.constructors.specs.Terms.{#, lit, add}
-use Rattle.constructors.specs.Build.{build}
+use Rattle.constructors.specs.Build.{build, calls}
 use Rattle.views.proofs.Steps.{onward, stopped, runs_deeper}
 use Rattle.adds.specs.Rule.{add_term}
 use Rattle.adds.proofs.Runs.{none_left, ruled, renumbered, same_sum, literal_made}
+use Rattle.std.proofs.Common.{rules}
 use Rattle.adds.proofs.made.+add_chain_add_in_add_onto_add_sums.Goals as goal
 
 pub add_chain-returns-in_default : goal.add_chain-returns-in_default
@@ -29,54 +30,18 @@ add_chain-returns t c =
 pub add_in-returns-then-left-eq0 : goal.add_in-returns-then-left-eq0
 add_in-returns-then-left-eq0 t c = rw (none_left c.args.left c.if-left-eq0.true)
 
-pub add_in-add_rule-rule-requires : goal.add_in-add_rule-rule-requires
-add_in-add_rule-rule-requires t c = tt
-
-pub add_in-sum-requires : goal.add_in-sum-requires
-add_in-sum-requires t c = tt
-
-pub add_in-lit_in-requires : goal.add_in-lit_in-requires
-add_in-lit_in-requires t c = tt
-
-pub add_in-overflow_sub-left : goal.add_in-overflow_sub-left
-add_in-overflow_sub-left t c =
-    omega (arith, c.if-left-eq0.false)
-
-pub add_in-add_onto-requires : goal.add_in-add_onto-requires
-add_in-add_onto-requires t c =
-    (omega (arith, c.requires.0, c.if-left-eq0.false), tt)
-
-pub add_in-append-requires : goal.add_in-append-requires
-add_in-append-requires t c = tt
-
-pub add_in-overflow_sub-left-in-Sums : goal.add_in-overflow_sub-left-in-Sums
-add_in-overflow_sub-left-in-Sums t c =
-    omega (arith, c.if-left-eq0.false)
-
-pub add_in-add_sums-requires : goal.add_in-add_sums-requires
-add_in-add_sums-requires t c =
-    (omega (arith, c.requires.0, c.if-left-eq0.false), tt)
-
-pub add_in-overflow_sub-left-in-Chain : goal.add_in-overflow_sub-left-in-Chain
-add_in-overflow_sub-left-in-Chain t c =
-    omega (arith, c.if-left-eq0.false)
-
-pub add_in-add_chain-requires : goal.add_in-add_chain-requires
-add_in-add_chain-requires t c =
-    (omega (arith, c.requires.0, c.if-left-eq0.false), tt)
-
 pub add_in-returns-in-Same : goal.add_in-returns-in-Same
 unfolding build
 add_in-returns-in-Same t c =
     rw (runs_deeper c.args.left c.if-left-eq0.false)
-    (ruled _ _ add_term c.add_rule-rule.ensures c.in-Same.is
+    (ruled (calls (c.args.left - 1)) _ add_term c.add_rule-rule.ensures c.in-Same.is
     refl)
 
 pub add_in-returns-in-Sum : goal.add_in-returns-in-Sum
 unfolding build
 add_in-returns-in-Sum t c =
     rw (runs_deeper c.args.left c.if-left-eq0.false)
-    (ruled _ _ add_term c.add_rule-rule.ensures c.in-Sum.is
+    (ruled (calls (c.args.left - 1)) _ add_term c.add_rule-rule.ensures c.in-Sum.is
     (literal_made _
     (c.sum.ensures ∙ ap folded
     (same_sum (to_z-of_z w64 c.in-Sum.x (search rules))
@@ -85,7 +50,7 @@ add_in-returns-in-Sum t c =
 pub add_in-returns-in-Onto : goal.add_in-returns-in-Onto
 add_in-returns-in-Onto t c =
     rw (runs_deeper c.args.left c.if-left-eq0.false)
-    (ruled _ _ add_term c.add_rule-rule.ensures c.in-Onto.is
+    (ruled (calls (c.args.left - 1)) _ add_term c.add_rule-rule.ensures c.in-Onto.is
     (renumbered _ _ (λ z. add (# c.in-Onto.b) (lit z))
     (same_sum (to_z-of_z w64 c.in-Onto.x (search rules))
     (to_z-of_z w64 c.in-Onto.y (search rules))) c.add_onto.ensures))
@@ -94,13 +59,13 @@ pub add_in-returns-in-Plain : goal.add_in-returns-in-Plain
 unfolding build
 add_in-returns-in-Plain t c =
     rw (runs_deeper c.args.left c.if-left-eq0.false)
-    (ruled _ _ add_term c.add_rule-rule.ensures c.in-Plain.is
+    (ruled (calls (c.args.left - 1)) _ add_term c.add_rule-rule.ensures c.in-Plain.is
     c.append.ensures)
 
 pub add_in-returns-in-Sums : goal.add_in-returns-in-Sums
 add_in-returns-in-Sums t c =
     rw (runs_deeper c.args.left c.if-left-eq0.false)
-    (ruled _ _ add_term c.add_rule-rule.ensures c.in-Sums.is
+    (ruled (calls (c.args.left - 1)) _ add_term c.add_rule-rule.ensures c.in-Sums.is
     (renumbered _ _ (λ z. add (add (# c.in-Sums.a) (# c.in-Sums.c)) (lit z))
     (same_sum (to_z-of_z w64 c.in-Sums.x (search rules))
     (to_z-of_z w64 c.in-Sums.y (search rules))) c.add_sums.ensures))
@@ -108,14 +73,8 @@ add_in-returns-in-Sums t c =
 pub add_in-returns-in-Chain : goal.add_in-returns-in-Chain
 add_in-returns-in-Chain t c =
     rw (runs_deeper c.args.left c.if-left-eq0.false)
-    (ruled _ _ add_term c.add_rule-rule.ensures c.in-Chain.is
+    (ruled (calls (c.args.left - 1)) _ add_term c.add_rule-rule.ensures c.in-Chain.is
     c.add_chain.ensures)
-
-pub add_onto-sum-requires : goal.add_onto-sum-requires
-add_onto-sum-requires t c = tt
-
-pub add_onto-lit_in-sum-requires : goal.add_onto-lit_in-sum-requires
-add_onto-lit_in-sum-requires t c = tt
 
 pub add_onto-returns-in_default : goal.add_onto-returns-in_default
 unfolding build
@@ -140,12 +99,6 @@ add_sums-returns-in_default t c =
     stopped c.add_in-nodes.new.kinds c.add_in-nodes.new.words _ _ _ c.in_default.is
     c.add_in-nodes.ensures
 
-pub add_sums-sum-requires : goal.add_sums-sum-requires
-add_sums-sum-requires t c = tt
-
-pub add_sums-lit_in-sum-requires : goal.add_sums-lit_in-sum-requires
-add_sums-lit_in-sum-requires t c = tt
-
 pub add_sums-returns-in_default-sum : goal.add_sums-returns-in_default-sum
 unfolding build
 add_sums-returns-in_default-sum t c =
@@ -154,10 +107,6 @@ add_sums-returns-in_default-sum t c =
     (literal_made _
     (c.sum.ensures ∙ ap folded
     (same_sum (to_z-of_z w64 c.args.x c.ranges.x) (to_z-of_z w64 c.args.y c.ranges.y))) c.lit_in-sum.ensures))
-
-pub add_sums-add_in-requires : goal.add_sums-add_in-requires
-add_sums-add_in-requires t c =
-    (omega (arith, c.requires.0), tt)
 
 pub add_sums-returns : goal.add_sums-returns
 unfolding build

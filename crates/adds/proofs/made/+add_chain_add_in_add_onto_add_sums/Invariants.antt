@@ -11,6 +11,7 @@ use Rattle.constructors.specs.Build.{build}
 use Rattle.views.proofs.Steps.{onward, stopped, runs_deeper}
 use Rattle.adds.specs.Rule.{add_term}
 use Rattle.adds.proofs.Runs.{none_left, ruled, renumbered, same_sum, literal_made}
+use Rattle.std.proofs.Common.{rules}
 use Rattle.adds.proofs.made.+add_chain_add_in_add_onto_add_sums.Given as goal
 
 abbrev pub decreases-add_chain : goal.decreases-add_chain

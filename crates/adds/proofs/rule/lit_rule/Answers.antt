@@ -7,8 +7,8 @@ use mir.Val.{to_z, of_z}
 use mir.ValLaws.{to_z-of_z}
 use Rattle.literal.specs.Literal.{is_zero}
 use Rattle.pool.specs.Pool.{node_in}
-use Rattle.adds.proofs.Parts.{lit_found, add_found, no_lit_found, neither_found}
-use Rattle.views.proofs.Missed.{tested}
+use Rattle.adds.proofs.Parts.{lit_found, add_found}
+use Rattle.views.proofs.Missed.{lit_missed, add_missed, tested}
 use Rattle.adds.proofs.Rules.{zero_on_left, zero_on_lit, two_lits_lem, lit_onto_sum, lit_beside_sum, lit_beside}
 use Rattle.adds.proofs.rule.lit_rule.Goals as goal
 
@@ -43,7 +43,7 @@ returns-in_default-shape_at c =
     (tested is_zero e c.is_zero.ensures c.if-is_zero.false)
     (lit_found (at a.rhs) c.shape_at-shape.ensures c.in-Add.is)
     (add_found (at a.rhs) c.shape_at-shape.ensures c.in-Add.is)
-    (no_lit_found (at c.in-Add.part) c.shape_at.ensures c.in_default-shape_at.keys2)
+    (lit_missed (at c.in-Add.part) c.shape_at.ensures c.in_default-shape_at.not-Lit)
 
 pub returns-else-is_zero-2 : goal.returns-else-is_zero-2
 returns-else-is_zero-2 c =
@@ -77,10 +77,9 @@ returns-in_default c =
     let a = c.args in
     let at = node_in a.kinds.now a.words.now in
     let e : to_z w64 (of_z w64 a.a) ≡ a.a = to_z-of_z w64 a.a c.ranges.a in
-    let right = neither_found (at a.rhs) c.shape_at-shape.ensures c.in_default.in_default-own.keys3 in
     lit_beside at a.lhs a.rhs
     c.requires.lhs_value
     (tested is_zero e c.is_zero.ensures c.if-is_zero.false)
     c.requires.lhs_value_2
-    right.0
-    right.1
+    (lit_missed (at a.rhs) c.shape_at-shape.ensures c.in_default.not-Lit)
+    (add_missed (at a.rhs) c.shape_at-shape.ensures c.in_default.not-Add)

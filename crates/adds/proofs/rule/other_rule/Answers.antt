@@ -7,8 +7,8 @@ use mir.Val.{to_z, of_z}
 use mir.ValLaws.{to_z-of_z}
 use Rattle.literal.specs.Literal.{is_zero}
 use Rattle.pool.specs.Pool.{node_in}
-use Rattle.adds.proofs.Parts.{lit_found, no_lit_found}
-use Rattle.views.proofs.Missed.{tested}
+use Rattle.adds.proofs.Parts.{lit_found}
+use Rattle.views.proofs.Missed.{lit_missed, tested}
 use Rattle.adds.proofs.Rules.{zero_on_right, beside_lit, beside}
 use Rattle.adds.proofs.rule.other_rule.Goals as goal
 
@@ -19,7 +19,7 @@ returns-in_default c =
     beside at a.lhs a.rhs
     c.requires.lhs_value
     c.requires.lhs_value_2
-    (no_lit_found (at a.rhs) c.shape_at.ensures c.in_default.in_default-own.keys2)
+    (lit_missed (at a.rhs) c.shape_at.ensures c.in_default.not-Lit)
 
 pub returns-then-is_zero : goal.returns-then-is_zero
 returns-then-is_zero c =

@@ -7,8 +7,8 @@ use mir.Val.{to_z, of_z}
 use mir.ValLaws.{to_z-of_z}
 use Rattle.literal.specs.Literal.{is_zero}
 use Rattle.pool.specs.Pool.{node_in}
-use Rattle.adds.proofs.Parts.{lit_found, add_found, no_lit_found, neither_found}
-use Rattle.views.proofs.Missed.{tested}
+use Rattle.adds.proofs.Parts.{lit_found, add_found}
+use Rattle.views.proofs.Missed.{lit_missed, add_missed, tested}
 use Rattle.adds.proofs.Rules.{zero_on_right, sum_onto_lit, sum_beside_lit, sum_beside}
 use Rattle.adds.proofs.rule.sum_rule.Goals as goal
 
@@ -32,13 +32,13 @@ returns-in_default-shape_at c =
     c.requires.lhs_value_2
     (lit_found (at a.rhs) c.shape_at-shape.ensures c.in-Lit.is)
     (tested is_zero e c.is_zero.ensures c.if-is_zero.false)
-    (no_lit_found (at a.a) c.shape_at.ensures c.in_default-shape_at.keys2)
+    (lit_missed (at a.a) c.shape_at.ensures c.in_default-shape_at.not-Lit)
 
 pub sums_rule-requires : goal.sums_rule-requires
 sums_rule-requires c =
     let a = c.args in
     let at = node_in a.kinds.now a.words.now in
-    (c.requires.lhs_value, (c.requires.lhs_value_2, (lit_found (at a.rhs) c.shape_at-shape.ensures c.in-Add.is, add_found (at a.rhs) c.shape_at-shape.ensures c.in-Add.is)))
+    record { lhs_value = c.requires.lhs_value; lhs_value_2 = c.requires.lhs_value_2; rhs_value = lit_found (at a.rhs) c.shape_at-shape.ensures c.in-Add.is; rhs_value_2 = add_found (at a.rhs) c.shape_at-shape.ensures c.in-Add.is }
 
 pub returns-in-Lit-shape_at : goal.returns-in-Lit-shape_at
 returns-in-Lit-shape_at c =
@@ -61,9 +61,8 @@ pub returns-in_default : goal.returns-in_default
 returns-in_default c =
     let a = c.args in
     let at = node_in a.kinds.now a.words.now in
-    let right = neither_found (at a.rhs) c.shape_at-shape.ensures c.in_default.in_default-own.keys3 in
     sum_beside at a.lhs a.rhs
     c.requires.lhs_value
     c.requires.lhs_value_2
-    right.0
-    right.1
+    (lit_missed (at a.rhs) c.shape_at-shape.ensures c.in_default.not-Lit)
+    (add_missed (at a.rhs) c.shape_at-shape.ensures c.in_default.not-Add)

@@ -6,7 +6,8 @@ use mir.Syntax.{w64}
 use mir.Val.{to_z, of_z}
 use mir.ValLaws.{to_z-of_z}
 use Rattle.pool.specs.Pool.{node_in}
-use Rattle.adds.proofs.Parts.{lit_found, no_lit_found}
+use Rattle.views.proofs.Missed.{lit_missed}
+use Rattle.adds.proofs.Parts.{lit_found}
 use Rattle.adds.proofs.Rules.{lits_of_sums, lit_of_left, lit_of_right, no_lits}
 use Rattle.adds.proofs.rule.sums_rule.Goals as goal
 
@@ -16,8 +17,8 @@ returns-in_default-shape c =
     let at = node_in a.kinds.now a.words.now in
     no_lits at a.lhs a.rhs
     c.requires.lhs_value c.requires.lhs_value_2 c.requires.rhs_value c.requires.rhs_value_2
-    (no_lit_found (at a.b) c.shape_at.ensures c.in_default.in_default-own.keys2)
-    (no_lit_found (at a.d) c.shape_at-shape.ensures c.in_default-shape.keys2)
+    (lit_missed (at a.b) c.shape_at.ensures c.in_default.not-Lit)
+    (lit_missed (at a.d) c.shape_at-shape.ensures c.in_default-shape.not-Lit)
 
 pub returns-in_default : goal.returns-in_default
 returns-in_default c =
@@ -25,7 +26,7 @@ returns-in_default c =
     let at = node_in a.kinds.now a.words.now in
     lit_of_right at a.lhs a.rhs
     c.requires.lhs_value c.requires.lhs_value_2 c.requires.rhs_value c.requires.rhs_value_2
-    (no_lit_found (at a.b) c.shape_at.ensures c.in_default.in_default-own.keys2)
+    (lit_missed (at a.b) c.shape_at.ensures c.in_default.not-Lit)
     (lit_found (at a.d) c.shape_at-shape.ensures c.in-Lit-shape.is)
 
 pub returns-in_default-shape-2 : goal.returns-in_default-shape-2
@@ -35,7 +36,7 @@ returns-in_default-shape-2 c =
     lit_of_left at a.lhs a.rhs
     c.requires.lhs_value c.requires.lhs_value_2 c.requires.rhs_value c.requires.rhs_value_2
     (lit_found (at a.b) c.shape_at.ensures c.in-Lit.is)
-    (no_lit_found (at a.d) c.shape_at-shape.ensures c.in_default-shape-2.keys2)
+    (lit_missed (at a.d) c.shape_at-shape.ensures c.in_default-shape-2.not-Lit)
 
 pub returns : goal.returns
 returns c =
