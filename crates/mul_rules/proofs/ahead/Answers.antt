@@ -1,9 +1,7 @@
 -- `mul_rules::ahead` meets its contract: a product, on the left before the right, may start with a literal.
 -- Assumes nothing.
 use borrow.Author.Rules.{rules}
-use borrow.Enum.Refused.{opened}
 use mathlib.Core.Path.{sym, ◌∙◌}
-use mathlib.Core.List.{[], ◌∷◌}
 use Rattle.pool.specs.Pool.{node_in}
 use Rattle.views.proofs.Missed.{mul_missed}
 use Rattle.mul_rules.proofs.Groups.{products, product_left, product_right, no_product}
@@ -24,7 +22,7 @@ returns-in_default-right c =
     let lhs = c.args.lhs in
     let rhs = c.args.rhs in
     product_left at lhs rhs (sym c.requires.0 ∙ c.in-Mul.is)
-    (mul_missed (at rhs) c.requires.1 (0 ∷ 1 ∷ 3 ∷ 4 ∷ 5 ∷ []) tt (opened c.in_default-right.in_default-right-own.keys2))
+    (mul_missed (at rhs) c.requires.1 c.in_default-right.not-Mul)
     c.lit_ahead.ensures
 
 pub returns-in-Mul-right-2 : goal.returns-in-Mul-right-2
@@ -33,7 +31,7 @@ returns-in-Mul-right-2 c =
     let lhs = c.args.lhs in
     let rhs = c.args.rhs in
     product_right at lhs rhs
-    (mul_missed (at lhs) c.requires.0 (0 ∷ 1 ∷ 3 ∷ 4 ∷ 5 ∷ []) tt (opened c.in_default.in_default-own.keys2))
+    (mul_missed (at lhs) c.requires.0 c.in_default.not-Mul)
     (sym c.requires.1 ∙ c.in-Mul-right-2.is) c.lit_ahead-in-Mul-right-2.ensures
 
 pub returns-in_default-right-2 : goal.returns-in_default-right-2
@@ -42,5 +40,5 @@ returns-in_default-right-2 c =
     let lhs = c.args.lhs in
     let rhs = c.args.rhs in
     no_product at lhs rhs
-    (mul_missed (at lhs) c.requires.0 (0 ∷ 1 ∷ 3 ∷ 4 ∷ 5 ∷ []) tt (opened c.in_default.in_default-own.keys2))
-    (mul_missed (at rhs) c.requires.1 (0 ∷ 1 ∷ 3 ∷ 4 ∷ 5 ∷ []) tt (opened c.in_default-right-2.in_default-right-2-own.keys2))
+    (mul_missed (at lhs) c.requires.0 c.in_default.not-Mul)
+    (mul_missed (at rhs) c.requires.1 c.in_default-right-2.not-Mul)

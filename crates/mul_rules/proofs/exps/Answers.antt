@@ -1,9 +1,7 @@
 -- `mul_rules::exps` meets its contract: the shapes of both factors say which of the exp rules can hold.
 -- Assumes nothing.
 use borrow.Author.Rules.{rules}
-use borrow.Enum.Refused.{opened}
 use mathlib.Core.Path.{sym, ◌∙◌}
-use mathlib.Core.List.{[], ◌∷◌}
 use Rattle.pool.specs.Pool.{node_in}
 use Rattle.views.proofs.Missed.{mul_missed, exp_missed}
 use Rattle.mul_rules.proofs.Groups.{mul_exp, exp_mul, mul_mul, mul_none, exp_no_mul, no_mul_no_exp}
@@ -31,8 +29,8 @@ returns-in_default-right c =
     let lhs = c.args.lhs in
     let rhs = c.args.rhs in
     mul_none at lhs rhs (sym c.requires.0 ∙ c.in-Mul.is)
-    (mul_missed (at rhs) c.requires.1 (0 ∷ 1 ∷ 4 ∷ 5 ∷ []) tt (opened c.in_default-right.in_default-right-own.keys3))
-    (exp_missed (at rhs) c.requires.1 (0 ∷ 1 ∷ 4 ∷ 5 ∷ []) tt (opened c.in_default-right.in_default-right-own.keys3))
+    (mul_missed (at rhs) c.requires.1 c.in_default-right.not-Mul)
+    (exp_missed (at rhs) c.requires.1 c.in_default-right.not-Exp)
 
 pub returns-in-Mul-right-2 : goal.returns-in-Mul-right-2
 returns-in-Mul-right-2 c =
@@ -49,7 +47,7 @@ returns-in_default-right-2 c =
     let lhs = c.args.lhs in
     let rhs = c.args.rhs in
     exp_no_mul at lhs rhs (sym c.requires.0 ∙ c.in-Exp.is)
-    (mul_missed (at rhs) c.requires.1 (0 ∷ 1 ∷ 3 ∷ 4 ∷ 5 ∷ []) tt (opened c.in_default-right-2.in_default-right-2-own.keys2))
+    (mul_missed (at rhs) c.requires.1 c.in_default-right-2.not-Mul)
 
 pub returns-in_default : goal.returns-in_default
 returns-in_default c =
@@ -57,5 +55,5 @@ returns-in_default c =
     let lhs = c.args.lhs in
     let rhs = c.args.rhs in
     no_mul_no_exp at lhs rhs
-    (mul_missed (at lhs) c.requires.0 (0 ∷ 1 ∷ 4 ∷ 5 ∷ []) tt (opened c.in_default.in_default-own.keys3))
-    (exp_missed (at lhs) c.requires.0 (0 ∷ 1 ∷ 4 ∷ 5 ∷ []) tt (opened c.in_default.in_default-own.keys3))
+    (mul_missed (at lhs) c.requires.0 c.in_default.not-Mul)
+    (exp_missed (at lhs) c.requires.0 c.in_default.not-Exp)

@@ -1,9 +1,7 @@
 -- `mul_rules::last` meets its contract: a literal on the right changes places.
 -- Assumes nothing.
 use borrow.Author.Rules.{rules}
-use borrow.Enum.Refused.{opened}
 use mathlib.Core.Path.{sym, ◌∙◌}
-use mathlib.Core.List.{[], ◌∷◌}
 use Rattle.pool.specs.Pool.{node_in}
 use Rattle.mul_rules.proofs.Groups.{lit_last, other_last}
 use Rattle.views.proofs.Missed.{lit_missed}
@@ -12,7 +10,7 @@ use Rattle.mul_rules.proofs.last.Goals as goal
 pub returns-in_default : goal.returns-in_default
 returns-in_default c =
     let at = node_in c.args.kinds.now c.args.words.now in
-    other_last at _ _ (lit_missed (at c.args.rhs) c.requires (1 ∷ 2 ∷ 3 ∷ 4 ∷ 5 ∷ []) tt (opened c.in_default.in_default-own.keys2))
+    other_last at _ _ (lit_missed (at c.args.rhs) c.requires c.in_default.not-Lit)
 
 pub returns : goal.returns
 returns c =

@@ -1,9 +1,7 @@
 -- `mul_rules::lit_at` meets its contract: the view of the node tells whether it is a literal.
 -- Assumes nothing.
 use borrow.Author.Rules.{rules}
-use borrow.Enum.Refused.{opened}
 use mathlib.Core.Path.{◌≡◌, sym, ap, ◌∙◌}
-use mathlib.Core.List.{[], ◌∷◌}
 use mir.Syntax.{w64}
 use mir.Val.{to_z, of_z}
 use mir.ValLaws.{to_z-of_z}
@@ -16,7 +14,7 @@ use Rattle.mul_rules.proofs.lit_at.Goals as goal
 pub returns-in_default : goal.returns-in_default
 returns-in_default c =
     let at = node_in c.args.kinds.now c.args.words.now in
-    sym (lit_missed (at c.args.i) c.shape_at.ensures (1 ∷ 2 ∷ 3 ∷ 4 ∷ 5 ∷ []) tt (opened c.in_default.in_default-own.keys2))
+    sym (lit_missed (at c.args.i) c.shape_at.ensures c.in_default.not-Lit)
 
 pub returns : goal.returns
 returns c =

@@ -1,9 +1,7 @@
 -- `mul_rules::lits` meets its contract: the shapes of both factors say which of the literal rules can hold.
 -- Assumes nothing.
 use borrow.Author.Rules.{rules}
-use borrow.Enum.Refused.{opened}
 use mathlib.Core.Path.{◌≡◌, sym, ◌∙◌}
-use mathlib.Core.List.{[], ◌∷◌}
 use mir.Syntax.{w64}
 use mir.Val.{to_z, of_z}
 use mir.ValLaws.{to_z-of_z}
@@ -32,7 +30,7 @@ returns-in_default-right c =
     let a = c.in-Lit.a in
     let ea : to_z w64 (of_z w64 a) ≡ a = to_z-of_z w64 a (search rules) in
     lit_other at lhs rhs (sym c.requires.0 ∙ c.in-Lit.is)
-    (lit_missed (at rhs) c.requires.1 (1 ∷ 2 ∷ 3 ∷ 4 ∷ 5 ∷ []) tt (opened c.in_default-right.in_default-right-own.keys2))
+    (lit_missed (at rhs) c.requires.1 c.in_default-right.not-Lit)
     (rw ea at c.one_lit.ensures)
 
 pub returns-in-Lit-right-2 : goal.returns-in-Lit-right-2
@@ -59,8 +57,8 @@ returns-in_default-right-2 c =
     let lhs = c.args.lhs in
     let rhs = c.args.rhs in
     exp_none at lhs rhs (sym c.requires.0 ∙ c.in-Exp.is)
-    (lit_missed (at rhs) c.requires.1 (1 ∷ 2 ∷ 4 ∷ 5 ∷ []) tt (opened c.in_default-right-2.in_default-right-2-own.keys3))
-    (exp_missed (at rhs) c.requires.1 (1 ∷ 2 ∷ 4 ∷ 5 ∷ []) tt (opened c.in_default-right-2.in_default-right-2-own.keys3))
+    (lit_missed (at rhs) c.requires.1 c.in_default-right-2.not-Lit)
+    (exp_missed (at rhs) c.requires.1 c.in_default-right-2.not-Exp)
 
 pub returns-in-Lit-right-3 : goal.returns-in-Lit-right-3
 returns-in-Lit-right-3 c =
@@ -70,8 +68,8 @@ returns-in-Lit-right-3 c =
     let b = c.in-Lit-right-3.b in
     let eb : to_z w64 (of_z w64 b) ≡ b = to_z-of_z w64 b (search rules) in
     other_lit at lhs rhs
-    (lit_missed (at lhs) c.requires.0 (1 ∷ 2 ∷ 4 ∷ 5 ∷ []) tt (opened c.in_default.in_default-own.keys3))
-    (exp_missed (at lhs) c.requires.0 (1 ∷ 2 ∷ 4 ∷ 5 ∷ []) tt (opened c.in_default.in_default-own.keys3))
+    (lit_missed (at lhs) c.requires.0 c.in_default.not-Lit)
+    (exp_missed (at lhs) c.requires.0 c.in_default.not-Exp)
     (sym c.requires.1 ∙ c.in-Lit-right-3.is) (rw eb at c.one_lit-in-Lit-right-3.ensures)
 
 pub returns-in_default-right-3 : goal.returns-in_default-right-3
@@ -80,6 +78,6 @@ returns-in_default-right-3 c =
     let lhs = c.args.lhs in
     let rhs = c.args.rhs in
     other_none at lhs rhs
-    (lit_missed (at lhs) c.requires.0 (1 ∷ 2 ∷ 4 ∷ 5 ∷ []) tt (opened c.in_default.in_default-own.keys3))
-    (exp_missed (at lhs) c.requires.0 (1 ∷ 2 ∷ 4 ∷ 5 ∷ []) tt (opened c.in_default.in_default-own.keys3))
-    (lit_missed (at rhs) c.requires.1 (1 ∷ 2 ∷ 3 ∷ 4 ∷ 5 ∷ []) tt (opened c.in_default-right-3.in_default-right-3-own.keys2))
+    (lit_missed (at lhs) c.requires.0 c.in_default.not-Lit)
+    (exp_missed (at lhs) c.requires.0 c.in_default.not-Exp)
+    (lit_missed (at rhs) c.requires.1 c.in_default-right-3.not-Lit)

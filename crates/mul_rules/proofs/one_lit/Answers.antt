@@ -1,9 +1,7 @@
 -- `mul_rules::one_lit` meets its contract: 0 and 1 are told apart before the other factor is looked at.
 -- Assumes nothing.
 use borrow.Author.Rules.{rules}
-use borrow.Enum.Refused.{opened}
 use mathlib.Core.Path.{◌≡◌, sym, ap, ◌∙◌}
-use mathlib.Core.List.{[], ◌∷◌}
 use mir.Syntax.{w64}
 use mir.Val.{to_z, of_z}
 use mir.ValLaws.{to_z-of_z}
@@ -39,7 +37,7 @@ returns-in_default c =
     no_product at a other
     (tested is_zero ea c.is_zero.ensures c.if-is_zero.false)
     (tested is_one ea c.is_one.ensures c.if-is_one.false)
-    (mul_missed (at other) c.shape_at.ensures (0 ∷ 1 ∷ 3 ∷ 4 ∷ 5 ∷ []) tt (opened c.in_default.in_default-own.keys2))
+    (mul_missed (at other) c.shape_at.ensures c.in_default.not-Mul)
 
 pub returns-in_default-lit_at : goal.returns-in_default-lit_at
 returns-in_default-lit_at c =

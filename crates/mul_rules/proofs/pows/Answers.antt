@@ -2,9 +2,7 @@
 -- Assumes nothing.
 use borrow.Author.Rules.{rules}
 use mathlib.Core.Path.{sym, ◌∙◌}
-use mathlib.Core.List.{[], ◌∷◌}
 use borrow.Author.Tests.{eq-eqb, ne_eqb}
-use borrow.Enum.Refused.{opened}
 use Rattle.pool.specs.Pool.{node_in}
 use Rattle.views.proofs.Missed.{mul_missed, pow_missed}
 use Rattle.mul_rules.proofs.Groups.{no_factors, same_factor, no_power, mul_pow}
@@ -15,7 +13,7 @@ returns-in_default c =
     let at = node_in c.args.kinds.now c.args.words.now in
     let lhs = c.args.lhs in
     let rhs = c.args.rhs in
-    no_factors at lhs rhs (mul_missed (at lhs) c.requires.0 (0 ∷ 1 ∷ 3 ∷ 4 ∷ 5 ∷ []) tt (opened c.in_default.in_default-own.keys2))
+    no_factors at lhs rhs (mul_missed (at lhs) c.requires.0 c.in_default.not-Mul)
 
 pub returns-then-a2-rhs : goal.returns-then-a2-rhs
 returns-then-a2-rhs c =
@@ -31,7 +29,7 @@ returns-in_default-right c =
     let rhs = c.args.rhs in
     no_power at lhs rhs (sym c.requires.0 ∙ c.in-Mul.is)
     (ne_eqb _ rhs c.if-a2-rhs.false)
-    (pow_missed (at rhs) c.requires.1 (0 ∷ 1 ∷ 2 ∷ 3 ∷ 5 ∷ []) tt (opened c.in_default-right.in_default-right-own.keys2))
+    (pow_missed (at rhs) c.requires.1 c.in_default-right.not-Pow)
 
 pub returns : goal.returns
 returns c =

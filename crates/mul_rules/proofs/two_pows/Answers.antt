@@ -2,9 +2,7 @@
 -- Assumes nothing.
 use borrow.Author.Rules.{rules}
 use mathlib.Core.Path.{sym, ◌∙◌}
-use mathlib.Core.List.{[], ◌∷◌}
 use borrow.Author.Tests.{eq-eqb, ne_eqb}
-use borrow.Enum.Refused.{opened}
 use Rattle.pool.specs.Pool.{node_in}
 use Rattle.views.proofs.Missed.{pow_missed}
 use Rattle.mul_rules.proofs.Insides.{same_base, no_base, both_pows, other_base}
@@ -27,7 +25,7 @@ returns-in_default c =
     let b = c.args.b in
     let n = c.args.n in
     no_base at a1 a2 b n (ne_eqb a2 b c.if-a2-b.false)
-    (pow_missed (at a2) c.shape_at.ensures (0 ∷ 1 ∷ 2 ∷ 3 ∷ 5 ∷ []) tt (opened c.in_default.in_default-own.keys2))
+    (pow_missed (at a2) c.shape_at.ensures c.in_default.not-Pow)
 
 pub returns-then-a21-b : goal.returns-then-a21-b
 returns-then-a21-b c =
