@@ -30,6 +30,7 @@ use Rattle.evaluate_residue.proofs.Theorems.{goes_by_parts}
 
 -- what holds at each place of a list holds of each entry
 each_entry : (P : ℕ → Type 0) (l : List ℕ) → ((h : ℕ) → h < length l → P (get_or l h 0)) → (a : ℕ) → Memᴰ a l → P a
+each_entry P [] all a h = elim h [ ]
 each_entry P (b ∷ l) all a (Memᴰ.head e) = rw e (all 0 (omega arith))
 each_entry P (b ∷ l) all a (Memᴰ.tail more) = each_entry P l (λ h s. all (suc h) (omega arith)) a more
 

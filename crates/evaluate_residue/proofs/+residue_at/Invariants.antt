@@ -1,0 +1,18 @@
+-- The walk of an evaluation by residues meets its contract: after each part the loop is where the definition is, and what is kept stays right.
+-- Assumes nothing.
+use native.Mathlib.Omega.{arith}
+use Prim.Native.Nat.{ℕ, ◌-◌, ◌<◌}
+use Rattle.pool.specs.Pool.{node_in}
+use Rattle.evaluate_residue.proofs.Walk.{Going, few_parts, kept_before, first_part, next_part, broken, handed_on, parts_are_ready, newly_kept, node_refused}
+use Rattle.evaluate_residue.proofs.+residue_at.Given as goal
+
+-- the node's number falls
+abbrev pub decreases-residue_at : goal.decreases-residue_at
+decreases-residue_at l = l.i
+
+abbrev pub invariant-loop-j : goal.invariant-loop-j
+invariant-loop-j l =
+    Going l.m (node_in l.kinds l.words) l.values l.initial.seen l.i l.node l.parts l.kept l.seen l.j l.part
+
+abbrev pub decreases-loop-j : goal.decreases-loop-j
+decreases-loop-j l = l.parts.count - l.j
