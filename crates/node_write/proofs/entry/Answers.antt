@@ -1,0 +1,14 @@
+-- `node_write::entry` meets its contract: the node that the order names, renumbered.
+-- Assumes nothing.
+use borrow.Author.Rules.{rules}
+use mathlib.Core.Path.{◌∙◌, ap, subst⁻¹}
+use Rattle.pool.specs.Nodes.{parts}
+use Rattle.shape.specs.Shape.{rename}
+use Rattle.node_write.specs.Entries.{number_in, AllMarked}
+use Rattle.node_write.proofs.entry.Goals as goal
+
+pub renumbered-requires : goal.renumbered-requires
+renumbered-requires c = subst⁻¹ (λ n. AllMarked c.args.number.now (parts n)) c.node_at-node.ensures c.requires.all_marked
+
+pub returns : goal.returns
+returns c = c.renumbered.ensures ∙ ap (rename (number_in c.args.number.now)) c.node_at-node.ensures
