@@ -13,7 +13,7 @@ archive_over_ci() {
   for crate in "${archive_crates[@]}"; do
     [ "$crate" != bunlayog ] || continue
     rlib=$PWD/crates/$crate/out/rlib/$crate.rlib
-    [ -e "$rlib/format" ] && [ ! -e "$PWD/crates/$crate/out/rlib/stamp" ] && [ -z "$(newer_source "$rlib/format" "$crate")" ] || return 1
+    [ -e "$rlib/format" ] && [ ! -e "$PWD/crates/$crate/out/rlib/stamp" ] && [ -z "$(newer_source "$rlib" "$crate")" ] || return 1
     words+=(-L "dependency=$PWD/crates/$crate/out/rlib")
     case $direct in *" $crate "*) words+=(--extern "$crate=$rlib") ;; esac
   done
