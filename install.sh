@@ -9,7 +9,7 @@ fi
 mkdir -p -- "$1"
 prefix=$(cd -- "$1" && pwd)
 cd "$(dirname "$0")"
-if ! command -v rt > /dev/null && [ ! -e target/staticlib/libbunlayog.a ]; then
+if ! command -v rt > /dev/null && [ ! -e crates/bunlayog/out/libbunlayog.a ]; then
   echo "install.sh: the archive is not built yet, and rt, the Rattle kit's command that proves and builds it, is not on the path" >&2
   exit 3
 fi

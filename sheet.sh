@@ -22,10 +22,10 @@ number='(0|[1-9][0-9]*)'
 
 cd "$(dirname "$own")"
 need_programs "$name" "$work/nodes.bin"
-bin=$PWD/target/bin
+crates=$PWD/crates
 cd "$work"
-"$bin/show" > shown 2> /dev/null || : > shown
-printf '%s\n' "$line" | "$bin/sheet" > answer || exit 3
+"$crates/show/out/show" > shown 2> /dev/null || : > shown
+printf '%s\n' "$line" | "$crates/sheet/out/sheet" > answer || exit 3
 [ -s answer ] || exit 3
 # where show refuses there is no expression to show; the sheet says what it refuses itself
 print_shown shown

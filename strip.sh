@@ -30,22 +30,22 @@ done
 
 cd "$(dirname "$own")"
 need_programs "$name" "$work/nodes.bin"
-bin=$PWD/target/bin
+crates=$PWD/crates
 cd "$work"
-"$bin/show" > shown 2> /dev/null || : > shown
-"$bin/strip" > made 2> said || exit 3
+"$crates/show/out/show" > shown 2> /dev/null || : > shown
+"$crates/strip/out/strip" > made 2> said || exit 3
 print_shown shown
 if [ ! -s made ]; then
   # a refusal, or that the file could not be read
   grep '^refused ' said || { cat said >&2; exit 3; }
   end_if_refused said
 fi
-"$bin/listing" made > listed || exit 3
+"$crates/listing/out/listing" made > listed || exit 3
 [ -s listed ] || exit 3
 cat listed
 end_if_refused listed
 if [ "$#" -gt 0 ]; then
-  printf '%s\n' "$*" | "$bin/keys" made > answer || exit 3
+  printf '%s\n' "$*" | "$crates/keys/out/keys" made > answer || exit 3
   [ -s answer ] || exit 3
   cat answer
   end_if_refused answer

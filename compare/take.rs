@@ -35,7 +35,7 @@ pub fn taylor(sources: &Path) -> String {
 
 /// Links the engine's archive.
 pub fn link(repository: &Path) {
-    let archive = repository.join("target/staticlib");
+    let archive = repository.join("crates/bunlayog/out");
     println!("cargo:rerun-if-changed={}", archive.join("libbunlayog.a").display());
     println!("cargo:rustc-link-search=native={}", archive.display());
     println!("cargo:rustc-link-lib=static=bunlayog");

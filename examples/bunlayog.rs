@@ -1,5 +1,5 @@
 //! Bunlayog from Rust: the C functions of include/bunlayog.h, which says what each does, and over them a pool that is safe to use. A file to copy:
-//! `mod bunlayog;`, and link libbunlayog.a (`rustc first.rs -L target/staticlib`, or in a build script `cargo:rustc-link-search`).
+//! `mod bunlayog;`, and link libbunlayog.a (`rustc first.rs -L crates/bunlayog/out`, or in a build script `cargo:rustc-link-search`).
 #![allow(dead_code)]
 use std::fmt;
 

@@ -1,6 +1,6 @@
 /* A first program: builds x^3 - 2x + 5, derives it, expands it at 2, prints all of it, writes the node file and reads it back.
  *
- *     cc -Iinclude examples/first.c target/staticlib/libbunlayog.a -o first
+ *     cc -Iinclude examples/first.c crates/bunlayog/out/libbunlayog.a -o first
  *     ./first mine.bin
  *     ./sheet.sh mine.bin 0 3 2
  *

@@ -1,6 +1,6 @@
 //! A first program: builds x^3 - 2x + 5, derives it, expands it at 2, prints all of it, writes the node file and reads it back. The same as first.c.
 //!
-//!     rustc examples/first.rs -L target/staticlib -o first
+//!     rustc examples/first.rs -L crates/bunlayog/out -o first
 //!     ./first mine.bin
 //!     ./sheet.sh mine.bin 0 3 2
 //!

@@ -2,6 +2,7 @@
 # Before it is sourced, the script sets `script` (its own name without .sh) and `programs` (the programs that it runs).
 export LC_ALL=C
 own=$(realpath "$0")
+. "$(dirname "$own")/parts/crates.sh"
 marker=target/${script}_sh.made
 log=target/${script}_sh.log
 
@@ -25,38 +26,24 @@ take_file() { # FILE COPY
   head -c 36869 -- "$1" > "$2"
 }
 
-# The crates that the programs are made of, the programs included.
-crates_needed() {
-  awk -v programs="${programs[*]}" '
-    /^[a-z]/ { name = $1; sub(":", "", name); parts[name] = ""; for (i = 2; i <= NF; i++) parts[name] = parts[name] " " $i }
-    function need(name,   list, n, i) {
-      if (!(name in parts) || name in seen) return
-      seen[name] = 1
-      print name
-      n = split(parts[name], list, " ")
-      for (i = 1; i <= n; i++) need(list[i])
-    }
-    END { count = split(programs, wanted, " "); for (k = 1; k <= count; k++) need(wanted[k]) }' crates.txt
-}
-
 # Whether the programs are there and nothing that they are made of is newer.
 built() {
   local program made=
   for program in "${programs[@]}"; do
-    program=target/bin/$program
+    program=crates/$program/out/$program
     [ -x "$program" ] || return 1
     if [ -z "$made" ] || [ "$program" -ot "$made" ]; then made=$program; fi
   done
   if [ "$marker" -nt "$made" ]; then made=$marker; fi
-  [ -z "$(find crates.txt "${needed[@]/#/crates/}" -newer "$made" -print -quit)" ]
+  [ -z "$(newer_source "$made" "${needed[@]}")" ]
 }
 
-# Reads what rt says: after each crate, how many are proved.
-progress() {
-  local total=${#needed[@]} done=0 line
+# Reads what rt says of one program, and of the crates below it that are not built yet: after each crate, how many are proved.
+progress() { # PROVED
+  local total=${#needed[@]} done=$1 line
   while IFS= read -r line; do
     case $line in
-    'rt: '*' proved ('*)
+    'logic=proved '*)
       done=$((done + 1))
       echo "$done of $total proved" >&2
       ;;
@@ -79,18 +66,25 @@ build() {
   echo "proving and building the programs $(names); needed once, and again where a crate is newer" >&2
   mkdir -p target
   : > "$marker.new"
-  if ! { rt check "${programs[@]}" 2>&1 | tee "$log" | progress; [ "${PIPESTATUS[0]}" -eq 0 ]; }; then
-    grep -E 'NOT PROVED|FAILED' "$log" >&2 || tail -n 5 "$log" >&2
-    echo "$script.sh: the programs could not be built; $PWD/$log has what rt said" >&2
-    exit 3
-  fi
+  : > "$log"
+  local program proved
+  for program in "${programs[@]}"; do
+    proved=$(grep -c '^logic=proved ' "$log" || true)
+    # rt ends as the program does, which it runs when it has built it: that it came so far is seen by its line. Beside the script's question the program has no input.
+    { (cd "crates/$program" && rt run < /dev/null 2>&1 > /dev/null) || true; } | tee -a "$log" | progress "$proved"
+    if ! grep -q "^rt: running out/$program;" "$log"; then
+      grep -E '^fn .*: (not proved|no proof)|^rt: .* did not build' "$log" >&2 || tail -n 5 "$log" >&2
+      echo "$script.sh: the programs could not be built; $PWD/$log has what rt said" >&2
+      exit 3
+    fi
+  done
   mv "$marker.new" "$marker"
 }
 
 # Builds the programs where that is needed, unless the file's length would be refused anyway.
 need_programs() { # FILE COPY
   local size
-  mapfile -t needed < <(crates_needed)
+  mapfile -t needed < <(crates_needed "${programs[@]}")
   if built; then return; fi
   size=$(wc -c < "$2")
   if [ "$size" -lt 13 ] || [ "$size" -gt 36868 ] || [ $(((size - 4) % 9)) -ne 0 ]; then

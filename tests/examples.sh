@@ -25,9 +25,9 @@ runs c99
 c++ -std=c++11 "${strict[@]}" -x c++ examples/first.c -x none "$archive" -o "$out/c++11"
 runs c++11
 if command -v rustc > /dev/null; then
-  rustc --edition 2021 -D warnings -L target/staticlib examples/first.rs -o "$out/rust"
+  rustc --edition 2021 -D warnings -L "$(dirname "$archive")" examples/first.rs -o "$out/rust"
   runs rust
-  rustc --edition 2021 -D warnings -L target/staticlib tests/rust/bindings.rs -o "$out/bindings"
+  rustc --edition 2021 -D warnings -L "$(dirname "$archive")" tests/rust/bindings.rs -o "$out/bindings"
   "$out/bindings"
 else
   echo "skipped: rustc is not here, so examples/first.rs and the bindings were not run"

@@ -37,10 +37,10 @@ sed -n 's|^ */\* \([0-9]*\) \*/ "\(.*\)",$|\1 \2|p' "$text" | sed 1d > "$out/tex
 sed -n 's/^pub const \([A-Z_]*\): u32 = \([0-9]*\);$/\2 \1/p' crates/refusals/src/lib.rt > "$out/names_in_code"
 # a comment may go over two lines; of a request's refusal it quotes the request, with its number first
 awk '/^-- / { line = $0; sub(/^-- /, "", line); said = said == "" ? line : said " " line; next }
-  /^[a-zA-Z]+ = [0-9]+$/ {
+  /^[a-z_]+ = [0-9]+$/ {
     sub(/^C-[0-9]+\. "[0-9]+ (\.\. )?when /, "", kept); sub(/"$/, "", kept); sub(/\.$/, "", kept); gsub("`", "", kept); gsub("×", "*", kept); sub(/ above,/, ",", kept)
     sub("document 01\047s", "the", kept)
-    name = $1; gsub(/[A-Z]/, "_&", name); print $3, toupper(name), (kept ~ /^[A-Z]/ ? tolower(substr(kept, 1, 1)) substr(kept, 2) : kept)
+    print $3, toupper($1), (kept ~ /^[A-Z]/ ? tolower(substr(kept, 1, 1)) substr(kept, 2) : kept)
   }
   { if (said != "") kept = said; said = "" }' crates/refusals/specs/Refusals.antt > "$out/specs"
 sed -n 's/^| \([0-9]*\) | `\([A-Z_]*\)` | \(.*\) |$/\1 \2 \3/p' "$paper" > "$out/paper"
@@ -53,7 +53,7 @@ same refusals 21 "$out/names_in_code" "$out/names_in_header"
 
 # ---- kinds
 sed -n 's/^ *BUNLAYOG_KIND_\([A-Z]*\) = \([0-9]*\).*/\2 \1/p' "$header" > "$out/kinds_in_header"
-sed -n 's/^kindOf (\([A-Z][a-z]*\) .*) = \([0-9]*\)$/\2 \U\1/p' crates/pool/specs/Nodes.antt > "$out/kinds_in_specs"
+sed -n 's/^kind_of (\([A-Z][a-z]*\) .*) = \([0-9]*\)$/\2 \U\1/p' crates/pool/specs/Nodes.antt > "$out/kinds_in_specs"
 sed -n '/^| kind |/,/^$/s/^| \([0-9]\) | \([A-Z][a-z]*\) |.*/\1 \U\2/p' "$paper" > "$out/kinds_in_paper"
 same kinds 9 "$out/kinds_in_header" "$out/kinds_in_specs"
 same kinds 9 "$out/kinds_in_header" "$out/kinds_in_paper"
@@ -76,25 +76,25 @@ while read -r name code constant specs definition; do
   limits=$((limits + 1))
 done <<'LIMITS'
 LIMIT pool LIMIT pool limit
-VARIABLE_MAX pool VARIABLE_MAX pool greatestVariable
+VARIABLE_MAX pool VARIABLE_MAX pool greatest_variable
 LITERAL_MAX literal LITERAL_MAX literal greatest
-EXPONENT_MIN pool EXPONENT_MIN pool leastExponent
-EXPONENT_MAX - - pool greatestExponent
+EXPONENT_MIN pool EXPONENT_MIN pool least_exponent
+EXPONENT_MAX - - pool greatest_exponent
 DEPTH_MAX constructors DEPTH constructors depth
-ORDER_MAX - - taylor greatestOrder
+ORDER_MAX - - taylor greatest_order
 TERMS taylor_base TERMS - -
-VALUES_MAX engine_values VALUES_MAX engine_values mostValues
-MODULUS residue MODULUS_MAX residue fixedModulus
-TEXT_MAX low_bytes TEXT_MAX low_bytes longestText
+VALUES_MAX engine_values VALUES_MAX engine_values most_values
+MODULUS residue MODULUS_MAX residue fixed_modulus
+TEXT_MAX low_bytes TEXT_MAX low_bytes longest_text
 FILE_MAX - - - -
-STRIP_MAX low_bytes TEXT_MAX low_bytes longestText
-PLACES_MAX key_strip PLACES key_strip mostPlaces
+STRIP_MAX low_bytes TEXT_MAX low_bytes longest_text
+PLACES_MAX key_strip PLACES key_strip most_places
 CONSTANT lent_series ENDLESS taylor endless
 LIMITS
 [ "$(grep -c '^| `BUNLAYOG_' "$paper")" -eq "$limits" ] || wrong "$paper has limits that are not compared"
 [ "$(plain "$(macro FILE_MAX)")" -eq $((4 + 9 * $(macro LIMIT))) ] || wrong "FILE_MAX is not 4 + 9 * LIMIT"
 [ "$(macro TERMS)" -eq $(($(macro ORDER_MAX) + 1)) ] || wrong "TERMS is not ORDER_MAX + 1"
-longest=$(sed -n 's/^longestLine = //p' crates/sheet_text/specs/Line.antt)
+longest=$(sed -n 's/^longest_line = //p' crates/sheet_text/specs/Line.antt)
 grep -q "^A line of the sheet has at most $longest bytes" "$paper" || wrong "$paper has another longest line than the definition's $longest"
 while read -r name value; do
   [ "$(plain "$(macro "$name")")" = "$value" ] || wrong "$name is $value in examples/bunlayog.rs"

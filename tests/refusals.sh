@@ -13,8 +13,8 @@ proved() {
       if (c ~ /^of_/) { sub("^of_", "taylor_", c) } else if (c ~ /^coeffs/) { c = "taylor_" c }
       return c
     }
-    /^(checked|met) [a-z-]+ = / {
-      line = $0; sub(/^[a-z]+ [a-z-]+ = /, "", line)
+    /^(checked|met) [a-z_-]+ = / {
+      line = $0; sub(/^[a-z]+ [a-z_-]+ = /, "", line)
       list = ""
       while (match(line, /[0-9]+/)) { list = list (list == "" ? "" : ", ") substr(line, RSTART, RLENGTH); line = substr(line, RSTART + RLENGTH) }
       if ($1 == "checked") checks[name($2)] = list; else meets[name($2)] = list

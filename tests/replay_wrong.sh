@@ -3,5 +3,5 @@
 # replay that compared an answer with itself would pass.
 set -eu
 cd "$(dirname "$0")/.."
-target/bin/replay < tests/replay/wrong | cmp - tests/replay/report
+crates/replay/out/replay < tests/replay/wrong | cmp - tests/replay/report
 echo "replay reports each wrong line of tests/replay/wrong and no other: $(tail -n 1 tests/replay/report)"

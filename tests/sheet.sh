@@ -3,7 +3,7 @@
 # It runs with 4 MiB of stack, must end with status 0 and must write nothing to standard error.
 set -u
 cd "$(dirname "$0")/.."
-program=$PWD/target/bin/sheet
+program=$PWD/crates/sheet/out/sheet
 work=$(mktemp -d)
 trap 'rm -rf "$work"' EXIT
 ulimit -s 4096

@@ -6,7 +6,7 @@ cd "$(dirname "$0")/.."
 work=$(mktemp -d)
 trap 'rm -rf "$work"' EXIT
 mkdir "$work/bin" "$work/here"
-cp target/bin/sheet target/bin/show "$work/bin/" || exit 1
+cp crates/sheet/out/sheet crates/show/out/show "$work/bin/" || exit 1
 cp tests/sheet/example/expected "$work/example"
 printf 'a*a\n' > "$work/square"
 printf 'usage\n' > "$work/usage"

@@ -32,21 +32,27 @@ done
 ends . 2 '' 'these numbers are too long' samples/polynomial.bin 0 3 123456789012345678901234567890123456789012345678901234567890
 ends . 1 $'a^3 + -2*a + 5\nrefused 4' '^4: a literal or point' samples/polynomial.bin 0 3 12345678901234567890123456789012345678901234567890123456789
 
-# ---- when it builds: a small tree of four crates, and an rt that notes its call and puts the programs there
+# ---- when it builds: a small tree of four crates, and an rt that notes its call, puts the program there and runs it, which prints something and fails. With the first
+# program the library is built too.
 tree=$out/tree
-mkdir -p "$tree/include" "$tree/parts" "$tree/crates/low" "$tree/crates/sheet" "$tree/crates/show" "$tree/crates/other" "$out/bin"
+mkdir -p "$tree/include" "$tree/parts" "$tree/crates/low/src" "$tree/crates/sheet/src" "$tree/crates/show/src" "$tree/crates/other/src" "$out/bin"
 cp sheet.sh "$tree"
-cp parts/programs.sh "$tree/parts"
+cp parts/*.sh "$tree/parts"
 cp include/bunlayog_text.h "$tree/include"
 cp samples/polynomial.bin "$out/short.bin" "$tree"
 printf '# crates\nlow:\nother: low\nsheet: low io\nshow: low os\n' > "$tree/crates.txt"
 cat > "$out/bin/rt" <<RT
 #!/usr/bin/env bash
-echo "\$*" >> "$out/calls"
-[ ! -e "$out/broken" ] || { echo "rt: low NOT PROVED (exit 1, 2 s)"; echo "rt: FAILED: low"; exit 1; }
-mkdir -p target/bin
-for crate in low sheet show; do echo "fn \$crate::f: proved"; echo "rt: \$crate proved (1 s)"; done
-[ -e target/bin/sheet ] || cp "$PWD/target/bin/sheet" "$PWD/target/bin/show" target/bin
+program=\$(basename "\$PWD")
+echo "\$* in \$program" >> "$out/calls"
+[ ! -e "$out/broken" ] || { printf 'fn low::f: not proved\nlogic=not-proved\nrt: the library low did not build, so nothing above it was checked\n' >&2; exit 1; }
+[ \$program != sheet ] || printf 'rt: chose --jobs 2 for low\nfn low::f: proved\nlogic=proved functions=1\n' >&2
+printf 'fn %s::main: proved\nlogic=proved functions=1\n' \$program >&2
+mkdir -p out
+[ -e out/\$program ] || cp "$PWD/crates/\$program/out/\$program" out
+echo "rt: running out/\$program; to give it other input, run that file yourself" >&2
+echo "what a program prints"
+exit 3
 RT
 chmod +x "$out/bin/rt"
 calls() { if [ -e "$out/calls" ]; then wc -l < "$out/calls"; else echo 0; fi; }
@@ -68,25 +74,28 @@ ends "$tree" 2 '' 'this is not a variable' polynomial.bin 0 x
 ends "$tree" 1 '' 'refused by 7' short.bin 0 1 2
 called 0 "with wrong arguments"
 touch "$out/broken"
-ends "$tree" 3 '' 'low NOT PROVED' polynomial.bin 0 1 2
+ends "$tree" 3 '' 'the library low did not build' polynomial.bin 0 1 2
 rm "$out/broken"
 called 1 "where a crate is not proved"
 ends "$tree" 0 "$answer" '^3 of 3 proved$' polynomial.bin 0 1 2
 grep -q '^1 of 3 proved$' "$out/said" || wrong "no progress is shown"
-called 2 "at first"
+called 3 "at first"
 ends "$tree" 0 "$answer" '' polynomial.bin 0 1 2
 ends "$tree" 1 'refused 7' '^7: ' short.bin 0 1 2
-called 2 "where all is built"
+called 3 "where all is built"
 sleep 0.01
-touch "$tree/crates/other"
+touch "$tree/crates/other/src"
 ends "$tree" 0 "$answer" '' polynomial.bin 0 1 2
-called 2 "where a crate is newer that the programs are not made of"
-touch "$tree/crates/low/lib.rt"
+called 3 "where a crate is newer that the programs are not made of"
+mkdir "$tree/crates/low/out"
+ends "$tree" 0 "$answer" '' polynomial.bin 0 1 2
+called 3 "where rt has left something in a crate"
+touch "$tree/crates/low/src/lib.rt"
 ends "$tree" 0 "$answer" '^proving and building' polynomial.bin 0 1 2
-called 3 "where a crate is newer"
+called 5 "where a crate is newer"
 ends "$tree" 0 "$answer" '' polynomial.bin 0 1 2
-called 3 "after that"
-[ "$(sort -u "$out/calls")" = 'check sheet show' ] || wrong "rt is called otherwise"
+called 5 "after that"
+[ "$(sort -u "$out/calls")" = $'run in sheet\nrun in show' ] || wrong "rt is called otherwise"
 PATH=$old_path
 
 echo "$count runs of sheet.sh, $bad bad"

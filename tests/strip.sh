@@ -5,7 +5,7 @@ set -u
 cd "$(dirname "$0")/.." || exit 1
 work=$(mktemp -d)
 trap 'rm -rf "$work"' EXIT
-bin=$PWD/target/bin
+crates=$PWD/crates
 mkdir "$work/cases"
 made=$(python3 tests/strip/make.py "$work/cases") || exit 1
 ulimit -s 4096
@@ -16,7 +16,7 @@ bad=0
 run() {
   local case=$1 program=$2
   shift 2
-  (cd "$case" && exec timeout 20 "$bin/$program" "$@") < "$work/line" > "$work/out" 2> "$work/errors"
+  (cd "$case" && exec timeout 20 "$crates/$program/out/$program" "$@") < "$work/line" > "$work/out" 2> "$work/errors"
   local status=$?
   count=$((count + 1))
   if [ "$status" -ne 0 ] || ! cmp -s "$work/out" "$case/expected" || ! cmp -s "$work/errors" "$case/errors"; then
@@ -57,7 +57,7 @@ cp crates/strip/stdout "$here/strip.bin"
 printf '1\n' > "$work/line"
 for program in strip 'listing strip.bin' 'keys strip.bin'; do
   read -r -a words <<<"$program"
-  (cd "$here" && exec timeout 20 "$bin/${words[0]}" "${words[@]:1}") < "$work/line" > /dev/full 2> "$work/errors"
+  (cd "$here" && exec timeout 20 "$crates/${words[0]}/out/${words[0]}" "${words[@]:1}") < "$work/line" > /dev/full 2> "$work/errors"
   count=$((count + 1))
   if [ "$(cat "$work/errors")" != 'standard output: No space left on device' ]; then
     bad=$((bad + 1))
@@ -65,7 +65,7 @@ for program in strip 'listing strip.bin' 'keys strip.bin'; do
     cat "$work/errors"
   fi
 done
-(cd "$here" && exec timeout 20 "$bin/keys" strip.bin) <&- > "$work/out" 2> "$work/errors"
+(cd "$here" && exec timeout 20 "$crates/keys/out/keys" strip.bin) <&- > "$work/out" 2> "$work/errors"
 count=$((count + 1))
 if [ -s "$work/out" ] || [ "$(cat "$work/errors")" != 'standard input: Bad file descriptor' ]; then
   bad=$((bad + 1))

@@ -84,18 +84,21 @@ ends "$out" 3 $'(a + 1)/(a^2 + 3)\npush a\npush 1\nplus\npush a\npower 2\npush 3
 
 # ---- when it builds
 tree=$out/tree
-mkdir -p "$tree/include" "$tree/parts" "$tree/crates/low" "$tree/crates/strip" "$tree/crates/listing" "$tree/crates/keys" "$tree/crates/show" "$out/bin"
+mkdir -p "$tree/include" "$tree/parts" "$tree/crates/low/src" "$tree/crates/strip/src" "$tree/crates/listing/src" "$tree/crates/keys/src" "$tree/crates/show/src" "$out/bin"
 cp strip.sh "$tree"
-cp parts/programs.sh "$tree/parts"
+cp parts/*.sh "$tree/parts"
 cp include/bunlayog_text.h "$tree/include"
 cp samples/polynomial.bin "$out/short.bin" "$tree"
 printf '# crates\nlow:\nstrip: low io\nlisting: low\nkeys: low\nshow: low os\n' > "$tree/crates.txt"
 cat > "$out/bin/rt" <<RT
 #!/usr/bin/env bash
-echo "\$*" >> "$out/calls"
-mkdir -p target/bin
-for crate in low strip listing keys show; do echo "rt: \$crate proved (1 s)"; done
-cp "$PWD/target/bin/strip" "$PWD/target/bin/listing" "$PWD/target/bin/keys" "$PWD/target/bin/show" target/bin
+program=\$(basename "\$PWD")
+echo "\$* in \$program" >> "$out/calls"
+[ \$program != strip ] || echo 'logic=proved functions=1' >&2
+echo 'logic=proved functions=1' >&2
+mkdir -p out
+cp "$PWD/crates/\$program/out/\$program" out
+echo "rt: running out/\$program; to give it other input, run that file yourself" >&2
 RT
 chmod +x "$out/bin/rt"
 script=./strip.sh
@@ -108,7 +111,7 @@ ends "$tree" 0 $'a^3 + -2*a + 5\n'"$keys" '^5 of 5 proved$' polynomial.bin
 grep -q '^proving and building the programs strip, listing, keys and show;' "$out/said" || wrong "the programs are not named"
 has "$tree/polynomial.bin.strip" $strip
 ends "$tree" 0 $'a^3 + -2*a + 5\n'"$keys"$'\n4022000000000000 number' '' polynomial.bin 2
-[ "$(cat "$out/calls")" = 'check strip listing keys show' ] || wrong "rt is called otherwise"
+[ "$(cat "$out/calls")" = $'run in strip\nrun in listing\nrun in keys\nrun in show' ] || wrong "rt is called otherwise"
 PATH=$old_path
 
 echo "$count runs of strip.sh, $bad bad"

@@ -235,9 +235,9 @@ fn compare(program: &Path, folder: &Path, nodes: Option<Vec<u8>>, input: &[u8]) 
 /// Runs the program on random files and lines. Says whether every outcome that these can have was met; a missing program is no failure.
 pub fn all(seed: u64) -> bool {
     const RUNS: u64 = 500;
-    let program = PathBuf::from(concat!(env!("CARGO_MANIFEST_DIR"), "/../target/bin/sheet"));
+    let program = PathBuf::from(concat!(env!("CARGO_MANIFEST_DIR"), "/../crates/sheet/out/sheet"));
     if !program.exists() {
-        println!("skipped: target/bin/sheet is not here, so the sheet was not compared");
+        println!("skipped: crates/sheet/out/sheet is not here, so the sheet was not compared");
         return true;
     }
     let folder = std::env::temp_dir().join(format!("bunlayog-compare-{}", std::process::id()));
