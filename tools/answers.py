@@ -140,6 +140,8 @@ class Function:
                     return ["type_inv", var] + rest[1:], False
         if norm(label) == "requires":
             pre = self.data.get("pre")
+            if getattr(self, "cycle", False) and rest[:1] == ["1"]:
+                rest = rest[1:]
             if pre and pre.get("fields"):
                 n = len(pre["fields"])
                 best = None
@@ -585,9 +587,44 @@ def turn_cycle(crate, where, members, sigs, said):
             body = re.sub(r"(?<![\w.])a((?:\.1)*\.0)(?![\w.])", arg, body)
             inv.append("\n".join(comments + [f"abbrev pub decreases-{fn} : goal.decreases-{fn}", f"decreases-{fn} l = {body}"]))
             continue
+        m = re.search(r"(?<![\w'-])(" + lts + r")\.(invariant|decreases)[-_]([\w'-]+)", sig)
+        if m:
+            fn, f = by[m.group(1)]
+            loop = None
+            for i, ((old, new), vs) in enumerate(f.loops):
+                if norm(old) == norm(m.group(3)):
+                    loop = (i, new, vs)
+            if loop is None:
+                said.append(f"no loop {m.group(3)}")
+                helpers.append("\n".join(comments + [whole]))
+                continue
+            i, new, vs = loop
+            ch = f.changed[i]
+            unf = [l for l in rest if l.startswith("unfolding")]
+            body = "\n".join(l for l in rest if not l.startswith("unfolding")).rstrip()
+            mm = re.match(re.escape(nm) + r"((?:\s+[^\s=]+)*)\s*=", body)
+            args = mm.group(1).split()
+            after = body[mm.end():].rstrip()
+            extra = len(args) - len(vs) - sum(ch)
+            if extra:
+                said.append(f"{m.group(2)} {new}: {len(args)} arguments, {len(vs)} variables and {sum(ch)} changed: {' '.join(args)} / {vs} {ch}")
+            sub = {}
+            for k, a in enumerate(args):
+                if a == "_":
+                    continue
+                if k < len(vs):
+                    sub[a] = ("l.initial." if ch[k] else "l.") + vs[k]
+                else:
+                    cs = [v for v, c in zip(vs, ch) if c]
+                    if k - len(vs) < len(cs):
+                        sub[a] = "l." + cs[k - len(vs)]
+            full = f"{m.group(2)}-{f.data['stem']}{new}"
+            inv.append("\n".join(comments + [f"abbrev pub {full} : goal.{full}"] + unf + [f"{full} l =" + substitute(after, sub)]))
+            continue
         m = re.search(r"(?<![\w'-])(" + lts + r")\.Need-([\w'-]+)", sig)
         if m:
             fn, f = by[m.group(1)]
+            f.cycle = True
             new = f.need(m.group(2))
             if new is None:
                 if norm(m.group(2)) not in f.settled:
@@ -614,7 +651,7 @@ def turn_cycle(crate, where, members, sigs, said):
             t2 = substitute(t2, {k: v for k, v in answer_names.items() if k != v and k not in alias_words(t2)})
             ans.append("\n".join(comments + [f"pub {full} : goal.{full}"] + unf + [f"{full} {' '.join(args)} ={t2}"]).rstrip())
             continue
-        if "kinds.ps" in whole or re.search(r"\bIn \d", whole):
+        if "kinds.ps" in whole or re.search(r"\bIn \d", whole) or re.search(r"\.Claims\b", sig):
             continue
         helpers.append("\n".join(comments + [whole]))
     if "search rules" in "\n".join(helpers + ans) and not re.search(r"\brules\b", "\n".join(uses)):
