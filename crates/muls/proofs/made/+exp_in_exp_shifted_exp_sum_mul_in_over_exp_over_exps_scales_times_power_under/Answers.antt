@@ -1,65 +1,36 @@
 -- `mul`, `exp` and what they build meet their contracts: each step is a step of the rule's term, and the depth left falls from a rule to its calls.
 -- Assumes nothing.
-use Prim.Native.Nat.{ℕ, ◌+◌, ◌*◌, ◌<◌}
+use Prim.Native.Nat.{◌-◌}
 use mathlib.Core.Path.{refl, ap, ◌∙◌}
 use native.Mathlib.Omega.{arith}
 use mir.Syntax.{w64}
 use mir.ValLaws.{to_z-of_z}
 use Rattle.literal.specs.Literal.{folded, exp_of}
 use Rattle.constructors.specs.Terms.{#, lit, lit-exp, mul, exp, Mul}
-use Rattle.constructors.specs.Build.{build, no_calls}
+use Rattle.constructors.specs.Build.{build, calls, no_calls}
 use Rattle.views.proofs.Steps.{onward, stopped, runs_deeper}
 use Rattle.adds.proofs.Runs.{none_left, ruled, renumbered, literal_made}
 use Rattle.mul_rules.specs.Rules.{mul_term}
 use Rattle.muls.specs.Rule.{exp_term}
 use Rattle.muls.proofs.Runs.{same_product}
-use Rattle.muls.proofs.made.+exp_in_exp_shifted_exp_sum_mul_in_over_exp_over_exps_scales_times_power_under.{
-  statement,
-}
 use Rattle.std.proofs.Common.{rules}
 use Rattle.muls.proofs.made.+exp_in_exp_shifted_exp_sum_mul_in_over_exp_over_exps_scales_times_power_under.Goals as goal
 
 pub exp_in-returns-then-left-eq0 : goal.exp_in-returns-then-left-eq0
 exp_in-returns-then-left-eq0 t c = rw (none_left c.args.left c.if-left-eq0.true)
 
-pub exp_in-exp_rule-rule-requires : goal.exp_in-exp_rule-rule-requires
-exp_in-exp_rule-rule-requires t c = tt
-
-pub exp_in-fold-requires : goal.exp_in-fold-requires
-exp_in-fold-requires t c = tt
-
-pub exp_in-lit_in-requires : goal.exp_in-lit_in-requires
-exp_in-lit_in-requires t c = tt
-
-pub exp_in-exp_literal-requires : goal.exp_in-exp_literal-requires
-exp_in-exp_literal-requires t c = tt
-
-pub exp_in-lit_in-requires-in-Literal : goal.exp_in-lit_in-requires-in-Literal
-exp_in-lit_in-requires-in-Literal t c = tt
-
-pub exp_in-overflow_sub-left : goal.exp_in-overflow_sub-left
-exp_in-overflow_sub-left t c =
-    omega (arith, c.if-left-eq0.false)
-
-pub exp_in-exp_shifted-requires : goal.exp_in-exp_shifted-requires
-exp_in-exp_shifted-requires t c =
-    (omega (arith, c.requires.0, c.if-left-eq0.false), tt)
-
-pub exp_in-append-requires : goal.exp_in-append-requires
-exp_in-append-requires t c = tt
-
 pub exp_in-returns-in-One : goal.exp_in-returns-in-One
 unfolding build
 exp_in-returns-in-One t c =
     rw (runs_deeper c.args.left c.if-left-eq0.false)
-    (ruled _ _ exp_term c.exp_rule-rule.ensures c.in-One.is
+    (ruled (calls (c.args.left - 1)) _ exp_term c.exp_rule-rule.ensures c.in-One.is
     (literal_made _ c.fold.ensures c.lit_in.ensures))
 
 pub exp_in-returns-in-Literal : goal.exp_in-returns-in-Literal
 unfolding build
 exp_in-returns-in-Literal t c =
     rw (runs_deeper c.args.left c.if-left-eq0.false)
-    (ruled _ _ exp_term c.exp_rule-rule.ensures c.in-Literal.is
+    (ruled (calls (c.args.left - 1)) _ exp_term c.exp_rule-rule.ensures c.in-Literal.is
     (literal_made _
     (c.exp_literal.ensures ∙ ap exp_of
     (to_z-of_z w64 c.in-Literal.z (search rules))) c.lit_in-in-Literal.ensures))
@@ -67,7 +38,7 @@ exp_in-returns-in-Literal t c =
 pub exp_in-returns-in-Shifted : goal.exp_in-returns-in-Shifted
 exp_in-returns-in-Shifted t c =
     rw (runs_deeper c.args.left c.if-left-eq0.false)
-    (ruled _ _ exp_term c.exp_rule-rule.ensures c.in-Shifted.is
+    (ruled (calls (c.args.left - 1)) _ exp_term c.exp_rule-rule.ensures c.in-Shifted.is
     (renumbered _ _ (λ z. mul (lit-exp z) (exp (# c.in-Shifted.a)))
     (to_z-of_z w64 c.in-Shifted.z (search rules)) c.exp_shifted.ensures))
 
@@ -75,14 +46,8 @@ pub exp_in-returns-in-Plain : goal.exp_in-returns-in-Plain
 unfolding build
 exp_in-returns-in-Plain t c =
     rw (runs_deeper c.args.left c.if-left-eq0.false)
-    (ruled _ _ exp_term c.exp_rule-rule.ensures c.in-Plain.is
+    (ruled (calls (c.args.left - 1)) _ exp_term c.exp_rule-rule.ensures c.in-Plain.is
     c.append.ensures)
-
-pub exp_shifted-exp_literal-requires : goal.exp_shifted-exp_literal-requires
-exp_shifted-exp_literal-requires t c = tt
-
-pub exp_shifted-lit_in-factor-requires : goal.exp_shifted-lit_in-factor-requires
-exp_shifted-lit_in-factor-requires t c = tt
 
 pub exp_shifted-returns-in_default : goal.exp_shifted-returns-in_default
 unfolding build
@@ -105,10 +70,6 @@ exp_shifted-returns-in_default-power t c =
     c.in_default-power.is
     c.exp_in-power.ensures)
 
-pub exp_shifted-mul_in-requires : goal.exp_shifted-mul_in-requires
-exp_shifted-mul_in-requires t c =
-    (omega (arith, c.requires.0), tt)
-
 pub exp_shifted-returns : goal.exp_shifted-returns
 unfolding build
 exp_shifted-returns t c =
@@ -121,9 +82,6 @@ exp_shifted-returns t c =
     c.in-Node-power.is
     c.exp_in-power.ensures
     c.mul_in.ensures)
-
-pub exp_sum-add_in-sum-requires : goal.exp_sum-add_in-sum-requires
-exp_sum-add_in-sum-requires t c = tt
 
 pub exp_sum-returns-in_default : goal.exp_sum-returns-in_default
 unfolding build
@@ -143,79 +101,31 @@ exp_sum-returns t c =
 pub mul_in-returns-then-left-eq0 : goal.mul_in-returns-then-left-eq0
 mul_in-returns-then-left-eq0 t c = rw (none_left c.args.left c.if-left-eq0.true)
 
-pub mul_in-overflow_sub-deep : goal.mul_in-overflow_sub-deep
-mul_in-overflow_sub-deep t c = omega (arith, c.if-left-eq0.false)
-
-pub mul_in-mul_rule-rule-requires : goal.mul_in-mul_rule-rule-requires
-mul_in-mul_rule-rule-requires t c = tt
-
-pub mul_in-fold-requires : goal.mul_in-fold-requires
-mul_in-fold-requires t c = tt
-
-pub mul_in-lit_in-requires : goal.mul_in-lit_in-requires
-mul_in-lit_in-requires t c = tt
-
-pub mul_in-exp_sum-requires : goal.mul_in-exp_sum-requires
-mul_in-exp_sum-requires t c =
-    (omega (arith, c.requires.0, c.if-left-eq0.false), tt)
-
-pub mul_in-product-requires : goal.mul_in-product-requires
-mul_in-product-requires t c = tt
-
-pub mul_in-lit_in-requires-in-Product : goal.mul_in-lit_in-requires-in-Product
-mul_in-lit_in-requires-in-Product t c = tt
-
-pub mul_in-scaled-requires : goal.mul_in-scaled-requires
-mul_in-scaled-requires t c = tt
-
-pub mul_in-over_exp-requires : goal.mul_in-over_exp-requires
-mul_in-over_exp-requires t c =
-    (omega (arith, c.requires.0, c.if-left-eq0.false), tt)
-
-pub mul_in-over_exps-requires : goal.mul_in-over_exps-requires
-mul_in-over_exps-requires t c =
-    (omega (arith, c.requires.0, c.if-left-eq0.false), tt)
-
-pub mul_in-scales-requires : goal.mul_in-scales-requires
-mul_in-scales-requires t c =
-    (omega (arith, c.requires.0, c.if-left-eq0.false), tt)
-
-pub mul_in-under-requires : goal.mul_in-under-requires
-mul_in-under-requires t c =
-    (omega (arith, c.requires.0, c.if-left-eq0.false), tt)
-
-pub mul_in-times_power-requires : goal.mul_in-times_power-requires
-mul_in-times_power-requires t c =
-    (omega (arith, c.requires.0, c.if-left-eq0.false), tt)
-
-pub mul_in-append-requires : goal.mul_in-append-requires
-mul_in-append-requires t c = tt
-
 pub mul_in-returns-in-Zero : goal.mul_in-returns-in-Zero
 unfolding build
 mul_in-returns-in-Zero t c =
     rw (runs_deeper c.args.left c.if-left-eq0.false)
-    (ruled _ _ mul_term c.mul_rule-rule.ensures c.in-Zero.is
+    (ruled (calls (c.args.left - 1)) _ mul_term c.mul_rule-rule.ensures c.in-Zero.is
     (literal_made _ c.fold.ensures c.lit_in.ensures))
 
 pub mul_in-returns-in-Same : goal.mul_in-returns-in-Same
 unfolding build
 mul_in-returns-in-Same t c =
     rw (runs_deeper c.args.left c.if-left-eq0.false)
-    (ruled _ _ mul_term c.mul_rule-rule.ensures c.in-Same.is
+    (ruled (calls (c.args.left - 1)) _ mul_term c.mul_rule-rule.ensures c.in-Same.is
     refl)
 
 pub mul_in-returns-in-ExpSum : goal.mul_in-returns-in-ExpSum
 mul_in-returns-in-ExpSum t c =
     rw (runs_deeper c.args.left c.if-left-eq0.false)
-    (ruled _ _ mul_term c.mul_rule-rule.ensures c.in-ExpSum.is
+    (ruled (calls (c.args.left - 1)) _ mul_term c.mul_rule-rule.ensures c.in-ExpSum.is
     c.exp_sum.ensures)
 
 pub mul_in-returns-in-Product : goal.mul_in-returns-in-Product
 unfolding build
 mul_in-returns-in-Product t c =
     rw (runs_deeper c.args.left c.if-left-eq0.false)
-    (ruled _ _ mul_term c.mul_rule-rule.ensures c.in-Product.is
+    (ruled (calls (c.args.left - 1)) _ mul_term c.mul_rule-rule.ensures c.in-Product.is
     (literal_made _
     (c.product.ensures ∙ ap folded
     (same_product (to_z-of_z w64 c.in-Product.x (search rules))
@@ -225,7 +135,7 @@ pub mul_in-returns-in-Scaled : goal.mul_in-returns-in-Scaled
 unfolding build
 mul_in-returns-in-Scaled t c =
     rw (runs_deeper c.args.left c.if-left-eq0.false)
-    (ruled _ _ mul_term c.mul_rule-rule.ensures c.in-Scaled.is
+    (ruled (calls (c.args.left - 1)) _ mul_term c.mul_rule-rule.ensures c.in-Scaled.is
     (renumbered no_calls _ (λ z. Mul (lit z) (# c.in-Scaled.c))
     (same_product (to_z-of_z w64 c.in-Scaled.x (search rules))
     (to_z-of_z w64 c.in-Scaled.y (search rules))) c.scaled.ensures))
@@ -233,19 +143,19 @@ mul_in-returns-in-Scaled t c =
 pub mul_in-returns-in-OverExp : goal.mul_in-returns-in-OverExp
 mul_in-returns-in-OverExp t c =
     rw (runs_deeper c.args.left c.if-left-eq0.false)
-    (ruled _ _ mul_term c.mul_rule-rule.ensures c.in-OverExp.is
+    (ruled (calls (c.args.left - 1)) _ mul_term c.mul_rule-rule.ensures c.in-OverExp.is
     c.over_exp.ensures)
 
 pub mul_in-returns-in-OverExps : goal.mul_in-returns-in-OverExps
 mul_in-returns-in-OverExps t c =
     rw (runs_deeper c.args.left c.if-left-eq0.false)
-    (ruled _ _ mul_term c.mul_rule-rule.ensures c.in-OverExps.is
+    (ruled (calls (c.args.left - 1)) _ mul_term c.mul_rule-rule.ensures c.in-OverExps.is
     c.over_exps.ensures)
 
 pub mul_in-returns-in-Scales : goal.mul_in-returns-in-Scales
 mul_in-returns-in-Scales t c =
     rw (runs_deeper c.args.left c.if-left-eq0.false)
-    (ruled _ _ mul_term c.mul_rule-rule.ensures c.in-Scales.is
+    (ruled (calls (c.args.left - 1)) _ mul_term c.mul_rule-rule.ensures c.in-Scales.is
     (renumbered _ _ (λ z. Mul (lit z) (mul (# c.in-Scales.c) (# c.in-Scales.d)))
     (same_product (to_z-of_z w64 c.in-Scales.x (search rules))
     (to_z-of_z w64 c.in-Scales.y (search rules))) c.scales.ensures))
@@ -253,20 +163,20 @@ mul_in-returns-in-Scales t c =
 pub mul_in-returns-in-Under : goal.mul_in-returns-in-Under
 mul_in-returns-in-Under t c =
     rw (runs_deeper c.args.left c.if-left-eq0.false)
-    (ruled _ _ mul_term c.mul_rule-rule.ensures c.in-Under.is
+    (ruled (calls (c.args.left - 1)) _ mul_term c.mul_rule-rule.ensures c.in-Under.is
     c.under.ensures)
 
 pub mul_in-returns-in-Power : goal.mul_in-returns-in-Power
 mul_in-returns-in-Power t c =
     rw (runs_deeper c.args.left c.if-left-eq0.false)
-    (ruled _ _ mul_term c.mul_rule-rule.ensures c.in-Power.is
+    (ruled (calls (c.args.left - 1)) _ mul_term c.mul_rule-rule.ensures c.in-Power.is
     c.times_power.ensures)
 
 pub mul_in-returns-in-Plain : goal.mul_in-returns-in-Plain
 unfolding build
 mul_in-returns-in-Plain t c =
     rw (runs_deeper c.args.left c.if-left-eq0.false)
-    (ruled _ _ mul_term c.mul_rule-rule.ensures c.in-Plain.is
+    (ruled (calls (c.args.left - 1)) _ mul_term c.mul_rule-rule.ensures c.in-Plain.is
     c.append.ensures)
 
 pub over_exp-returns-in_default : goal.over_exp-returns-in_default
@@ -299,12 +209,6 @@ over_exps-returns t c =
     c.mul_in-product.ensures
     c.over_exp.ensures
 
-pub scales-product-requires : goal.scales-product-requires
-scales-product-requires t c = tt
-
-pub scales-lit_in-factor-requires : goal.scales-lit_in-factor-requires
-scales-lit_in-factor-requires t c = tt
-
 pub scales-returns-in_default : goal.scales-returns-in_default
 unfolding build
 scales-returns-in_default t c =
@@ -325,9 +229,6 @@ scales-returns t c =
     ∙ ap folded (same_product (to_z-of_z w64 c.args.x c.ranges.x) (to_z-of_z w64 c.args.y c.ranges.y)))
     c.lit_in-factor.ensures)
     c.under.ensures
-
-pub times_power-pow_sum-power-requires : goal.times_power-pow_sum-power-requires
-times_power-pow_sum-power-requires t c = tt
 
 pub times_power-returns-in_default : goal.times_power-returns-in_default
 unfolding build
@@ -350,9 +251,6 @@ under-returns-in_default t c =
     stopped c.mul_in-product.new.kinds c.mul_in-product.new.words _ _ _
     c.in_default.is
     c.mul_in-product.ensures
-
-pub under-append-requires : goal.under-append-requires
-under-append-requires t c = tt
 
 pub under-returns : goal.under-returns
 unfolding build

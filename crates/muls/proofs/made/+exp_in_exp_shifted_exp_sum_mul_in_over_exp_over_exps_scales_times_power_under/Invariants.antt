@@ -13,9 +13,6 @@ use Rattle.adds.proofs.Runs.{none_left, ruled, renumbered, literal_made}
 use Rattle.mul_rules.specs.Rules.{mul_term}
 use Rattle.muls.specs.Rule.{exp_term}
 use Rattle.muls.proofs.Runs.{same_product}
-use Rattle.muls.proofs.made.+exp_in_exp_shifted_exp_sum_mul_in_over_exp_over_exps_scales_times_power_under.{
-  statement,
-}
 use Rattle.std.proofs.Common.{rules}
 use Rattle.muls.proofs.made.+exp_in_exp_shifted_exp_sum_mul_in_over_exp_over_exps_scales_times_power_under.Given as goal
 

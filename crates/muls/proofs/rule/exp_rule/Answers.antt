@@ -2,7 +2,6 @@
 -- Assumes nothing.
 use borrow.Author.Rules.{rules}
 use mathlib.Core.Path.{◌≡◌, sym, ap, ◌∙◌}
-use mathlib.Core.List.{[], ◌∷◌}
 use mir.Syntax.{w64}
 use mir.Val.{to_z, of_z}
 use mir.ValLaws.{to_z-of_z}
@@ -25,7 +24,7 @@ pub returns-in_default-shape_at : goal.returns-in_default-shape_at
 returns-in_default-shape_at c =
     let at = node_in c.args.kinds.now c.args.words.now in
     exp_of_sum at c.args.arg (sym c.shape_at-shape.ensures ∙ c.in-Add.is)
-    (lit_missed (at c.in-Add.b) c.shape_at.ensures (1 ∷ 2 ∷ 3 ∷ 4 ∷ 5 ∷ []) tt c.in_default-shape_at.keys2)
+    (lit_missed (at c.in-Add.b) c.shape_at.ensures c.in_default-shape_at.not-Lit)
 
 pub returns-else-is_zero : goal.returns-else-is_zero
 returns-else-is_zero c =
@@ -47,5 +46,5 @@ returns-in-Lit-shape_at c =
 pub returns-in_default : goal.returns-in_default
 returns-in_default c =
     let at = node_in c.args.kinds.now c.args.words.now in
-    exp_of_other at c.args.arg (lit_missed (at c.args.arg) c.shape_at-shape.ensures (2 ∷ 3 ∷ 4 ∷ 5 ∷ []) tt c.in_default.in_default-own.keys3)
-    (add_missed (at c.args.arg) c.shape_at-shape.ensures (2 ∷ 3 ∷ 4 ∷ 5 ∷ []) tt c.in_default.in_default-own.keys3)
+    exp_of_other at c.args.arg (lit_missed (at c.args.arg) c.shape_at-shape.ensures c.in_default.not-Lit)
+    (add_missed (at c.args.arg) c.shape_at-shape.ensures c.in_default.not-Add)
