@@ -2,10 +2,8 @@
 -- Assumes nothing.
 use mathlib.Core.Bool.{Bool, true, false}
 use mathlib.Core.Path.{◌≡◌, refl}
-use mathlib.Core.List.{List, [], ◌∷◌}
 use Prim.Native.Nat.{ℕ}
 use lib.IntN.{ℤ, pos}
-use types.Run.{OneOf}
 use Rattle.literal.specs.Literal.{is_zero, is_one}
 use Rattle.pool.specs.declared.node.Node.{Node}
 use Rattle.constructors.specs.Terms.{Term, #, lit, lit-log, add, log, Log, Div, Arm, skip, leave, return, ◌>>=◌, ◌>>◌}
@@ -15,16 +13,7 @@ use Rattle.views.specs.Shapes.{shape_of}
 use Rattle.views.specs.declared.Shape.{Shape}
 use Rattle.views.specs.declared.Shape.TheVariants as shape
 use Rattle.views.proofs.Patterns.{lit_of, lit_seen}
-use Rattle.adds.proofs.Parts.{kind}
-use Rattle.views.proofs.Missed.{lit_missed, mul_missed}
 use Rattle.logs.specs.Rule.{guarded}
-
--- every kind but Lit and Mul
-abbrev pub not_lit_or_mul : List ℕ
-not_lit_or_mul = 1 ∷ 3 ∷ 4 ∷ 5 ∷ []
-
-pub neither_found : (n : Node) {s : Shape} → s ≡ shape_of n → OneOf not_lit_or_mul (kind s) → (lit_in n ≡ skip) × (mul_in n ≡ skip)
-neither_found n seen k = (lit_missed n seen not_lit_or_mul tt k, mul_missed n seen not_lit_or_mul tt k)
 
 -- the table of `log`
 module _ (at : ℕ → Node) (arg : ℕ) where
