@@ -4,8 +4,8 @@ use mathlib.Core.Path.{◌≡◌, refl, ap, ◌∙◌}
 use mathlib.Core.List.{List, ◌++◌}
 use Prim.Native.Nat.{ℕ, ◌-◌, ◌<◌, ◌≤◌}
 use native.Mathlib.Omega.{arith}
-use lib.ListN.{length, take, drop, length-take}
-use lib.Seq.{length-sets, take_all, take-length, take-append_seam}
+use lib.ListN.{length, take, drop}
+use lib.Seq.{length-sets, take_all, take-append_seam}
 use Rattle.text.specs.Text.{Contains, content, room}
 use Rattle.text.specs.declared.Text.{Text}
 use Rattle.text.proofs.Fronts.{written_length}
@@ -18,9 +18,6 @@ pub rest_of_text : {at to : ℕ} {l l' : List ℕ} (t : Text) → Contains t (co
 rest_of_text t h w =
     let short : length (content t) ≤ room - t.start = omega (arith, written_length t (content t) h) in
     rw (take_all (room - t.start) (content t) short) at w
-
-pub part_fits : (n : ℕ) (l out : List ℕ) → n ≤ length out → length (take n l) ≤ length out
-part_fits n l out h = omega (arith, length-take n l)
 
 module _ {text : List ℕ} {to : ℕ} {kept kept' : List ℕ} (w : Wrote 0 kept text to kept') (out : List ℕ) where
   pub not_put_too_long : longest_text < to → Printed text out to out
@@ -72,8 +69,8 @@ module _ {text : List ℕ} {to : ℕ} {kept kept' : List ℕ} (w : Wrote 0 kept 
       put_again v = in_front (in_place text v (omega (arith, whole)) (omega (arith, whole)))
 
       -- copied from where it was kept
-      pub put_copied : to ≤ length kept' → out' ≡ take (length (take to kept')) (take to kept') ++ drop (length (take to kept')) out → Printed text out to out'
+      pub put_copied : to ≤ length kept' → out' ≡ take to kept' ++ drop to out → Printed text out to out'
       put_copied fits e =
           let same : length kept' ≡ length kept = ap length (w.bytes (omega (arith, whole))) ∙ length-sets kept 0 text in
           let front : take to kept' ≡ text = rw (in_place text w (omega (arith, whole, same)) (omega (arith, whole)), ← whole) (take-append_seam text (drop (length text) kept)) in
-          in_front (e ∙ rw (take-length (take to kept'), front))
+          in_front (e ∙ rw (whole, front))
