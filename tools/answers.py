@@ -165,7 +165,7 @@ class Function:
             tails = [k for k in self.sigs if k.split("::")[0] == callee.split("::")[0] and k.split("::")[-1] == callee.split("::")[-1]]
             sig = self.sigs[tails[0]] if len(tails) == 1 else None
         if sig and rest[:1] == ["new"] and rest[1:] and rest[1].isdigit():
-            muts = sig[1]
+            muts = sig[0]
             for i, m in enumerate(muts):
                 t = tuple_path(i, len(muts), True)
                 if rest[1:1 + len(t)] == t:
@@ -177,7 +177,7 @@ class Function:
                 if rest[1:1 + len(t)] == t and m:
                     return [new, "ensures", m] + rest[1 + len(t):], False
         if sig and rest[:1] == ["auto"] and rest[1:] and rest[1].isdigit():
-            muts = sig[1]
+            muts = sig[0]
             for i, m in enumerate(muts):
                 t = tuple_path(i, len(muts), True)
                 if rest[1:1 + len(t)] == t:
