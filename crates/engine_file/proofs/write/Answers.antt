@@ -38,10 +38,10 @@ pub returns-in-Bytes : goal.returns-in-Bytes
 returns-in-Bytes c =
     file_there c.take_in.ensures c.args.root c.args.out.now
     (c.if-not-take_in.false) (sym c.one_given.ensures ∙ c.if-not-one_given.false)
-    c.write_file.new.1.1.1.0 c.in-Bytes.is c.write_file.ensures
+    c.write_file.new.out c.in-Bytes.is c.write_file.ensures
 
 pub returns-in-NoRoom : goal.returns-in-NoRoom
 returns-in-NoRoom c =
     no_room_there c.take_in.ensures c.args.root c.args.out.now
     (c.if-not-take_in.false) (sym c.one_given.ensures ∙ c.if-not-one_given.false)
-    c.write_file.new.1.1.1.0 c.in-NoRoom.is c.write_file.ensures
+    c.write_file.new.out c.in-NoRoom.is c.write_file.ensures
