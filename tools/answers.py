@@ -326,7 +326,7 @@ def rewrite(body, f, place, said, var="c", need=None, used=None):
             line = m.group(1).rstrip(" ") + (" " if m.group(1).strip() and m.group(5) else "") + (m.group(5) or "") if m.group(1).strip() else (m.group(1) + m.group(5) if m.group(5) else "")
         if line.strip() or not out:
             out.append(pattern.sub(path, line))
-    return re.sub(r"\(record \{ sfits = c\.known_told[\w-]*\.given[.\d]* \}\)", "(search rules)", re.sub(r"not-(?:true|false) _ (c\.if-not-[\w'-]+\.(?:true|false))", r"\1", "\n".join(out)))
+    return re.sub(r"\(record \{ sfits = c\.known_told[\w-]*\.given[.\d]* \}\)", "(search rules)", re.sub(r"not-(?:true|false) (?:\([^()]*\)|\S+) (c\.if-not-[\w'-]+\.(?:true|false))", r"\1", "\n".join(out)))
 
 
 def parts_of(t):
