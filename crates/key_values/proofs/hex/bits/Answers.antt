@@ -1,0 +1,13 @@
+-- `key_values::hex::bits` meets its contract: the length is asked first.
+-- Assumes nothing.
+use borrow.Author.Rules.{rules}
+use mathlib.Core.Path.{◌∙◌, ap}
+use Rattle.key_values.specs.Filled.{number_read}
+use Rattle.key_values.proofs.HexDigits.{as_many, not_as_many}
+use Rattle.key_values.proofs.hex.bits.Goals as goal
+
+pub returns-then-bytes-eq-BITS_DIGITS : goal.returns-then-bytes-eq-BITS_DIGITS
+returns-then-bytes-eq-BITS_DIGITS c = c.hex.ensures ∙ ap number_read (as_many c.args.bytes.now c.if-bytes-eq-BITS_DIGITS.true)
+
+pub returns : goal.returns
+returns c = not_as_many c.args.bytes.now c.if-bytes-eq-BITS_DIGITS.false

@@ -1,0 +1,26 @@
+-- `number_list::tables::next_bytes` returns: each turn counts up to n. A table keeps its length.
+-- Assumes nothing.
+use mathlib.Core.Path.{◌≡◌, refl}
+use Prim.Native.Nat.{◌-◌}
+use native.Mathlib.Omega.{arith}
+use lib.ListN.{length}
+use borrow.Author.Rules.{rules}
+use Rattle.number_list.proofs.tables.next_bytes.Goals as goal
+
+pub loop-i-init : goal.loop-i-init
+loop-i-init c = refl
+
+pub next-requires : goal.next-requires
+next-requires c = tt
+
+pub byte_of-requires : goal.byte_of-requires
+byte_of-requires c = tt
+
+pub set_byte-requires : goal.set_byte-requires
+set_byte-requires c = tt
+
+pub shape_of-out : goal.shape_of-out
+shape_of-out c = c.loop-i.invariant
+
+pub returns : goal.returns
+returns c = tt
