@@ -1,0 +1,25 @@
+-- `taylor_quotients::exp::exp_in` meets its contract: a constant, or a list.
+-- Assumes nothing.
+use borrow.Author.Rules.{rules}
+use mathlib.Core.Bool.{false}
+use mathlib.Core.Path.{◌≡◌}
+use Rattle.pool.specs.Made.{pool_of}
+use Rattle.taylor_base.proofs.Operations.{given_coded, all_entries}
+use Rattle.taylor_base.proofs.Lists.{constant_answers, lists_answer, answers_same}
+use Rattle.taylor_quotients.proofs.Quotients.{exp_is}
+use Rattle.taylor_quotients.proofs.exp.exp_in.Goals as goal
+
+pub returns-then-e : goal.returns-then-e
+returns-then-e c =
+    rw c.if-e.true (constant_answers c.exp_in.result c.exp_in.new.kinds c.exp_in.new.words c.answer_of.ensures c.exp_in.ensures)
+
+pub recurrence_in-requires : goal.recurrence_in-requires
+recurrence_in-requires c =
+    all_entries c.args.e (given_coded c.requires (search rules) c.if-e.false)
+
+pub returns : goal.returns
+returns c =
+    let test = c.if-e.false in
+    rw test
+    (answers_same (lists_answer c.recurrence_in.ensures)
+    (exp_is c.args.e (given_coded c.requires (search rules) test) (pool_of c.args.kinds.now c.args.words.now c.args.room)))

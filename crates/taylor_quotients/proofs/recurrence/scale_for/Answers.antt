@@ -1,0 +1,16 @@
+-- `taylor_quotients::recurrence::scale_for` meets its contract, by the operation.
+-- Assumes nothing.
+use borrow.Author.Rules.{rules}
+use Rattle.taylor_quotients.proofs.recurrence.scale_for.Goals as goal
+
+pub returns-in-ConstantOver : goal.returns-in-ConstantOver
+returns-in-ConstantOver c = rw c.in-ConstantOver.is c.scale_in.ensures
+
+pub returns-in-ListOver : goal.returns-in-ListOver
+returns-in-ListOver c = rw c.in-ListOver.is c.scale_in-in-ListOver.ensures
+
+pub returns-in-Exp : goal.returns-in-Exp
+returns-in-Exp c = rw c.in-Exp.is
+
+pub returns-in-Log : goal.returns-in-Log
+returns-in-Log c = rw c.in-Log.is

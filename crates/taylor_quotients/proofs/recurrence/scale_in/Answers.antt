@@ -1,0 +1,14 @@
+-- `taylor_quotients::recurrence::scale_in` meets its contract: it is the definition, step by step.
+-- Assumes nothing.
+use borrow.Author.Rules.{rules}
+use Rattle.taylor_base.proofs.Steps.{onward, handed_on}
+use Rattle.taylor_quotients.proofs.recurrence.scale_in.Goals as goal
+
+pub returns-in_default : goal.returns-in_default
+returns-in_default c =
+    handed_on c.from_in-one.new.kinds c.from_in-one.new.words _ _ _ c.in_default.is c.from_in-one.ensures
+
+pub returns : goal.returns
+returns c =
+    onward c.from_in-one.new.kinds c.from_in-one.new.words _ c.in-Node.is c.from_in-one.ensures
+    c.div_in.ensures
