@@ -1,7 +1,7 @@
 -- The residues of a modulus as an algebra, with document 01's sums, products and quotients. Where there is no quotient it is 0; every exponential is 1, every logarithm 0 and every maximum the first argument: evaluation by residues refuses all of these.
 -- Assumes nothing.
 use Rattle.std.specs.Prelude.{◌≡◌, true, List, ℕ, ◌+◌, ◌*◌, ◌%◌, ◌≤◌, ltb, get_or}
-use Rattle.std.proofs.Common.{mod-lt, arith, lt-ltb}
+use Rattle.std.proofs.Common.{mod-lt, lt_of_lt_of_le, zero-lt-suc, lt-ltb}
 use Rattle.residue.specs.Residue.{residue, quotient_of}
 use Rattle.residue.specs.declared.Divided.{Divided}
 use Rattle.residue.specs.declared.Divided.TheVariants.{Residue, Refused}
@@ -14,7 +14,7 @@ Residues m = (a : ℕ) × (ltb a m ≡ true)
 
 module _ (m : ℕ) (some : 2 ≤ m) where
   unfoldable pub reduced : ℕ → Residues m
-  reduced a = (a % m, lt-ltb (a % m) m (mod-lt a (omega arith)))
+  reduced a = (a % m, lt-ltb (a % m) m (mod-lt a (lt_of_lt_of_le (zero-lt-suc 1) some)))
 
   -- a quotient, or 0 where there is none
   abbrev pub or_zero : Divided → ℕ

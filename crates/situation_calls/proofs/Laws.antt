@@ -46,6 +46,7 @@ is_checked (true ∷ tests) (j ∷ checks) k e = inr (is_checked tests checks k 
 is_checked (false ∷ tests) (j ∷ checks) k e = inl (cc)
 
 in_first : (ks ms : List ℕ) (k : ℕ) → OneOf ks k → OneOf (ks ++ ms) k
+in_first [] ms k x = elim x [ ]
 in_first (j ∷ ks) ms k (inl e) = inl e
 in_first (j ∷ ks) ms k (inr h) = inr (in_first ks ms k h)
 
@@ -71,6 +72,7 @@ positive (zero ∷ ks) = false
 positive (suc k ∷ ks) = positive ks
 
 pub not_zero : (ks : List ℕ) → positive ks ≡ true → OneOf ks 0 → ⊥
+not_zero [] p h = elim h [ ]
 not_zero (zero ∷ ks) p h = let z : ◌≡◌ {A = ℕ} 0 1 = cc in omega arith
 not_zero (suc j ∷ ks) p (inl e) = omega arith
 not_zero (suc j ∷ ks) p (inr h) = not_zero ks p h

@@ -182,8 +182,8 @@ module _ (ks ws : List ℕ) (n : ℕ) (fit : (i : ℕ) → get_or ws i 0 < 2 ^ 6
   pub of_calls : OfCalls ks ws n
   of_calls =
       record {
-        lit_call = λ z. leaf_call (is_literal z) not_literal (node.Lit z) ((append_refuses (inl refl) (node.Lit z)).refuses P);
-        var_call_lem = λ v. leaf_call (leb v greatest_variable) unknown_variable (node.Variable v) ((append_refuses (inl refl) (node.Variable v)).refuses P);
+        lit_call = λ z. leaf_call (is_literal z) not_literal (node.Lit z) ((append_refuses {ks = met table.lit} (inl refl) (node.Lit z)).refuses P);
+        var_call_lem = λ v. leaf_call (leb v greatest_variable) unknown_variable (node.Variable v) ((append_refuses {ks = met table.var} (inl refl) (node.Variable v)).refuses P);
         add_call_lem = λ a b. constructor_call (a ∷ b ∷ []) ((calls depth).add_at a b) (λ r. (of_constructors_lem P r).add_meets a b);
         mul_call_lem = λ a b. constructor_call (a ∷ b ∷ []) ((calls depth).mul_at a b) (λ r. (of_constructors_lem P r).mul_meets a b);
         div_call_lem = λ a b. constructor_call (a ∷ b ∷ []) ((calls depth).div_at a b) (λ r. (of_constructors_lem P r).div_meets a b);

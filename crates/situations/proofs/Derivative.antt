@@ -87,7 +87,7 @@ last_meets : (f x : ℕ) (Q : Pool) → Literal f Q → Among of_folding (of_res
 unfolding calls build
 last_meets f x Q l =
     answered_meets ((calls depth).mul_at f x Q)
-    ((times_literal full (calls (depth - 1)) (node_at Q) f x l.number (λ b h. record { made = folded_refuses full (inl refl) (l.number *ℤ b) }) (literals_in_range Q) l.is).made.refuses Q)
+    ((times_literal {ks = of_folding} full (calls (depth - 1)) (node_at Q) f x l.number (λ b h. record { made = folded_refuses {ks = of_folding} full (inl refl) (l.number *ℤ b) }) (literals_in_range Q) l.is).made.refuses Q)
   where
     full : OneOf of_folding pool_full
     full = inr (inl refl)

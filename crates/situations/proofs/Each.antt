@@ -88,11 +88,11 @@ module _ {c : Calls} (at : ℕ → Node) where
       quotient_made
     where
       quotient_made : Making of_appending c (Terms.Div (# lhs) (# rhs))
-      quotient_made = record { made = record { refuses = (append_refuses appending_full (node.Div lhs rhs)).refuses } }
+      quotient_made = record { made = record { refuses = (append_refuses {ks = of_appending} appending_full (node.Div lhs rhs)).refuses } }
 
   max_table_lem : (lhs rhs : ℕ) → Making of_appending c (max_table at lhs rhs)
   unfolding build
-  max_table_lem lhs rhs = record { made = record { refuses = (append_refuses appending_full (node.Max lhs rhs)).refuses } }
+  max_table_lem lhs rhs = record { made = record { refuses = (append_refuses {ks = of_appending} appending_full (node.Max lhs rhs)).refuses } }
 
   pow_table_lem : (base e : ℕ) → Making of_appending c (pow_table at base e)
   unfolding pow_table build
@@ -105,7 +105,7 @@ module _ {c : Calls} (at : ℕ → Node) where
       power_made
     where
       power_made : Making of_appending c (Terms.Pow (# base) e)
-      power_made = record { made = record { refuses = (append_refuses appending_full (node.Pow base e)).refuses } }
+      power_made = record { made = record { refuses = (append_refuses {ks = of_appending} appending_full (node.Pow base e)).refuses } }
 
 module _ (left : ℕ) where
   pub div_refuses : (lhs rhs : ℕ) → Refusing of_appending ((calls (suc left)).div_at lhs rhs)
@@ -135,7 +135,7 @@ pub neg_refuses : (left arg : ℕ) (P : Pool) → Long P → Among of_appending 
 unfolding calls build folded
 neg_refuses left arg P l =
     append_comes_to (λ o. Among of_appending (of_out (bind o (λ i Q. (calls (suc left)).mul_at i arg Q)))) (node.Lit (negsuc 0)) P
-    (λ room below. (unit_product appending_full (calls left) (appended (node.Lit (negsuc 0)) P) P.count arg (negsuc 0) refl (appended_there P l below (negsuc 0) refl)).made.refuses (appended (node.Lit (negsuc 0)) P))
+    (λ room below. (unit_product {ks = of_appending} appending_full (calls left) (appended (node.Lit (negsuc 0)) P) P.count arg (negsuc 0) refl (appended_there P l below (negsuc 0) refl)).made.refuses (appended (node.Lit (negsuc 0)) P))
     appending_full
 
 -- ---- exp and log
@@ -157,13 +157,13 @@ record MakingOn (P : Pool) (c : Calls) (t : Term) : Type 0 where
 one_times : (left : ℕ) (R : Pool) (i j : ℕ) → node_at R i ≡ node.Lit (pos 1) → Among of_exp_log (of_out ((calls left).mul_at i j R))
 unfolding calls
 one_times zero R i j e = exp_log_deep
-one_times (suc left) R i j e = (unit_product exp_log_full (calls left) R i j (pos 1) refl e).made.refuses R
+one_times (suc left) R i j e = (unit_product {ks = of_exp_log} exp_log_full (calls left) R i j (pos 1) refl e).made.refuses R
 
 -- add(.., 0)
 plus_zero : (left : ℕ) (R : Pool) (i j : ℕ) → node_at R j ≡ node.Lit (pos 0) → Among of_exp_log (of_out ((calls left).add_at i j R))
 unfolding calls
 plus_zero zero R i j e = exp_log_deep
-plus_zero (suc left) R i j e = (add_zero exp_log_full (calls left) (node_at R) i j e).made.refuses R
+plus_zero (suc left) R i j e = (add_zero {ks = of_exp_log} exp_log_full (calls left) (node_at R) i j e).made.refuses R
 
 -- exp of a sum whose right part is the literal b
 exp_of_sum : (left : ℕ) → ByExpLog (calls left).exp_at → (P : Pool) → Long P → (b : ℤ) (a : ℕ) → MakingOn P (calls left) (Terms.mul (lit-exp b) (Terms.exp (# a)))
@@ -202,25 +202,25 @@ log_of_product left less P l b a = record { on = after ((calls left).log_at b P)
 module _ (left : ℕ) (P : Pool) (l : Long P) (arg : ℕ) where
   small_on : (z : ℤ) → is_literal z ≡ true → MakingOn P (calls left) (lit z)
   unfolding build
-  small_on z h = record { on = (literal_refuses exp_log_full z h).refuses P }
+  small_on z h = record { on = (literal_refuses {ks = of_exp_log} exp_log_full z h).refuses P }
 
   exp_table_lem : ByExpLog (calls left).exp_at → MakingOn P (calls left) (exp_table (node_at P) arg)
   unfolding exp_arms build
   exp_table_lem less =
       ◌then◌ {H = MakingOn P (calls left)}
       ((found (lit? (node_at P) arg) >>= (λ a _. is_zero a >> return (small_on (pos 1) refl)))
-      or (found (lit? (node_at P) arg) >>= (λ a _. return (record { on = (exp_of_refuses exp_log_full (inl refl) a).refuses P })))
+      or (found (lit? (node_at P) arg) >>= (λ a _. return (record { on = (exp_of_refuses {ks = of_exp_log} exp_log_full (inl refl) a).refuses P })))
       or (found (add? (node_at P) arg) >>= (λ (a, b) _. inside (found (lit? (node_at P) b) >>= (λ b _. return (exp_of_sum left less P l b a))))))
-      (record { on = (append_refuses exp_log_full (node.Exp arg)).refuses P })
+      (record { on = (append_refuses {ks = of_exp_log} exp_log_full (node.Exp arg)).refuses P })
 
   log_table_lem : ByExpLog (calls left).log_at → MakingOn P (calls left) (log_table (node_at P) arg)
   unfolding log_arms build
   log_table_lem less =
       ◌then◌ {H = MakingOn P (calls left)}
       ((found (lit? (node_at P) arg) >>= (λ a _. is_one a >> return (small_on (pos 0) refl)))
-      or (found (lit? (node_at P) arg) >>= (λ a _. return (record { on = (log_of_refuses exp_log_full (inl refl) a).refuses P })))
+      or (found (lit? (node_at P) arg) >>= (λ a _. return (record { on = (log_of_refuses {ks = of_exp_log} exp_log_full (inl refl) a).refuses P })))
       or (found (mul? (node_at P) arg) >>= (λ (a, b) _. inside (found (lit? (node_at P) a) >>= (λ a _. return (log_of_product left less P l b a))))))
-      (record { on = (append_refuses exp_log_full (node.Log arg)).refuses P })
+      (record { on = (append_refuses {ks = of_exp_log} exp_log_full (node.Log arg)).refuses P })
 
 pub exp_refuses : (left : ℕ) → ByExpLog (calls left).exp_at
 unfolding calls

@@ -111,7 +111,7 @@ module _ (P₀ : Pool) (long : Long P₀) (v : ℕ) (x : Point) (order : ℕ) wh
   made g = lift_tame P₀ and_max long (wider of_constructors and_max (λ k h. inr h) g)
 
   point_holds : (x : Point) → Holding (refusing_by of_constructors) (point_node v x)
-  point_holds none = called of_constructors (append_grows (Variable v)) (λ P l. (append_refuses pool_full_lem (Variable v)).refuses P)
+  point_holds none = called of_constructors (append_grows (Variable v)) (λ P l. (append_refuses {ks = of_constructors} pool_full_lem (Variable v)).refuses P)
   point_holds (point z) = every_constructor.lit_holds z
 
   variable_tame : (sought : Bool) (term : ℕ) → Expanded (of_variable sought term v x order)

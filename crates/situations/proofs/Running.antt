@@ -109,6 +109,8 @@ key_answers values places (Mul a b) is may = tt
 key_answers values places (Div a b) is may = tt
 key_answers values places (Pow a e) is may = tt
 key_answers values places (Max a b) is may = tt
+key_answers values places (Exp a) is may = elim may [ ]
+key_answers values places (Log a) is may = elim may [ ]
 
 -- of the four tests of a key the first, and the test of the rest
 first_and_rest : (a b c t : Bool) → (a && (b && (c && t))) ≡ true → (a ≡ true) × (t ≡ true)

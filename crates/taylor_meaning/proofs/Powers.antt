@@ -55,7 +55,7 @@ module _ {A : Algebra} (M : Model A) (D : Distributive A) (env : Values A) where
       none : (e : ℕ) → e < 2 ^ 0 → e ≡ 0
       none e h = omega arith
   pow_from_gives {n} {r} {b} {res} {base} (suc fuel) e P small k hr hb =
-      gives_next (odd_gives e k hr hb) (λ res2 Q k_q g_q h2. go res2 Q k_q (expands_later k g_q hb) h2 (λ Q' res2' base2 k' h2' hb2. pow_from_gives fuel (e / 2) Q' (half e (2 ^ fuel) bound) k' h2' hb2) (eqb (e / 2) 0) refl)
+      gives_next (odd_gives e k hr hb) (λ res2 Q k_q g_q h2. go res2 Q k_q (expands_later k g_q hb) h2 (λ Q' res2' base2 k' h2' hb2. pow_from_gives {r = times_series A r (pow b (e % 2))} {b = times_series A b b} fuel (e / 2) Q' (half e (2 ^ fuel) bound) k' h2' hb2) (eqb (e / 2) 0) refl)
     where
       bound : e < 2 ^ fuel * 2
       bound = rw (sym (pow-suc 2 fuel)) small
