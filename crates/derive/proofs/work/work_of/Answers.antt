@@ -1,0 +1,38 @@
+-- `work_of` finds what the definition does at a node, arm by arm.
+-- Assumes nothing.
+use mathlib.Core.Path.{ap, ◌∙◌}
+use mir.Syntax.{w64}
+use mir.ValLaws.{to_z-of_z}
+use borrow.Author.Rules.{rules}
+use Rattle.walks.specs.Derive.{lit}
+use Rattle.derive.proofs.work.work_of.Goals as goal
+
+pub returns-in-Empty : goal.returns-in-Empty
+returns-in-Empty c down term = rw c.in-Empty.is
+
+pub returns-in-Variable : goal.returns-in-Variable
+returns-in-Variable c down term = rw c.in-Variable.is (ap lit (to_z-of_z w64 c.slope.result (record { sfits = c.slope.type_inv }) ∙ c.slope.ensures))
+
+pub returns-in-Lit : goal.returns-in-Lit
+returns-in-Lit c down term = rw c.in-Lit.is
+
+pub returns-in-Add : goal.returns-in-Add
+returns-in-Add c down term = rw c.in-Add.is
+
+pub returns-in-Mul : goal.returns-in-Mul
+returns-in-Mul c down term = rw c.in-Mul.is
+
+pub returns-in-Div : goal.returns-in-Div
+returns-in-Div c down term = rw c.in-Div.is
+
+pub returns-in-Exp : goal.returns-in-Exp
+returns-in-Exp c down term = rw c.in-Exp.is
+
+pub returns-in-Log : goal.returns-in-Log
+returns-in-Log c down term = rw c.in-Log.is
+
+pub returns-in-Pow : goal.returns-in-Pow
+returns-in-Pow c down term = rw c.in-Pow.is
+
+pub returns-in-Max : goal.returns-in-Max
+returns-in-Max c down term = rw c.in-Max.is
