@@ -52,6 +52,7 @@ class Function:
     def __init__(self, data, sigs):
         self.data = data
         self.sigs = sigs
+        self.own = None
         self.places, self.arms, self.typed, self.callee, self.named = {}, {}, {}, {}, {}
         for i, row in enumerate(data["places"]):
             name, parent, (old, new) = row[0], row[1], row[2]
@@ -281,6 +282,12 @@ def rewrite(body, f, place, said, var="c", need=None, used=None):
             return record(p)
         if norm(left[0]) in START and norm(left[0]) != "requires":
             left[0] = left[0].replace("-", "_")
+            if left[0] in ("args", "ranges") and len(left) > 1 and f.own:
+                m2 = re.match(r"^t(\d+)$", left[1])
+                if left[1] not in f.own[0] and m2 and int(m2.group(1)) <= len(f.own[0]):
+                    left[1] = f.own[0][int(m2.group(1)) - 1]
+                if left[1] == "result" and "result" not in f.own[0] and "res" in f.own[0]:
+                    left[1] = "res"
             return ".".join([var] + left)
         new, partial = f.translate(p, left)
         if partial:
@@ -318,6 +325,8 @@ def rewrite(body, f, place, said, var="c", need=None, used=None):
             if left[1:] == ["ensures"]:
                 sig = f.sig_of(f.callee.get(f.owner(p, left[0])))
                 is_part = is_part or bool(sig) and len(sig[2]["ensures"]) > 1
+            if left == ["args"]:
+                is_part = True
             if [norm(x) for x in left] == ["requires"]:
                 is_part = len((f.data.get("pre") or {}).get("fields") or []) > 1
             if not (is_place or is_part):
@@ -498,9 +507,9 @@ def turn(crate, where, f, said, prefix=None):
             text2 = rewrite(after, f, place, said, c, new, used)
             text2 = as_record(text2, f.data["asked"].get(f.old_of[new], []))
             text2 = substitute(text2, {k: v for k, v in answer_names.items() if k != v and k not in alias_words(text2)})
-            ans.append("\n".join(comments + [f"pub {new} : goal.{new}"] + unf + [f"{new} {c} ={text2}"]).rstrip())
+            ans.append("\n".join(comments + [f"pub {new} : goal.{new}"] + unf + [f"{new} {' '.join(x for x in args if not x.startswith('κ'))} ={text2}"]).rstrip())
             continue
-        m = re.search(r"\((" + W + r") : (?:tie|lts)\.(" + W + r")\)", "\n".join(b["lines"]))
+        m = re.search(r"\((" + W + r") : (?:tie|lts)\.(" + W + r")(?: invariant\S* decreases\S*?)*\)", "\n".join(b["lines"]))
         if m:
             want = [p for p in f.places if norm(p) == norm(m.group(2))]
             if want:
@@ -509,7 +518,7 @@ def turn(crate, where, f, said, prefix=None):
                 want = whole or want
                 used.add(f.named[want[0]])
                 t = rewrite("\n".join(b["lines"]).rstrip(), f, want[0], said, m.group(1), None, used)
-                t = re.sub(r": (?:tie|lts)\." + re.escape(m.group(2)), ": " + f.named[want[0]], t)
+                t = re.sub(r": (?:tie|lts)\." + re.escape(m.group(2)) + r"(?: invariant\S* decreases\S*?)*(?=\))", ": " + f.named[want[0]], t)
                 helpers.append("\n".join(comments + [t]))
                 continue
             said.append(f"no place {m.group(2)}")
@@ -688,7 +697,9 @@ def main():
             continue
         said = []
         try:
-            turn(crate, where, Function(data, sigs), said)
+            f = Function(data, sigs)
+            f.own = f.sig_of(name + "::" + where.replace("/", "::"))
+            turn(crate, where, f, said)
         except Exception as e:
             said.append(f"not turned: {type(e).__name__} {e}")
         for s in said:
