@@ -13,9 +13,12 @@ use Rattle.lent_series.proofs.call.finish.Goals as goal
 
 pub finish-answer-requires : goal.finish-answer-requires
 finish-answer-requires c =
-    record { count_value = c.requires.count_value; appended = rw c.made_of-made.ensures
+    record {
+      count_value = c.requires.count_value;
+      appended = rw c.made_of-made.ensures
           (appended_made c.args.kinds.now c.args.words.now c.args.count.now c.args.k.now c.args.w.now (expansion_of c.args.res.expansion)
-          c.args.res.status c.requires.appended) }
+          c.args.res.status c.requires.appended);
+    }
 
 pub returns-in-Node : goal.returns-in-Node
 returns-in-Node c =
