@@ -265,6 +265,8 @@ def rewrite(body, f, place, said, var="c", need=None, used=None):
 
     def record(p):
         """A place as a value."""
+        if need is not None:
+            return f"(goal.at.{need} {var}).{f.named.get(p, p)}"
         k, q = 0, place
         while q is not None and q != p:
             q, k = f.places[q][0], k + 1
@@ -655,7 +657,7 @@ def turn_cycle(crate, where, members, sigs, said):
             if re.match(r"(enum_known|enum_told)", new) and re.search(r"\.keys?\d", after) or new.endswith("requires") and re.match(r"^\(\s*omega.*,\s*tt\s*\)$", re.sub(r"let start = \S+ in", "", re.sub(r"\s+", " ", after)).strip()):
                 continue
             c = args[-1]
-            t2 = rewrite(after, f, place, said, c, full, used)
+            t2 = rewrite(after, f, place, said, c, full + ''.join(' ' + x for x in args[:-1]), used)
             t2 = as_record(t2, f.data["asked"].get(f.old_of[new], []))
             t2 = substitute(t2, {k: v for k, v in answer_names.items() if k != v and k not in alias_words(t2)})
             ans.append("\n".join(comments + [f"pub {full} : goal.{full}"] + unf + [f"{full} {' '.join(args)} ={t2}"]).rstrip())

@@ -21,5 +21,5 @@ asked_point a = point_in (get_or a 2 0) (get_or a 3 0)
 -- the four words ask for that
 pub record Asks (a : List ℕ) (v : ℕ) (x : Point) (order : ℕ) : Type 0 where
   pub variable : asked_variable a ≡ v
-  pub at_point_lem : asked_point a ≡ x
+  pub at_point : asked_point a ≡ x
   pub of_order : asked_order a ≡ order

@@ -1,6 +1,5 @@
 -- What has been read is within the room, whose length stays, and each turn reads a byte at least.
-use Rattle.std.proofs.Common.{length, ◌-◌, ◌≤◌, ◌≡◌, ℕ, ◌+◌, ◌*◌, ◌<◌}
-use Rattle.inputs.specs.Rooms.{Within, More, Decides}
+use Rattle.std.proofs.Common.{length, ◌-◌, ◌≤◌}
 use Rattle.inputs.proofs.read_input.Given as goal
 
 abbrev pub invariant-loop-done : goal.invariant-loop-done
