@@ -1,6 +1,6 @@
 #!/usr/bin/env python3
 """Brings this repository's own names in specs/, proofs/ and contracts to the spelling of today's Rattle, after port.py: words in snake case, a dash or a capital inside a word becomes '_'.
-usage: tools/respell.py [ROOT]. Functions of src/, types, modules, strings and names of the kit stay. It says which names would fall together, and writes tools/respelled.txt: old name, new name."""
+usage: tools/respell.py [ROOT]. Functions of src/, types, modules, strings and names of the kit stay. It says which names would fall together, and writes respelled.txt beside this script where there is none: old name, new name. respell_rest.py then turns what this pass did not see."""
 import collections
 import os
 import re
@@ -182,10 +182,12 @@ def main():
     for new, olds in sorted(by_new.items()):
         if len(olds) > 1 or new in own:
             print("falls together:", new, "<-", " ".join(sorted(olds)), "(there already)" if new in own else "")
-    with open(os.path.join(ROOT, "tools", "respelled.txt"), "w") as f:
-        for new, olds in sorted(by_new.items()):
-            for old in sorted(olds):
-                f.write(f"{old} {new}\n")
+    table = os.path.join(os.path.dirname(os.path.realpath(__file__)), "respelled.txt")
+    if not os.path.exists(table):
+        with open(table, "w") as f:
+            for new, olds in sorted(by_new.items()):
+                for old in sorted(olds):
+                    f.write(f"{old} {new}\n")
     print(sum(len(o) for o in by_new.values()), "names respelled")
 
 

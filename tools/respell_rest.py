@@ -1,5 +1,5 @@
 #!/usr/bin/env python3
-"""Second pass of respell.py: names that it respelled where they are declared (tools/respelled.txt) and that other files still have in the old spelling.
+"""Second pass of respell.py: names that it respelled where they are declared (respelled.txt beside this script) and that other files still have in the old spelling.
 usage: tools/respell_rest.py [ROOT]. Labels behind a dot and goals of functions stay."""
 import os
 import re
@@ -8,7 +8,7 @@ import sys
 ROOT = sys.argv[1] if len(sys.argv) > 1 else "."
 TOKEN = re.compile(r"[^\s(){}\[\];,.:\"\\|@`]+")
 new_of = {}
-for line in open(os.path.join(ROOT, "tools", "respelled.txt"), encoding="utf-8"):
+for line in open(os.path.join(os.path.dirname(os.path.realpath(__file__)), "respelled.txt"), encoding="utf-8"):
     old, new = line.split()
     new_of[old] = new
 KIT = re.compile(r"(?ms)^(?:pub )?(?:ghost )?use ((?:native|lib|borrow|mathlib|mir|Prim|sem|denote)[\w.'-]*|Rattle\.(?:std|core|io|os|libc|std_\w+)[\w.'-]*)\.\{([^}]*)\}")
