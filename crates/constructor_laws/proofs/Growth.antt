@@ -17,7 +17,7 @@ use Rattle.pool.specs.declared.node.Node.{Node}
 use Rattle.pool.specs.declared.node.Node.TheVariants as node
 use Rattle.pool.specs.Nodes.{kind_of, word_of, greatest_exponent}
 use Rattle.pool.specs.Pool.{Pool, pool, Out, Result, done, refused, Work, Run, bind, yield, refuse, append, limit, node_at, node_in}
-use Rattle.constructors.specs.Terms.{Term, #, lit, lit-exp, lit-log, add, mul, exp, log, pow, Add, Mul, Div, Max, Exp, Log, Pow}
+use Rattle.constructors.specs.Terms.{Term, #, lit, lit_exp, lit_log, add, mul, exp, log, pow, Add, Mul, Div, Max, Exp, Log, Pow}
 use Rattle.constructors.specs.Tables.{add_table, mul_table, div_table, neg_table, exp_table, log_table, pow_table, max_table}
 use Rattle.constructors.specs.Build.{Calls, literal, if_exponent_fits, build, no_calls, deeper, calls}
 use Rattle.constructor_laws.specs.Grown.{SameBut, Grown, Grows}
@@ -167,8 +167,8 @@ pub build_grows : {c : Calls} → AllGrow c → (t : Term) → Growing (build c 
 unfolding build
 build_grows g (# a) = yield_grows a
 build_grows g (lit z) = literal_grows (folded z)
-build_grows g (lit-exp z) = literal_grows (exp_of z)
-build_grows g (lit-log z) = literal_grows (log_of z)
+build_grows g (lit_exp z) = literal_grows (exp_of z)
+build_grows g (lit_log z) = literal_grows (log_of z)
 build_grows g (add s t) = do
   a ← build_grows g s
   b ← build_grows g t

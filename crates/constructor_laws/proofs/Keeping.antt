@@ -15,7 +15,7 @@ use Rattle.pool.specs.declared.node.Node.{Node}
 use Rattle.pool.specs.declared.node.Node.TheVariants as node
 use Rattle.pool.specs.Nodes.{greatest_variable, greatest_exponent}
 use Rattle.pool.specs.Pool.{Pool, Out, done, refused, Run, bind, yield, refuse, append, node_at}
-use Rattle.constructors.specs.Terms.{Term, #, lit, lit-exp, lit-log, add, mul, exp, log, pow, Add, Mul, Div, Max, Exp, Log, Pow}
+use Rattle.constructors.specs.Terms.{Term, #, lit, lit_exp, lit_log, add, mul, exp, log, pow, Add, Mul, Div, Max, Exp, Log, Pow}
 use Rattle.constructors.specs.Tables.{add_table, mul_table, div_table, neg_table, exp_table, log_table, pow_table, max_table}
 use Rattle.constructors.specs.Build.{Calls, literal, if_exponent_fits, build, no_calls, deeper, calls}
 use Rattle.constructor_laws.specs.Grown.{Grown}
@@ -120,8 +120,8 @@ pub build_keeps : {c : Calls} → AllKeep c → {n : ℕ} (t : Term) → Sound n
 unfolding build exp_of log_of
 build_keeps k (# a) h = yield_keeps h
 build_keeps k (lit z) h = folded_keeps z
-build_keeps k (lit-exp z) h = literal_keeps (exp_of z) (picked_in_literals (is_zero z) (pos 1) no_exp_or_log (λ t. refl))
-build_keeps k (lit-log z) h = literal_keeps (log_of z) (picked_in_literals (is_one z) (pos 0) no_exp_or_log (λ t. refl))
+build_keeps k (lit_exp z) h = literal_keeps (exp_of z) (picked_in_literals (is_zero z) (pos 1) no_exp_or_log (λ t. refl))
+build_keeps k (lit_log z) h = literal_keeps (log_of z) (picked_in_literals (is_one z) (pos 0) no_exp_or_log (λ t. refl))
 build_keeps k (add s t) h = both_keep (build_keeps k s h.0) (build_keeps k t h.1) k.add_at
 build_keeps k (mul s t) h = both_keep (build_keeps k s h.0) (build_keeps k t h.1) k.mul_at
 build_keeps k (exp t) h = next_keeps (build_keeps k t h) (λ m a more. k.exp_at m a)

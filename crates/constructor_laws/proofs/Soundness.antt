@@ -7,7 +7,7 @@ use Rattle.literal.specs.Literal.{is_zero, is_one}
 use Rattle.pool.specs.declared.node.Node.{Node}
 use Rattle.pool.specs.declared.node.Node.TheVariants as node
 use Rattle.pool.specs.Nodes.{parts, least_exponent}
-use Rattle.constructors.specs.Terms.{Term, #, lit, lit-exp, lit-log, add, mul, exp, log, pow, Add, Mul, Div, Max, Exp, Log, Pow}
+use Rattle.constructors.specs.Terms.{Term, #, lit, lit_exp, lit_log, add, mul, exp, log, pow, Add, Mul, Div, Max, Exp, Log, Pow}
 use Rattle.constructors.specs.Patterns.{lit_in, add_in, mul_in, exp_in, pow_in}
 use Rattle.constructors.specs.Tables.{add_arms, add_table, mul_lits, mul_exps, mul_left, mul_pows, mul_last, mul_table, div_table, neg_table, exp_arms, exp_table, log_arms, log_table, pow_table, max_table}
 use Rattle.constructor_laws.proofs.Rules.{AllBelow, PartsBelow}
@@ -17,8 +17,8 @@ use Rattle.constructor_laws.proofs.Arms.{Gives, skips, return, ◌>>=◌, ◌&�
 abbrev pub Sound : ℕ → Term → Type 0
 Sound n (# a) = a < n
 Sound n (lit z) = Unit {0}
-Sound n (lit-exp z) = Unit {0}
-Sound n (lit-log z) = Unit {0}
+Sound n (lit_exp z) = Unit {0}
+Sound n (lit_log z) = Unit {0}
 Sound n (add s t) = Sound n s × Sound n t
 Sound n (mul s t) = Sound n s × Sound n t
 Sound n (exp t) = Sound n t

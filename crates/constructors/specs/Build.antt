@@ -8,7 +8,7 @@ use Rattle.literal.specs.declared.Folded.TheVariants.{Value, Refused}
 use Rattle.pool.specs.declared.node.Node.TheVariants as node
 use Rattle.pool.specs.Nodes.{greatest_exponent}
 use Rattle.pool.specs.Pool.{Run, ◌>>=◌, yield, refuse, append, node_at}
-use Rattle.constructors.specs.Terms.{Term, #, lit, lit-exp, lit-log, add, mul, exp, log, pow, Add, Mul, Div, Max, Exp, Log, Pow}
+use Rattle.constructors.specs.Terms.{Term, #, lit, lit_exp, lit_log, add, mul, exp, log, pow, Add, Mul, Div, Max, Exp, Log, Pow}
 use Rattle.constructors.specs.Tables.{add_table, mul_table, div_table, neg_table, exp_table, log_table, pow_table, max_table}
 
 -- the constructors at a depth
@@ -35,8 +35,8 @@ if_exponent_fits false run = refuse exponent_too_large
 unfoldable pub build : Calls → Term → Run
 build c (# a) = yield a
 build c (lit z) = literal (folded z)
-build c (lit-exp z) = literal (exp_of z)
-build c (lit-log z) = literal (log_of z)
+build c (lit_exp z) = literal (exp_of z)
+build c (lit_log z) = literal (log_of z)
 build c (add s t) = do
   a ← build c s
   b ← build c t

@@ -4,7 +4,7 @@ use Rattle.std.specs.Prelude.{ℕ, ◌+◌, eqb, ℤ, pos, negsuc, ◌+ℤ◌, �
 use Rattle.literal.specs.Literal.{is_zero, is_one}
 use Rattle.pool.specs.declared.node.Node.{Node}
 use Rattle.constructors.specs.Patterns.{lit_in, add_in, mul_in, exp_in, pow_in}
-use Rattle.constructors.specs.Terms.{Term, #, lit, lit-exp, lit-log, add, mul, exp, log, pow, Add, Mul, Div, Max, Exp, Log, Pow, Arm, return, ◌>>=◌, ◌>>◌, ◌&◌, swap, ◌or◌, inside, ◌then◌}
+use Rattle.constructors.specs.Terms.{Term, #, lit, lit_exp, lit_log, add, mul, exp, log, pow, Add, Mul, Div, Max, Exp, Log, Pow, Arm, return, ◌>>=◌, ◌>>◌, ◌&◌, swap, ◌or◌, inside, ◌then◌}
 
 module _ (at : ℕ → Node) where
   abbrev pub lit? : ℕ → Arm ℤ
@@ -236,13 +236,13 @@ module _ (at : ℕ → Node) where
       -- Lit(a) => return lit(a.exp())
       or (do
         a ← lit? arg
-        return (lit-exp a))
+        return (lit_exp a))
       -- Add(a, b) => if let Lit(b) = b { return mul(lit(b.exp()), exp(a)) }
       or (do
         (a, b) ← add? arg
         inside (do
           b ← lit? b
-          return (mul (lit-exp b) (exp (# a)))))
+          return (mul (lit_exp b) (exp (# a)))))
 
   abbrev pub exp_table : ℕ → Term
   exp_table arg = exp_arms arg then Exp (# arg)
@@ -258,13 +258,13 @@ module _ (at : ℕ → Node) where
       -- Lit(a) => return lit(a.log())
       or (do
         a ← lit? arg
-        return (lit-log a))
+        return (lit_log a))
       -- Mul(a, b) => if let Lit(a) = a { return add(log(b), lit(a.log())) }
       or (do
         (a, b) ← mul? arg
         inside (do
           a ← lit? a
-          return (add (log (# b)) (lit-log a))))
+          return (add (log (# b)) (lit_log a))))
 
   abbrev pub log_table : ℕ → Term
   log_table arg = log_arms arg then Log (# arg)

@@ -7,7 +7,7 @@ pub data Term : Type 0 where
   -- a node that is there already: `a.clone()`
   # : ℕ → Term
   -- `Self::lit(x)`, `Self::lit(a.exp())`, `Self::lit(a.log())`
-  lit lit-exp lit-log : ℤ → Term
+  lit lit_exp lit_log : ℤ → Term
   add mul : Term → Term → Term
   exp log : Term → Term
   pow : Term → ℕ → Term

@@ -6,7 +6,7 @@ use Prim.Native.Nat.{ℕ}
 use lib.IntN.{ℤ, pos}
 use Rattle.literal.specs.Literal.{is_zero, is_one}
 use Rattle.pool.specs.declared.node.Node.{Node}
-use Rattle.constructors.specs.Terms.{Term, #, lit, lit-log, add, log, Log, Div, Arm, skip, leave, return, ◌>>=◌, ◌>>◌}
+use Rattle.constructors.specs.Terms.{Term, #, lit, lit_log, add, log, Log, Div, Arm, skip, leave, return, ◌>>=◌, ◌>>◌}
 use Rattle.constructors.specs.Patterns.{lit_in, mul_in}
 use Rattle.constructors.specs.Tables.{log_arms, log_table, div_table}
 use Rattle.views.specs.Shapes.{shape_of}
@@ -22,13 +22,13 @@ module _ (at : ℕ → Node) (arg : ℕ) where
   unfolding log_arms
   log_of_one p g = simp (p, g)
 
-  pub log_of_lit : {a : ℤ} → lit_in (at arg) ≡ return a → is_one a ≡ false → lit-log a ≡ log_table at arg
+  pub log_of_lit : {a : ℤ} → lit_in (at arg) ≡ return a → is_one a ≡ false → lit_log a ≡ log_table at arg
   unfolding log_arms
   log_of_lit p g = simp (p, g)
 
   -- Mul(a, b), with a literal at a and without
   module _ {a b : ℕ} (p : lit_in (at arg) ≡ skip) (s : mul_in (at arg) ≡ return (a, b)) where
-    pub log_of_product : {x : ℤ} → lit_in (at a) ≡ return x → add (log (# b)) (lit-log x) ≡ log_table at arg
+    pub log_of_product : {x : ℤ} → lit_in (at a) ≡ return x → add (log (# b)) (lit_log x) ≡ log_table at arg
     unfolding log_arms
     log_of_product h = simp (p, s, h)
 

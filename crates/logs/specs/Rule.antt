@@ -1,7 +1,7 @@
 -- What the code of `log` and `div` finds to be built: the right sides of their tables.
 -- Assumes nothing.
 use Rattle.std.specs.Prelude.{Bool, false, ℤ, pos}
-use Rattle.constructors.specs.Terms.{Term, #, lit, lit-log, add, log, Log, Div, Arm, skip, leave, return}
+use Rattle.constructors.specs.Terms.{Term, #, lit, lit_log, add, log, Log, Div, Arm, skip, leave, return}
 use Rattle.logs.specs.declared.rule.LogRule.{LogRule}
 use Rattle.logs.specs.declared.rule.LogRule.TheVariants as of_log
 use Rattle.logs.specs.declared.rule.DivRule.{DivRule}
@@ -10,8 +10,8 @@ use Rattle.logs.specs.declared.rule.DivRule.TheVariants as of_div
 -- the term that a rule of `log` stands for
 abbrev pub log_term : LogRule → Term
 log_term of_log.Zero = lit (pos 0)
-log_term (of_log.Literal a) = lit-log a
-log_term (of_log.Product a b) = add (log (# b)) (lit-log a)
+log_term (of_log.Literal a) = lit_log a
+log_term (of_log.Product a b) = add (log (# b)) (lit_log a)
 log_term (of_log.Plain a) = Log (# a)
 
 -- the term that a rule of `div` stands for

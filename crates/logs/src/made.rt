@@ -1,6 +1,6 @@
 // `log`, `div` and `max` as functions of depth: a rule is found, and what it says is built one deeper.
 ghost use Rattle.std.specs.Prelude.{◌≡◌};
-ghost use Rattle.constructors.specs.Terms.{#, lit-log, add, log};
+ghost use Rattle.constructors.specs.Terms.{#, lit_log, add, log};
 ghost use Rattle.constructors.specs.Build.{build, calls};
 ghost use Rattle.pool.specs.Made.{made, pool_of};
 
@@ -40,7 +40,7 @@ fn log_product(
     a: i64,
     b: u32,
 ) -> Made
-    ensures { made result kinds.new words.new ≡ build (calls left) (add (log (# b)) (lit-log a)) (pool_of kinds.old words.old room) }
+    ensures { made result kinds.new words.new ≡ build (calls left) (add (log (# b)) (lit_log a)) (pool_of kinds.old words.old room) }
 {
     let inner = log_in(kinds, words, room, left, b);
     let Made::Node {

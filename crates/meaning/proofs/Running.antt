@@ -13,7 +13,7 @@ use Rattle.pool.specs.declared.node.Node.{Node}
 use Rattle.pool.specs.declared.node.Node.TheVariants as node
 use Rattle.pool.specs.Nodes.{parts, greatest_exponent}
 use Rattle.pool.specs.Pool.{Pool, Result, Run, bind, append, node_at}
-use Rattle.constructors.specs.Terms.{Term, #, lit, lit-exp, lit-log, add, mul, exp, log, pow, Add, Mul, Div, Max, Exp, Log, Pow}
+use Rattle.constructors.specs.Terms.{Term, #, lit, lit_exp, lit_log, add, mul, exp, log, pow, Add, Mul, Div, Max, Exp, Log, Pow}
 use Rattle.constructors.specs.Build.{Calls, literal, if_exponent_fits, build, no_calls, deeper, calls}
 use Rattle.constructor_laws.specs.Grown.{Grown}
 use Rattle.constructor_laws.specs.Keeps.{Keeps}
@@ -167,9 +167,9 @@ module _ {A : Algebra} (M : Model A) (env : Values A) where
     unfolding build folded exp_of log_of value_node
     build_means c (# a) h P k g = gives_here k (tt, has_first A env k₀ g h)
     build_means c (lit z) h P k g = gives_weaker (λ Q i g_q e. (tt, e)) (literal_gives A env k z)
-    build_means c (lit-exp z) h P k g =
+    build_means c (lit_exp z) h P k g =
         gives_weaker (λ Q i g_q e. (e.0, has_same (sym (ap (λ n. A.exp (A.int n)) (zero_is z e.0) ∙ M.exp_zero)) e.1)) (picked_gives A env k (is_zero z) (pos 1) no_exp_or_log (λ t. refl))
-    build_means c (lit-log z) h P k g =
+    build_means c (lit_log z) h P k g =
         gives_weaker (λ Q i g_q e. (e.0, has_same (sym (ap (λ n. A.log (A.int n)) (one_is z e.0) ∙ M.log_one)) e.1)) (picked_gives A env k (is_one z) (pos 0) no_exp_or_log (λ t. refl))
     build_means c (add s t) h P k g = both_ran A.plus s t c.add_at (build_means c s h.0) (build_means c t h.1) P k g
     build_means c (mul s t) h P k g = both_ran A.times s t c.mul_at (build_means c s h.0) (build_means c t h.1) P k g

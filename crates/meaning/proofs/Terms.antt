@@ -10,7 +10,7 @@ use Rattle.literal.specs.Literal.{is_zero, is_one}
 use Rattle.pool.specs.declared.node.Node.{Node}
 use Rattle.pool.specs.declared.node.Node.TheVariants as node
 use Rattle.constructors.specs.Terms as terms
-use Rattle.constructors.specs.Terms.{Term, #, lit, lit-exp, lit-log, add, mul, exp, log, pow, Add, Mul, Div, Max, Exp, Log, Pow, Arm}
+use Rattle.constructors.specs.Terms.{Term, #, lit, lit_exp, lit_log, add, mul, exp, log, pow, Add, Mul, Div, Max, Exp, Log, Pow, Arm}
 use Rattle.constructors.specs.Patterns.{lit_in, add_in, mul_in, exp_in, pow_in}
 use Rattle.constructor_laws.proofs.Arms.{Gives, skips, leaves, return}
 use Rattle.meaning.specs.Model.{Algebra, power}
@@ -41,8 +41,8 @@ one_is (negsuc n) e = false_not_true e
 abbrev pub Runs : Term → Type 0
 Runs (# a) = Unit {0}
 Runs (lit z) = Unit {0}
-Runs (lit-exp z) = is_zero z ≡ true
-Runs (lit-log z) = is_one z ≡ true
+Runs (lit_exp z) = is_zero z ≡ true
+Runs (lit_log z) = is_one z ≡ true
 Runs (add s t) = Runs s × Runs t
 Runs (mul s t) = Runs s × Runs t
 Runs (exp t) = Runs t
@@ -61,8 +61,8 @@ module _ (A : Algebra) (at : ℕ → A.carrier) where
   abbrev pub term_value : Term → A.carrier
   term_value (# a) = at a
   term_value (lit z) = A.int z
-  term_value (lit-exp z) = A.exp (A.int z)
-  term_value (lit-log z) = A.log (A.int z)
+  term_value (lit_exp z) = A.exp (A.int z)
+  term_value (lit_log z) = A.log (A.int z)
   term_value (add s t) = A.plus (term_value s) (term_value t)
   term_value (mul s t) = A.times (term_value s) (term_value t)
   term_value (exp t) = A.exp (term_value t)

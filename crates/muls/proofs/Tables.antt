@@ -7,7 +7,7 @@ use lib.Dec.{eqb}
 use lib.IntN.{ℤ, pos}
 use Rattle.literal.specs.Literal.{is_zero, is_one}
 use Rattle.pool.specs.declared.node.Node.{Node}
-use Rattle.constructors.specs.Terms.{#, lit, lit-exp, mul, exp, Exp, Pow, skip, return}
+use Rattle.constructors.specs.Terms.{#, lit, lit_exp, mul, exp, Exp, Pow, skip, return}
 use Rattle.constructors.specs.Patterns.{lit_in, add_in}
 use Rattle.constructors.specs.Tables.{exp_arms, exp_table, pow_table}
 use Rattle.views.specs.Shapes.{shape_of}
@@ -21,12 +21,12 @@ module _ (at : ℕ → Node) (arg : ℕ) where
   unfolding exp_arms
   exp_of_zero p g = simp (lit_seen (at arg), p, g)
 
-  pub exp_of_lit : {z : ℤ} → shape_of (at arg) ≡ shape.Lit z → is_zero z ≡ false → lit-exp z ≡ exp_table at arg
+  pub exp_of_lit : {z : ℤ} → shape_of (at arg) ≡ shape.Lit z → is_zero z ≡ false → lit_exp z ≡ exp_table at arg
   unfolding exp_arms
   exp_of_lit p g = simp (lit_seen (at arg), p, g)
 
   -- Add(a, b), with a literal at b and without
-  pub exp_of_shifted : {a b : ℕ} {z : ℤ} → shape_of (at arg) ≡ shape.Add a b → shape_of (at b) ≡ shape.Lit z → mul (lit-exp z) (exp (# a)) ≡ exp_table at arg
+  pub exp_of_shifted : {a b : ℕ} {z : ℤ} → shape_of (at arg) ≡ shape.Add a b → shape_of (at b) ≡ shape.Lit z → mul (lit_exp z) (exp (# a)) ≡ exp_table at arg
   unfolding exp_arms
   exp_of_shifted {b = b} p q = simp (lit_seen (at arg), add_seen (at arg), p, lit_seen (at b), q)
 

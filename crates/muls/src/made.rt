@@ -1,6 +1,6 @@
 // `mul` and `exp` as functions of depth, which call each other: a rule is found, and what it says is built one deeper.
 ghost use Rattle.std.specs.Prelude.{◌≡◌, ◌+◌, ◌*ℤ◌};
-ghost use Rattle.constructors.specs.Terms.{#, lit, lit-exp, add, mul, exp, pow, Mul};
+ghost use Rattle.constructors.specs.Terms.{#, lit, lit_exp, add, mul, exp, pow, Mul};
 ghost use Rattle.constructors.specs.Build.{build, calls, no_calls};
 ghost use Rattle.pool.specs.Made.{made, pool_of};
 
@@ -96,7 +96,7 @@ fn exp_shifted(
     z: i64,
     a: u32,
 ) -> Made
-    ensures { made result kinds.new words.new ≡ build (calls left) (mul (lit-exp z) (exp (# a))) (pool_of kinds.old words.old room) }
+    ensures { made result kinds.new words.new ≡ build (calls left) (mul (lit_exp z) (exp (# a))) (pool_of kinds.old words.old room) }
 {
     let factor = adds::lit_in(kinds, words, room, literal::exp_literal(z));
     let Made::Node {

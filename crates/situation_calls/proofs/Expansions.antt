@@ -84,10 +84,10 @@ module _ (ks ws : List ℕ) (n : ℕ) (fit : (i : ℕ) → get_or ws i 0 < 2 ^ 6
       go true false l = passing 1 (failing 2)
       go false b l = failing 1
 
-  read_answers : (s : Series) → ExpansionByTable table.of-from-coefficients (one_tested ks ws n s (length_ok s)) (coefficients_of ks ws n s)
+  read_answers : (s : Series) → ExpansionByTable table.of_from_coefficients (one_tested ks ws n s (length_ok s)) (coefficients_of ks ws n s)
   read_answers s = go (is_pool ks ws n) (all_below n (nodes_of s)) (length_ok s)
     where
-      go : (p b l : Bool) → ExpansionByTable table.of-from-coefficients (p ∷ b ∷ l ∷ []) (demand refused_outcome p broken_pool (demand refused_outcome b unknown_node (demand refused_outcome l wrong_order (accepted (given s)))))
+      go : (p b l : Bool) → ExpansionByTable table.of_from_coefficients (p ∷ b ∷ l ∷ []) (demand refused_outcome p broken_pool (demand refused_outcome b unknown_node (demand refused_outcome l wrong_order (accepted (given s)))))
       go true true true = record { by_table = passing 1 (passing 2 (passing 5 (working tt))); zero_accepts = λ z. (given s, refl) }
       go true true false = record { by_table = passing 1 (passing 2 (failing 5)); zero_accepts = λ z. absurd (omega arith) }
       go true false l = record { by_table = passing 1 (failing 2); zero_accepts = λ z. absurd (omega arith) }
@@ -107,7 +107,7 @@ module _ (ks ws : List ℕ) (n : ℕ) (fit : (i : ℕ) → get_or ws i 0 < 2 ^ 6
         asked (all_below n (root ∷ [])) unknown_node _ (λ e.
         asked (leb v greatest_variable) unknown_variable (last none) (λ f. last_checked r e none)))
 
-    coeffs_at_answers : (z : ℤ) → ByTable table.coeffs-at (is_pool ks ws n ∷ all_below n (root ∷ []) ∷ leb v greatest_variable ∷ is_literal z ∷ ltb order terms ∷ []) (of_result (demand refused (is_pool ks ws n) broken_pool (expand_work root v (point z) order P)))
+    coeffs_at_answers : (z : ℤ) → ByTable table.coeffs_at (is_pool ks ws n ∷ all_below n (root ∷ []) ∷ leb v greatest_variable ∷ is_literal z ∷ ltb order terms ∷ []) (of_result (demand refused (is_pool ks ws n) broken_pool (expand_work root v (point z) order P)))
     coeffs_at_answers z =
         asked (is_pool ks ws n) broken_pool _ (λ r.
         asked (all_below n (root ∷ [])) unknown_node _ (λ e.
@@ -118,21 +118,21 @@ module _ (ks ws : List ℕ) (n : ℕ) (fit : (i : ℕ) → get_or ws i 0 < 2 ^ 6
   of_series =
       let E : KeepsRules P → OfExpansions P = of_expansions P in
       record {
-        var_call_lem = λ x order. series_call table.of-var (var_call x order) (three_checks (all_below n (x ∷ [])) (ltb order terms) (var x order) (λ r. (E r).var_meets x order));
+        var_call_lem = λ x order. series_call table.of_var (var_call x order) (three_checks (all_below n (x ∷ [])) (ltb order terms) (var x order) (λ r. (E r).var_meets x order));
         coeff_call_lem = λ s k. index_call s k (coeff (given s) k) (λ r. (E r).coeff_meets (given s) k);
         derivative_call_lem = λ s k. index_call s k (derivative (given s) k) (λ r. (E r).derivative_meets (given s) k);
         order_call = order_answers;
         from_coefficients_call = read_answers;
-        neg_call_lem = λ s. series_call table.of-neg (given_series s (negate (given s))) (one_call s (negate (given s)) (λ r. (E r).neg_meets (given s)));
-        exp_call_lem = λ s. series_call table.of-exp (given_series s (exponential (given s))) (one_call s (exponential (given s)) (λ r. (E r).exp_meets (given s)));
-        log_call_lem = λ s. series_call table.of-log (given_series s (logarithm (given s))) (one_call s (logarithm (given s)) (λ r. (E r).log_meets (given s)));
+        neg_call_lem = λ s. series_call table.of_neg (given_series s (negate (given s))) (one_call s (negate (given s)) (λ r. (E r).neg_meets (given s)));
+        exp_call_lem = λ s. series_call table.of_exp (given_series s (exponential (given s))) (one_call s (exponential (given s)) (λ r. (E r).exp_meets (given s)));
+        log_call_lem = λ s. series_call table.of_log (given_series s (logarithm (given s))) (one_call s (logarithm (given s)) (λ r. (E r).log_meets (given s)));
         pow_call_lem = λ s e. series_call table.of_pow (given_series s (power (given s) e)) (one_call s (power (given s) e) (λ r. (E r).pow_meets (given s) e));
-        add_call_lem = λ s t. series_call table.of-add (given_two s t (length_ok s && length_ok t) (add_to (given s) (given t))) (two_call s t (length_ok s && length_ok t) (add_to (given s) (given t)) (λ r. (E r).add_meets (given s) (given t)));
-        sub_call_lem = λ s t. series_call table.of-sub (given_two s t (length_ok s && length_ok t) (sub_from (given s) (given t))) (two_call s t (length_ok s && length_ok t) (sub_from (given s) (given t)) (λ r. (E r).sub_meets (given s) (given t)));
-        mul_call_lem = λ s t. series_call table.of-mul (given_two s t (length_ok s && length_ok t) (times (given s) (given t))) (two_call s t (length_ok s && length_ok t) (times (given s) (given t)) (λ r. (E r).mul_meets (given s) (given t)));
-        div_call_lem = λ s t. series_call table.of-div (given_two s t (length_ok s && length_ok t) (quotient (given s) (given t))) (two_call s t (length_ok s && length_ok t) (quotient (given s) (given t)) (λ r. (E r).div_meets (given s) (given t)));
-        max_call_lem = λ s t. series_call table.of-max (given_two s t (length_ok s && length_ok t) (maximum (given s) (given t))) (two_call s t (length_ok s && length_ok t) (maximum (given s) (given t)) (λ r. (E r).max_meets (given s) (given t)));
-        subst_call_lem = λ s t. series_call table.of-subst (given_two s t ((length_ok s && length_ok t) && agree s t) (subst (given s) (given t))) (two_call s t ((length_ok s && length_ok t) && agree s t) (subst (given s) (given t)) (λ r. (E r).subst_meets (given s) (given t)));
+        add_call_lem = λ s t. series_call table.of_add (given_two s t (length_ok s && length_ok t) (add_to (given s) (given t))) (two_call s t (length_ok s && length_ok t) (add_to (given s) (given t)) (λ r. (E r).add_meets (given s) (given t)));
+        sub_call_lem = λ s t. series_call table.of_sub (given_two s t (length_ok s && length_ok t) (sub_from (given s) (given t))) (two_call s t (length_ok s && length_ok t) (sub_from (given s) (given t)) (λ r. (E r).sub_meets (given s) (given t)));
+        mul_call_lem = λ s t. series_call table.of_mul (given_two s t (length_ok s && length_ok t) (times (given s) (given t))) (two_call s t (length_ok s && length_ok t) (times (given s) (given t)) (λ r. (E r).mul_meets (given s) (given t)));
+        div_call_lem = λ s t. series_call table.of_div (given_two s t (length_ok s && length_ok t) (quotient (given s) (given t))) (two_call s t (length_ok s && length_ok t) (quotient (given s) (given t)) (λ r. (E r).div_meets (given s) (given t)));
+        max_call_lem = λ s t. series_call table.of_max (given_two s t (length_ok s && length_ok t) (maximum (given s) (given t))) (two_call s t (length_ok s && length_ok t) (maximum (given s) (given t)) (λ r. (E r).max_meets (given s) (given t)));
+        subst_call_lem = λ s t. series_call table.of_subst (given_two s t ((length_ok s && length_ok t) && agree s t) (subst (given s) (given t))) (two_call s t ((length_ok s && length_ok t) && agree s t) (subst (given s) (given t)) (λ r. (E r).subst_meets (given s) (given t)));
         coeffs_call = λ root v order. series_call table.coeffs (expand_work root v none order) (coeffs_answers root v order);
-        coeffs_at_call = λ root v z order. series_call table.coeffs-at (expand_work root v (point z) order) (coeffs_at_answers root v order z);
+        coeffs_at_call = λ root v z order. series_call table.coeffs_at (expand_work root v (point z) order) (coeffs_at_answers root v order z);
       }

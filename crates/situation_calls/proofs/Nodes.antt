@@ -108,7 +108,7 @@ module _ (ks ws : List ℕ) (n : ℕ) (fit : (i : ℕ) → get_or ws i 0 < 2 ^ 6
       valued (all_below n (root ∷ [])) unknown_node _ (λ e.
       valued (leb (length values) most_values) wrong_values value (λ f. working ((of_walks P (rules r) root (root_below root [] e)).evaluation values))))
 
-  residue_answers : (root : ℕ) (values : List ℕ) → ByTable table.evaluate-residue (is_pool ks ws n ∷ all_below n (root ∷ []) ∷ are_residues values ∷ []) (of_divided (evaluate_residue_call ks ws n root values))
+  residue_answers : (root : ℕ) (values : List ℕ) → ByTable table.evaluate_residue (is_pool ks ws n ∷ all_below n (root ∷ []) ∷ are_residues values ∷ []) (of_divided (evaluate_residue_call ks ws n root values))
   unfolding evaluate_residue_call
   residue_answers root values =
       let value = evaluate_residue fixed_modulus (node_in ks ws) values root in
@@ -173,7 +173,7 @@ module _ (ks ws : List ℕ) (n : ℕ) (fit : (i : ℕ) → get_or ws i 0 < 2 ^ 6
       work true false fits bytes = inr (inr (inl refl))
       work false places fits bytes = inl refl
 
-  run_strip_answers : (bs : List ℕ) (values : List Float) → ByTable table.run-strip (leb (length values) most_values ∷ is_strip bs ∷ []) (of_valued (run_strip_call bs values))
+  run_strip_answers : (bs : List ℕ) (values : List Float) → ByTable table.run_strip (leb (length values) most_values ∷ is_strip bs ∷ []) (of_valued (run_strip_call bs values))
   unfolding run_strip_call
   run_strip_answers bs values =
       valued (leb (length values) most_values) wrong_values _ (λ f.

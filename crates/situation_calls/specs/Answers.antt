@@ -98,16 +98,16 @@ pub record OfCalls (ks ws : List ℕ) (n : ℕ) : Type 0 where
   pub exp_call_lem : (a : ℕ) → ByTable table.exp (nodes_tested ks ws n (a ∷ [])) (refusal_of (given_nodes (a ∷ []) ((calls depth).exp_at a)) ks ws n)
   pub log_call_lem : (a : ℕ) → ByTable table.log (nodes_tested ks ws n (a ∷ [])) (refusal_of (given_nodes (a ∷ []) ((calls depth).log_at a)) ks ws n)
   pub pow_call_lem : (a e : ℕ) → ByTable table.pow (nodes_tested ks ws n (a ∷ [])) (refusal_of (given_nodes (a ∷ []) ((calls depth).pow_at a e)) ks ws n)
-  pub substitute_var_call : (root v value : ℕ) → ByTable table.substitute-var (is_pool ks ws n ∷ all_below n (root ∷ value ∷ []) ∷ leb v greatest_variable ∷ []) (refusal_of (substitute_work root v value) ks ws n)
+  pub substitute_var_call : (root v value : ℕ) → ByTable table.substitute_var (is_pool ks ws n ∷ all_below n (root ∷ value ∷ []) ∷ leb v greatest_variable ∷ []) (refusal_of (substitute_work root v value) ks ws n)
   pub derive_call : (root v : ℕ) → ByTable table.derive (is_pool ks ws n ∷ all_below n (root ∷ []) ∷ leb v greatest_variable ∷ []) (refusal_of (derive_work root v) ks ws n)
   pub evaluate_call_lem : (root : ℕ) (values : List Float) → ByTable table.evaluate (is_pool ks ws n ∷ all_below n (root ∷ []) ∷ leb (length values) most_values ∷ []) (of_valued (evaluate_call ks ws n root values))
-  pub evaluate_residue_call_lem : (root : ℕ) (values : List ℕ) → ByTable table.evaluate-residue (is_pool ks ws n ∷ all_below n (root ∷ []) ∷ are_residues values ∷ []) (of_divided (evaluate_residue_call ks ws n root values))
+  pub evaluate_residue_call_lem : (root : ℕ) (values : List ℕ) → ByTable table.evaluate_residue (is_pool ks ws n ∷ all_below n (root ∷ []) ∷ are_residues values ∷ []) (of_divided (evaluate_residue_call ks ws n root values))
   pub print_call_lem : (root : ℕ) (out : List ℕ) → ByTable table.print (nodes_tested ks ws n (root ∷ [])) (of_written (print_call ks ws n root out).answer)
   pub write_call_lem : (root : ℕ) (out : List ℕ) → ByTable table.write (nodes_tested ks ws n (root ∷ [])) (of_written (write_call ks ws n root out).answer)
   pub read_call : (bs : List ℕ) → ByTable table.read (is_pool ks ws n ∷ is_sized bs ∷ are_nodes bs ∷ is_in_order bs ∷ []) (refusal_of (read_file bs) ks ws n)
   pub strip_call_lem : (root : ℕ) (out : List ℕ) → ByTable table.strip (nodes_tested ks ws n (root ∷ [])) (of_written (strip_call ks ws n root out).answer)
   -- the machine has no pool
-  pub run_strip_call_lem : (bs : List ℕ) (values : List Float) → ByTable table.run-strip (leb (length values) most_values ∷ is_strip bs ∷ []) (of_valued (run_strip_call bs values))
+  pub run_strip_call_lem : (bs : List ℕ) (values : List Float) → ByTable table.run_strip (leb (length values) most_values ∷ is_strip bs ∷ []) (of_valued (run_strip_call bs values))
 
 -- the tests of one expansion, and of two with what is asked of their lengths
 abbrev pub one_tested : List ℕ → List ℕ → ℕ → Series → Bool → List Bool
@@ -118,20 +118,20 @@ two_tested ks ws n s t fits = is_pool ks ws n ∷ (all_below n (nodes_of s) && a
 
 -- ---- every call on expansions
 pub record OfSeries (ks ws : List ℕ) (n : ℕ) : Type 0 where
-  pub var_call_lem : (x order : ℕ) → ExpansionByTable table.of-var (is_pool ks ws n ∷ all_below n (x ∷ []) ∷ ltb order terms ∷ []) (series_on_pool (var_call x order) ks ws n).answer
-  pub coeff_call_lem : (s : Series) (k : ℕ) → ByTable table.of-coeff (one_tested ks ws n s (has_index s k)) (refusal_of (given_index s k (coeff (given s) k)) ks ws n)
-  pub derivative_call_lem : (s : Series) (k : ℕ) → ByTable table.of-derivative (one_tested ks ws n s (has_index s k)) (refusal_of (given_index s k (derivative (given s) k)) ks ws n)
+  pub var_call_lem : (x order : ℕ) → ExpansionByTable table.of_var (is_pool ks ws n ∷ all_below n (x ∷ []) ∷ ltb order terms ∷ []) (series_on_pool (var_call x order) ks ws n).answer
+  pub coeff_call_lem : (s : Series) (k : ℕ) → ByTable table.of_coeff (one_tested ks ws n s (has_index s k)) (refusal_of (given_index s k (coeff (given s) k)) ks ws n)
+  pub derivative_call_lem : (s : Series) (k : ℕ) → ByTable table.of_derivative (one_tested ks ws n s (has_index s k)) (refusal_of (given_index s k (derivative (given s) k)) ks ws n)
   pub order_call : (s : Series) → ByTable table.of_order (one_tested ks ws n s (length_ok s)) (of_counted (count_of ks ws n s))
-  pub from_coefficients_call : (s : Series) → ExpansionByTable table.of-from-coefficients (one_tested ks ws n s (length_ok s)) (coefficients_of ks ws n s)
-  pub neg_call_lem : (s : Series) → ExpansionByTable table.of-neg (one_tested ks ws n s (length_ok s)) (series_on_pool (given_series s (negate (given s))) ks ws n).answer
-  pub exp_call_lem : (s : Series) → ExpansionByTable table.of-exp (one_tested ks ws n s (length_ok s)) (series_on_pool (given_series s (exponential (given s))) ks ws n).answer
-  pub log_call_lem : (s : Series) → ExpansionByTable table.of-log (one_tested ks ws n s (length_ok s)) (series_on_pool (given_series s (logarithm (given s))) ks ws n).answer
+  pub from_coefficients_call : (s : Series) → ExpansionByTable table.of_from_coefficients (one_tested ks ws n s (length_ok s)) (coefficients_of ks ws n s)
+  pub neg_call_lem : (s : Series) → ExpansionByTable table.of_neg (one_tested ks ws n s (length_ok s)) (series_on_pool (given_series s (negate (given s))) ks ws n).answer
+  pub exp_call_lem : (s : Series) → ExpansionByTable table.of_exp (one_tested ks ws n s (length_ok s)) (series_on_pool (given_series s (exponential (given s))) ks ws n).answer
+  pub log_call_lem : (s : Series) → ExpansionByTable table.of_log (one_tested ks ws n s (length_ok s)) (series_on_pool (given_series s (logarithm (given s))) ks ws n).answer
   pub pow_call_lem : (s : Series) (e : ℕ) → ExpansionByTable table.of_pow (one_tested ks ws n s (length_ok s)) (series_on_pool (given_series s (power (given s) e)) ks ws n).answer
-  pub add_call_lem : (s t : Series) → ExpansionByTable table.of-add (two_tested ks ws n s t (length_ok s && length_ok t)) (series_on_pool (given_two s t (length_ok s && length_ok t) (add_to (given s) (given t))) ks ws n).answer
-  pub sub_call_lem : (s t : Series) → ExpansionByTable table.of-sub (two_tested ks ws n s t (length_ok s && length_ok t)) (series_on_pool (given_two s t (length_ok s && length_ok t) (sub_from (given s) (given t))) ks ws n).answer
-  pub mul_call_lem : (s t : Series) → ExpansionByTable table.of-mul (two_tested ks ws n s t (length_ok s && length_ok t)) (series_on_pool (given_two s t (length_ok s && length_ok t) (times (given s) (given t))) ks ws n).answer
-  pub div_call_lem : (s t : Series) → ExpansionByTable table.of-div (two_tested ks ws n s t (length_ok s && length_ok t)) (series_on_pool (given_two s t (length_ok s && length_ok t) (quotient (given s) (given t))) ks ws n).answer
-  pub max_call_lem : (s t : Series) → ExpansionByTable table.of-max (two_tested ks ws n s t (length_ok s && length_ok t)) (series_on_pool (given_two s t (length_ok s && length_ok t) (maximum (given s) (given t))) ks ws n).answer
-  pub subst_call_lem : (s t : Series) → ExpansionByTable table.of-subst (two_tested ks ws n s t ((length_ok s && length_ok t) && agree s t)) (series_on_pool (given_two s t ((length_ok s && length_ok t) && agree s t) (subst (given s) (given t))) ks ws n).answer
+  pub add_call_lem : (s t : Series) → ExpansionByTable table.of_add (two_tested ks ws n s t (length_ok s && length_ok t)) (series_on_pool (given_two s t (length_ok s && length_ok t) (add_to (given s) (given t))) ks ws n).answer
+  pub sub_call_lem : (s t : Series) → ExpansionByTable table.of_sub (two_tested ks ws n s t (length_ok s && length_ok t)) (series_on_pool (given_two s t (length_ok s && length_ok t) (sub_from (given s) (given t))) ks ws n).answer
+  pub mul_call_lem : (s t : Series) → ExpansionByTable table.of_mul (two_tested ks ws n s t (length_ok s && length_ok t)) (series_on_pool (given_two s t (length_ok s && length_ok t) (times (given s) (given t))) ks ws n).answer
+  pub div_call_lem : (s t : Series) → ExpansionByTable table.of_div (two_tested ks ws n s t (length_ok s && length_ok t)) (series_on_pool (given_two s t (length_ok s && length_ok t) (quotient (given s) (given t))) ks ws n).answer
+  pub max_call_lem : (s t : Series) → ExpansionByTable table.of_max (two_tested ks ws n s t (length_ok s && length_ok t)) (series_on_pool (given_two s t (length_ok s && length_ok t) (maximum (given s) (given t))) ks ws n).answer
+  pub subst_call_lem : (s t : Series) → ExpansionByTable table.of_subst (two_tested ks ws n s t ((length_ok s && length_ok t) && agree s t)) (series_on_pool (given_two s t ((length_ok s && length_ok t) && agree s t) (subst (given s) (given t))) ks ws n).answer
   pub coeffs_call : (root v order : ℕ) → ExpansionByTable table.coeffs (is_pool ks ws n ∷ all_below n (root ∷ []) ∷ leb v greatest_variable ∷ ltb order terms ∷ []) (series_on_pool (expand_work root v none order) ks ws n).answer
-  pub coeffs_at_call : (root v : ℕ) (z : ℤ) (order : ℕ) → ExpansionByTable table.coeffs-at (is_pool ks ws n ∷ all_below n (root ∷ []) ∷ leb v greatest_variable ∷ is_literal z ∷ ltb order terms ∷ []) (series_on_pool (expand_work root v (point z) order) ks ws n).answer
+  pub coeffs_at_call : (root v : ℕ) (z : ℤ) (order : ℕ) → ExpansionByTable table.coeffs_at (is_pool ks ws n ∷ all_below n (root ∷ []) ∷ leb v greatest_variable ∷ is_literal z ∷ ltb order terms ∷ []) (series_on_pool (expand_work root v (point z) order) ks ws n).answer

@@ -10,7 +10,7 @@ use Rattle.literal.specs.Literal.{folded}
 use Rattle.pool.specs.declared.node.Node.TheVariants as node
 use Rattle.pool.specs.Nodes.{greatest_exponent}
 use Rattle.pool.specs.Pool.{Pool, node_at}
-use Rattle.constructors.specs.Terms.{Term, #, lit, lit-exp, lit-log, add, mul, exp, log, pow, Add, Mul, Div, Max, Exp, Log, Pow}
+use Rattle.constructors.specs.Terms.{Term, #, lit, lit_exp, lit_log, add, mul, exp, log, pow, Add, Mul, Div, Max, Exp, Log, Pow}
 use Rattle.constructors.specs.Tables.{add_table, mul_table, div_table, neg_table, exp_table, log_table, pow_table, max_table}
 use Rattle.constructors.specs.Build.{Calls, literal, build, no_calls, deeper, calls}
 use Rattle.situations.specs.Refusal.{OneOf}
@@ -51,8 +51,8 @@ pub build_refuses : {c : Calls} → AllRefuse c → (t : Term) → Refusing of_c
 unfolding build
 build_refuses g (# a) = yield_refuses a
 build_refuses g (lit z) = literals_refuse z
-build_refuses g (lit-exp z) = exp_of_refuses pool_full_lem no_exp_or_log_lem z
-build_refuses g (lit-log z) = log_of_refuses pool_full_lem no_exp_or_log_lem z
+build_refuses g (lit_exp z) = exp_of_refuses pool_full_lem no_exp_or_log_lem z
+build_refuses g (lit_log z) = log_of_refuses pool_full_lem no_exp_or_log_lem z
 build_refuses g (add s t) = do
   a ← build_refuses g s
   b ← build_refuses g t

@@ -17,7 +17,7 @@ use Rattle.pool.specs.declared.node.Node.{Node}
 use Rattle.pool.specs.declared.node.Node.TheVariants as node
 use Rattle.pool.specs.Pool.{Pool, Out, done, refused, Run, bind, node_at}
 use Rattle.constructors.specs.Terms
-use Rattle.constructors.specs.Terms.{Term, #, lit, lit-exp, lit-log, Arm, skip, leave}
+use Rattle.constructors.specs.Terms.{Term, #, lit, lit_exp, lit_log, Arm, skip, leave}
 use Rattle.constructors.specs.Tables.{lit?, add?, mul?, add_arms, add_table, mul_table, div_table, exp_arms, exp_table, log_arms, log_table, pow_table, max_table}
 use Rattle.constructors.specs.Build.{Calls, literal, build, calls}
 use Rattle.constructor_laws.specs.Grown.{Grows}
@@ -166,7 +166,7 @@ plus_zero zero R i j e = exp_log_deep
 plus_zero (suc left) R i j e = (add_zero {ks = of_exp_log} exp_log_full (calls left) (node_at R) i j e).made.refuses R
 
 -- exp of a sum whose right part is the literal b
-exp_of_sum : (left : ℕ) → ByExpLog (calls left).exp_at → (P : Pool) → Long P → (b : ℤ) (a : ℕ) → MakingOn P (calls left) (Terms.mul (lit-exp b) (Terms.exp (# a)))
+exp_of_sum : (left : ℕ) → ByExpLog (calls left).exp_at → (P : Pool) → Long P → (b : ℤ) (a : ℕ) → MakingOn P (calls left) (Terms.mul (lit_exp b) (Terms.exp (# a)))
 unfolding build exp_of
 exp_of_sum left less P l b a = record { on = go (is_zero b) }
   where
@@ -184,7 +184,7 @@ exp_of_sum left less P l b a = record { on = go (is_zero b) }
     go false = inl refl
 
 -- log of a product whose left part is the literal a
-log_of_product : (left : ℕ) → ByExpLog (calls left).log_at → (P : Pool) → Long P → (b : ℕ) (a : ℤ) → MakingOn P (calls left) (Terms.add (Terms.log (# b)) (lit-log a))
+log_of_product : (left : ℕ) → ByExpLog (calls left).log_at → (P : Pool) → Long P → (b : ℕ) (a : ℤ) → MakingOn P (calls left) (Terms.add (Terms.log (# b)) (lit_log a))
 unfolding build log_of
 log_of_product left less P l b a = record { on = after ((calls left).log_at b P) (((calls_grow left).log_at b).grows P) (less b P l) }
   where

@@ -6,7 +6,7 @@ use native.Mathlib.Omega.{arith}
 use mir.Syntax.{w64}
 use mir.ValLaws.{to_z-of_z}
 use Rattle.literal.specs.Literal.{log_of}
-use Rattle.constructors.specs.Terms.{#, lit-log, add, log}
+use Rattle.constructors.specs.Terms.{#, lit_log, add, log}
 use Rattle.constructors.specs.Build.{build, calls}
 use Rattle.views.proofs.Steps.{onward, stopped, runs_deeper}
 use Rattle.adds.proofs.Runs.{none_left, ruled, renumbered, literal_made}
@@ -37,7 +37,7 @@ pub log_in-returns-in-Product : goal.log_in-returns-in-Product
 log_in-returns-in-Product t c =
     rw (runs_deeper c.args.left c.if-left-eq0.false)
     (ruled (calls (c.args.left - 1)) _ log_term c.log_rule-rule.ensures c.in-Product.is
-    (renumbered _ _ (λ z. add (log (# c.in-Product.b)) (lit-log z))
+    (renumbered _ _ (λ z. add (log (# c.in-Product.b)) (lit_log z))
     (to_z-of_z w64 c.in-Product.a (search rules)) c.log_product.ensures))
 
 pub log_in-returns-in-Plain : goal.log_in-returns-in-Plain

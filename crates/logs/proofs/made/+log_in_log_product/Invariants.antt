@@ -6,7 +6,7 @@ use native.Mathlib.Omega.{arith}
 use mir.Syntax.{w64}
 use mir.ValLaws.{to_z-of_z}
 use Rattle.literal.specs.Literal.{log_of}
-use Rattle.constructors.specs.Terms.{#, lit-log, add, log}
+use Rattle.constructors.specs.Terms.{#, lit_log, add, log}
 use Rattle.constructors.specs.Build.{build}
 use Rattle.views.proofs.Steps.{onward, stopped, runs_deeper}
 use Rattle.adds.proofs.Runs.{none_left, ruled, renumbered, literal_made}

@@ -6,7 +6,7 @@ use native.Mathlib.Omega.{arith}
 use mir.Syntax.{w64}
 use mir.ValLaws.{to_z-of_z}
 use Rattle.literal.specs.Literal.{folded, exp_of}
-use Rattle.constructors.specs.Terms.{#, lit, lit-exp, mul, exp, Mul}
+use Rattle.constructors.specs.Terms.{#, lit, lit_exp, mul, exp, Mul}
 use Rattle.constructors.specs.Build.{build, calls, no_calls}
 use Rattle.views.proofs.Steps.{onward, stopped, runs_deeper}
 use Rattle.adds.proofs.Runs.{none_left, ruled, renumbered, literal_made}
@@ -39,7 +39,7 @@ pub exp_in-returns-in-Shifted : goal.exp_in-returns-in-Shifted
 exp_in-returns-in-Shifted t c =
     rw (runs_deeper c.args.left c.if-left-eq0.false)
     (ruled (calls (c.args.left - 1)) _ exp_term c.exp_rule-rule.ensures c.in-Shifted.is
-    (renumbered _ _ (λ z. mul (lit-exp z) (exp (# c.in-Shifted.a)))
+    (renumbered _ _ (λ z. mul (lit_exp z) (exp (# c.in-Shifted.a)))
     (to_z-of_z w64 c.in-Shifted.z (search rules)) c.exp_shifted.ensures))
 
 pub exp_in-returns-in-Plain : goal.exp_in-returns-in-Plain

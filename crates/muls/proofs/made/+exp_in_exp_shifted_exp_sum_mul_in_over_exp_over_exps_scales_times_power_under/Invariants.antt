@@ -6,7 +6,7 @@ use native.Mathlib.Omega.{arith}
 use mir.Syntax.{w64}
 use mir.ValLaws.{to_z-of_z}
 use Rattle.literal.specs.Literal.{folded, exp_of}
-use Rattle.constructors.specs.Terms.{#, lit, lit-exp, mul, exp, Mul}
+use Rattle.constructors.specs.Terms.{#, lit, lit_exp, mul, exp, Mul}
 use Rattle.constructors.specs.Build.{build, no_calls}
 use Rattle.views.proofs.Steps.{onward, stopped, runs_deeper}
 use Rattle.adds.proofs.Runs.{none_left, ruled, renumbered, literal_made}

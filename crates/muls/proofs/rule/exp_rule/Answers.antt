@@ -7,7 +7,7 @@ use mir.Val.{to_z, of_z}
 use mir.ValLaws.{to_z-of_z}
 use Rattle.pool.specs.Pool.{node_in}
 use Rattle.literal.specs.Literal.{is_zero}
-use Rattle.constructors.specs.Terms.{lit-exp, mul, exp, #}
+use Rattle.constructors.specs.Terms.{lit_exp, mul, exp, #}
 use Rattle.views.proofs.Missed.{lit_missed, add_missed, tested}
 use Rattle.muls.proofs.Tables.{exp_of_zero, exp_of_lit, exp_of_shifted, exp_of_sum, exp_of_other}
 use Rattle.muls.proofs.rule.exp_rule.Goals as goal
@@ -31,7 +31,7 @@ returns-else-is_zero c =
     let at = node_in c.args.kinds.now c.args.words.now in
     let z = c.in-Lit.z in
     let ez : to_z w64 (of_z w64 z) ≡ z = to_z-of_z w64 z (search rules) in
-    ap lit-exp ez ∙ exp_of_lit at c.args.arg (sym c.shape_at-shape.ensures ∙ c.in-Lit.is)
+    ap lit_exp ez ∙ exp_of_lit at c.args.arg (sym c.shape_at-shape.ensures ∙ c.in-Lit.is)
     (tested is_zero ez c.is_zero.ensures c.if-is_zero.false)
 
 pub returns-in-Lit-shape_at : goal.returns-in-Lit-shape_at
@@ -39,7 +39,7 @@ returns-in-Lit-shape_at c =
     let at = node_in c.args.kinds.now c.args.words.now in
     let z = c.in-Lit-shape_at.z in
     let ez : to_z w64 (of_z w64 z) ≡ z = to_z-of_z w64 z (search rules) in
-    ap (λ z. mul (lit-exp z) (exp (# c.in-Add.a))) ez ∙ exp_of_shifted at c.args.arg
+    ap (λ z. mul (lit_exp z) (exp (# c.in-Add.a))) ez ∙ exp_of_shifted at c.args.arg
     (sym c.shape_at-shape.ensures ∙ c.in-Add.is)
     (sym c.shape_at.ensures ∙ c.in-Lit-shape_at.is)
 

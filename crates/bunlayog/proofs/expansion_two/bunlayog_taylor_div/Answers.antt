@@ -1,0 +1,8 @@
+-- `bunlayog::expansion_two::bunlayog_taylor_div` meets its contract: the entry point's outcome in C's terms.
+-- Assumes nothing.
+use borrow.Author.Rules.{rules}
+use Rattle.c_answers.proofs.Expansions.{series_in_c_lem}
+use Rattle.bunlayog.proofs.expansion_two.bunlayog_taylor_div.Goals as goal
+
+pub returns : goal.returns
+returns c = series_in_c_lem _ _ c.div.ensures c.outcome_answered.ensures
