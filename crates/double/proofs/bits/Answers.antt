@@ -1,6 +1,5 @@
 -- `double::bits` meets its contract: a double that differs from itself is a NaN, whose bits are fixed.
 -- Assumes nothing.
-use borrow.Author.Rules.{rules}
 use lib.Ieee.{to_bits}
 use Rattle.double.proofs.Nans.{bits_of_nan, no_nan}
 use Rattle.double.proofs.bits.Goals as goal

@@ -3,7 +3,6 @@
 use mathlib.Core.Path.{sym, ◌∙◌, subst}
 use mathlib.Core.Bool.{Bool, not}
 use lib.Dec.{T}
-use borrow.Author.Rules.{rules}
 use Rattle.double.proofs.Nans.{nan_of_bits}
 use Rattle.double.proofs.of_bits.Goals as goal
 

@@ -1,7 +1,6 @@
 -- `double::of_literal` meets its contract: a literal is within the whole numbers that doubles count without a gap.
 -- Assumes nothing.
 use mathlib.Core.Path.{◌≡◌, ◌∙◌, sym}
-use borrow.Author.Rules.{rules}
 use mir.Syntax.{w64}
 use mir.Val.{to_z, of_z}
 use mir.ValLaws.{to_z-of_z}

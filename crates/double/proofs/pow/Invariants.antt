@@ -1,10 +1,6 @@
 -- `double::pow` meets its contract: at each turn what remains to be done gives the power, and the exponent's rest halves.
 -- Assumes nothing.
-use mathlib.Core.Path.{◌∙◌}
-use mathlib.Core.Logic.{⊎_elim}
-use native.Mathlib.Omega.{arith}
-use lib.Ieee.{of_int, of_bits}
-use Rattle.double.proofs.Powers.{Remains, at_one, at_zero, at_first, after_a_turn, at_last}
+use Rattle.double.proofs.Powers.{Remains}
 use Rattle.double.proofs.pow.Given as goal
 
 abbrev pub invariant-loop-n : goal.invariant-loop-n

@@ -2,7 +2,6 @@
 -- Assumes nothing.
 use mir.Syntax.{w64}
 use mir.ValLaws.{to_z-of_z}
-use borrow.Author.Rules.{rules}
 use Rattle.engine_expand.proofs.coeffs_at.Goals as goal
 
 pub returns : goal.returns

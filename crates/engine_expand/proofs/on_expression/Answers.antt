@@ -1,9 +1,8 @@
 -- `engine_expand::on_expression` meets its contract: the pool and all arguments are looked at first, then the walk works on the copies.
 -- Assumes nothing.
-use borrow.Author.Rules.{rules}
 use mathlib.Core.Path.{◌∙◌}
 use native.Mathlib.Omega.{arith}
-use borrow.Author.Tests.{not-true, not-false, leb-true, lt-ltb, le-ltb}
+use borrow.Author.Tests.{leb-true, lt-ltb, le-ltb}
 use Rattle.refusals.specs.Refusals.{unknown_node, unknown_variable, not_literal, wrong_order}
 use Rattle.pool.specs.Nodes.{greatest_variable}
 use Rattle.pool.specs.Pool.{limit}

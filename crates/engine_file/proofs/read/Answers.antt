@@ -1,8 +1,6 @@
 -- `engine_file::read` meets its contract: the pool is looked at first, then the file is read into the copies.
 -- Assumes nothing.
-use borrow.Author.Rules.{rules}
 use native.Mathlib.Omega.{arith}
-use borrow.Author.Tests.{not-true, not-false}
 use Rattle.pool.specs.Pool.{limit}
 use Rattle.shape.specs.File.{read_file}
 use Rattle.lent.specs.declared.Answer.TheVariants.{Node, Refused}

@@ -1,9 +1,7 @@
 -- `engine_file::write` meets its contract: the pool and the root are looked at first, then the file is written from the copies.
 -- Assumes nothing.
-use borrow.Author.Rules.{rules}
 use mathlib.Core.Path.{sym, ◌∙◌}
 use native.Mathlib.Omega.{arith}
-use borrow.Author.Tests.{not-true, not-false}
 use Rattle.lent.proofs.Finishing.{one_is_below}
 use Rattle.lent.proofs.Calling.{sizes}
 use Rattle.engine_file.proofs.Writing.{pool_refused, root_refused, has_root, file_there, no_room_there}

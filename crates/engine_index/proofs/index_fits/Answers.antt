@@ -1,8 +1,7 @@
 -- `engine_index::index_fits` meets its contract: by the tests, in their order.
 -- Assumes nothing.
 use mathlib.Core.Path.{refl, sym, ◌∙◌}
-use borrow.Author.Tests.{not-true, not-false, eq-eqb, ne_eqb}
-use borrow.Author.Rules.{rules}
+use borrow.Author.Tests.{eq-eqb, ne_eqb}
 use Rattle.taylor.specs.Expansion.{endless}
 use Rattle.engine_index.proofs.index_fits.Goals as goal
 

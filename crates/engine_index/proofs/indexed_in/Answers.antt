@@ -1,6 +1,5 @@
 -- `engine_index::indexed_in` meets its contract: each arm is the clause of the definition.
 -- Assumes nothing.
-use borrow.Author.Rules.{rules}
 use Rattle.engine_index.proofs.indexed_in.Goals as goal
 
 pub returns-in-Coeff : goal.returns-in-Coeff

@@ -1,10 +1,8 @@
 -- `engine_print::print` meets its contract: what is refused leaves the output as it was.
 -- Assumes nothing.
-use borrow.Author.Rules.{rules}
 use mathlib.Core.Path.{◌≡◌, sym, ◌∙◌}
 use mathlib.Core.Bool.{true, false}
 use native.Mathlib.Omega.{arith}
-use borrow.Author.Tests.{not-true, not-false}
 use Rattle.pool.specs.Pool.{node_in}
 use Rattle.walks.specs.Print.{has_max}
 use Rattle.lent.proofs.Finishing.{pool_sized, one_is_below}

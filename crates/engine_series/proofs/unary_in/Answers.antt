@@ -1,6 +1,5 @@
 -- `engine_series::unary_in` meets its contract: each arm is the clause of the definition.
 -- Assumes nothing.
-use borrow.Author.Rules.{rules}
 use Rattle.engine_series.proofs.unary_in.Goals as goal
 
 pub returns-in-Neg : goal.returns-in-Neg

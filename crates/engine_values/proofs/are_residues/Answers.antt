@@ -2,13 +2,10 @@
 -- Assumes nothing.
 use mathlib.Core.Path.{◌≡◌}
 use mathlib.Core.Bool.{true}
-use Prim.Native.Nat.{◌≤◌, ◌-◌}
+use Prim.Native.Nat.{◌-◌}
 use native.Mathlib.Omega.{arith}
-use lib.Dec.{ltb}
-use lib.ListN.{length, get_or}
+use lib.ListN.{length}
 use borrow.Author.Tests.{lt-ltb}
-use Rattle.residue.specs.Residue.{fixed_modulus}
-use Rattle.pool.specs.Pool.{each}
 use Rattle.lent.proofs.Each.{each_none, each_more}
 use Rattle.engine_values.proofs.Evaluates.{too_many_residues, no_residue, all_residues}
 use Rattle.engine_values.proofs.are_residues.Goals as goal

@@ -3,14 +3,10 @@
 use mathlib.Core.Path.{◌≡◌}
 use mathlib.Core.Bool.{true}
 use Prim.Native.Nat.{◌≤◌, ◌-◌}
-use native.Mathlib.Omega.{arith}
 use lib.Dec.{ltb}
 use lib.ListN.{length, get_or}
-use borrow.Author.Tests.{lt-ltb}
 use Rattle.residue.specs.Residue.{fixed_modulus}
 use Rattle.pool.specs.Pool.{each}
-use Rattle.lent.proofs.Each.{each_none, each_more}
-use Rattle.engine_values.proofs.Evaluates.{too_many_residues, no_residue, all_residues}
 use Rattle.engine_values.proofs.are_residues.Given as goal
 
 abbrev pub invariant-loop-i : goal.invariant-loop-i

@@ -1,9 +1,7 @@
 -- `engine_values::evaluate_residue` meets its contract: the pool, the root and the table are looked at first.
 -- Assumes nothing.
-use borrow.Author.Rules.{rules}
 use mathlib.Core.Path.{sym, ◌∙◌}
 use native.Mathlib.Omega.{arith}
-use borrow.Author.Tests.{not-true, not-false}
 use Rattle.lent.proofs.Finishing.{pool_sized, one_is_below}
 use Rattle.engine_values.proofs.Evaluates.{no_pool, no_node, no_residues, reduced, residues_below}
 use Rattle.engine_values.proofs.evaluate_residue.Goals as goal

@@ -1,9 +1,8 @@
 -- `evaluate::value_at` meets its contract: each part has a smaller number, so that the walk ends; the loop goes over the parts, and what is then joined is the node's value.
 -- Assumes nothing.
 use native.Mathlib.Omega.{arith}
-use Prim.Native.Nat.{ℕ, ◌-◌, ◌<◌}
-use Rattle.pool.specs.Pool.{node_in}
-use Rattle.evaluate.proofs.Walking.{Turned, already_kept, none_turned, part_past, part_stopped, part_done, parts_below, value_kept, value_refused}
+use Prim.Native.Nat.{◌-◌}
+use Rattle.evaluate.proofs.Walking.{already_kept, none_turned, part_past, part_stopped, part_done, parts_below, value_kept, value_refused}
 use Rattle.evaluate.proofs.+value_at.Goals as goal
 
 pub bounds-seen-i : goal.bounds-seen-i

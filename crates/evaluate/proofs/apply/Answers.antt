@@ -1,6 +1,5 @@
 -- `evaluate::apply` meets its contract: each arm is the operation that it names.
 -- Assumes nothing.
-use borrow.Author.Rules.{rules}
 use mathlib.Core.Path.{sym, ap, ◌∙◌}
 use Rattle.double.specs.declared.Valued.TheVariants.{Double}
 use Rattle.evaluate.specs.Operations.{applied}

@@ -1,6 +1,5 @@
 -- `evaluate::evaluate_from` meets its contract: past the limit there is no node, and the walk starts with nothing kept.
 -- Assumes nothing.
-use borrow.Author.Rules.{rules}
 use mathlib.Core.Path.{sym}
 use Rattle.walks.proofs.Keeping.{none_kept}
 use Rattle.evaluate.proofs.Walking.{past_the_limit}

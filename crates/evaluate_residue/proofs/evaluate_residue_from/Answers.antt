@@ -1,6 +1,5 @@
 -- `evaluate_residue::evaluate_residue_from` meets its contract: the walk starts with nothing kept, and its answer is the root's residue or refusal.
 -- Assumes nothing.
-use borrow.Author.Rules.{rules}
 use Rattle.evaluate_residue.proofs.Walk.{answered_kept, answered_refused, nothing_kept, past_the_limit}
 use Rattle.evaluate_residue.proofs.evaluate_residue_from.Goals as goal
 

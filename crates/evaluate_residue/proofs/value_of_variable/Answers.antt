@@ -1,6 +1,5 @@
 -- `evaluate_residue::value_of_variable` meets its contract: past the table there is no value.
 -- Assumes nothing.
-use borrow.Author.Rules.{rules}
 use native.Mathlib.Omega.{arith}
 use borrow.Author.Tests.{lt-ltb, le-ltb}
 use Rattle.evaluate_residue.proofs.value_of_variable.Goals as goal

@@ -2,8 +2,7 @@
 -- Assumes nothing.
 use Prim.Native.Nat.{◌-◌}
 use native.Mathlib.Omega.{arith}
-use Rattle.factorial.proofs.Growth.{literal_factorials}
-use Rattle.factorial.proofs.Running.{RunningProduct, at_first, turn_is_below_nineteen, product_fits, next_product, product_past_the_literals, last_fits, last_product}
+use Rattle.factorial.proofs.Running.{at_first, turn_is_below_nineteen, product_fits, next_product, product_past_the_literals, last_fits, last_product}
 use Rattle.factorial.proofs.factorial.Goals as goal
 
 pub loop-i-init : goal.loop-i-init

@@ -1,6 +1,5 @@
 -- `lent::finish` meets its contract: what the work appended is put back, and after a refusal nothing is written.
 -- Assumes nothing.
-use borrow.Author.Rules.{rules}
 use Rattle.lent.proofs.Finishing.{may_put_back, accepted_leaves, refused_leaves}
 use Rattle.lent.proofs.finish.Goals as goal
 

@@ -1,9 +1,7 @@
 -- `lent::put_back` meets its contract: after each turn the tables are the new ones up to the entry and the old ones from there.
 -- Assumes nothing.
-use native.Mathlib.Omega.{arith}
-use mathlib.Core.Path.{◌≡◌}
 use Prim.Native.Nat.{◌≤◌, ◌-◌}
-use Rattle.lent.proofs.Overwrite.{Overwritten, starts_at, ends_at, one_more, as_long}
+use Rattle.lent.proofs.Overwrite.{Overwritten}
 use Rattle.lent.proofs.put_back.Given as goal
 
 abbrev pub invariant-loop-i : goal.invariant-loop-i

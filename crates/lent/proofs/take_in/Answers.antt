@@ -1,8 +1,6 @@
 -- `lent::take_in` meets its contract: a pool is copied, and where it is none nothing is said of the copies.
 -- Assumes nothing.
 use mathlib.Core.Path.{sym, ◌∙◌}
-use borrow.Author.Rules.{rules}
-use borrow.Author.Tests.{not-true, not-false}
 use Rattle.lent.proofs.Taken.{not_taken, taken, may_copy_kinds, may_copy_words}
 use Rattle.lent.proofs.take_in.Goals as goal
 

@@ -1,7 +1,6 @@
 -- `literal::exp_literal` meets its contract: 0 alone has an `exp`.
 -- Assumes nothing.
 use mathlib.Core.Path.{◌∙◌, ap, sym}
-use borrow.Author.Rules.{rules}
 use mir.Syntax.{w64}
 use mir.ValLaws.{to_z-of_z}
 use Rattle.literal.specs.Literal.{is_zero, exp_of}

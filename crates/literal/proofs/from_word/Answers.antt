@@ -4,7 +4,6 @@ use mathlib.Core.Path.{ap}
 use Prim.Native.Nat.{◌-◌, ◌^◌, ◌<◌}
 use lib.IntN.{negsuc}
 use native.Mathlib.Omega.{arith}
-use borrow.Author.Rules.{rules}
 use mir.Syntax.{w64}
 use mir.Val.{SFits, hbits, bits}
 use mir.ValLaws.{to_z-of_z, to_z_pos}

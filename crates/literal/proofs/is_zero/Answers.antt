@@ -4,7 +4,6 @@ use mathlib.Core.Path.{◌∙◌, ap}
 use lib.IntN.{nat_abs}
 use lib.Dec.{eqb}
 use Prim.Native.Nat.{ℕ}
-use borrow.Author.Rules.{rules}
 use mir.Syntax.{w64}
 use mir.ValLaws.{to_z-of_z}
 use Rattle.literal.proofs.is_zero.Goals as goal

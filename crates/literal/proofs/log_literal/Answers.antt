@@ -1,7 +1,6 @@
 -- `literal::log_literal` meets its contract: 1 alone has a `log`.
 -- Assumes nothing.
 use mathlib.Core.Path.{◌∙◌, ap, sym}
-use borrow.Author.Rules.{rules}
 use mir.Syntax.{w64}
 use mir.ValLaws.{to_z-of_z}
 use Rattle.literal.specs.Literal.{is_one, log_of}

@@ -1,6 +1,5 @@
 -- `mul_rules::ahead` meets its contract: a product, on the left before the right, may start with a literal.
 -- Assumes nothing.
-use borrow.Author.Rules.{rules}
 use mathlib.Core.Path.{sym, ◌∙◌}
 use Rattle.pool.specs.Pool.{node_in}
 use Rattle.views.proofs.Missed.{mul_missed}

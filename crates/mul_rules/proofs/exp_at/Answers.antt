@@ -1,6 +1,5 @@
 -- `mul_rules::exp_at` meets its contract: the view of the node tells whether it is an Exp.
 -- Assumes nothing.
-use borrow.Author.Rules.{rules}
 use mathlib.Core.Path.{sym, ap, ◌∙◌}
 use Rattle.pool.specs.Pool.{node_in}
 use Rattle.views.proofs.Patterns.{exp_of, exp_seen}

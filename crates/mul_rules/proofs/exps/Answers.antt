@@ -1,6 +1,5 @@
 -- `mul_rules::exps` meets its contract: the shapes of both factors say which of the exp rules can hold.
 -- Assumes nothing.
-use borrow.Author.Rules.{rules}
 use mathlib.Core.Path.{sym, ◌∙◌}
 use Rattle.pool.specs.Pool.{node_in}
 use Rattle.views.proofs.Missed.{mul_missed, exp_missed}

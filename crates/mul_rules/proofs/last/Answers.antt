@@ -1,6 +1,5 @@
 -- `mul_rules::last` meets its contract: a literal on the right changes places.
 -- Assumes nothing.
-use borrow.Author.Rules.{rules}
 use mathlib.Core.Path.{sym, ◌∙◌}
 use Rattle.pool.specs.Pool.{node_in}
 use Rattle.mul_rules.proofs.Groups.{lit_last, other_last}

@@ -1,6 +1,5 @@
 -- `mul_rules::lit_ahead` meets its contract: the product starts with a literal, or the next group is tried.
 -- Assumes nothing.
-use borrow.Author.Rules.{rules}
 use mathlib.Core.Path.{sym, ap, ◌∙◌}
 use Rattle.pool.specs.Pool.{node_in}
 use Rattle.mul_rules.specs.Rules.{lit_arm}

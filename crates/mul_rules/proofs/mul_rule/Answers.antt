@@ -1,6 +1,5 @@
 -- `mul_rules::mul_rule` meets its contract: each group decides or leaves the next one to be tried, as in the table.
 -- Assumes nothing.
-use borrow.Author.Rules.{rules}
 use Rattle.pool.specs.Pool.{node_in}
 use Rattle.constructors.specs.Tables.{mul_lits, mul_exps, mul_left, mul_pows}
 use Rattle.mul_rules.proofs.Groups.{decides, passes, from_exps, from_left, from_pows, from_last}

@@ -1,6 +1,5 @@
 -- `mul_rules::one_exp` meets its contract: the second factor is looked at first.
 -- Assumes nothing.
-use borrow.Author.Rules.{rules}
 use mathlib.Core.Path.{sym, ap, ◌∙◌}
 use Rattle.pool.specs.Pool.{node_in}
 use Rattle.mul_rules.specs.Rules.{exp_arm}

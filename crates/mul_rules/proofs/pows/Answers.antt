@@ -1,6 +1,5 @@
 -- `mul_rules::pows` meets its contract: the second factor of the left product is compared with the right factor, and with its base.
 -- Assumes nothing.
-use borrow.Author.Rules.{rules}
 use mathlib.Core.Path.{sym, ◌∙◌}
 use borrow.Author.Tests.{eq-eqb, ne_eqb}
 use Rattle.pool.specs.Pool.{node_in}

@@ -1,6 +1,5 @@
 -- `mul_rules::two_exps` meets its contract: the factors are looked at in the order of the rules.
 -- Assumes nothing.
-use borrow.Author.Rules.{rules}
 use mathlib.Core.Path.{sym, ap, ◌∙◌}
 use Rattle.pool.specs.Pool.{node_in}
 use Rattle.mul_rules.specs.Rules.{exp_arm}

@@ -1,6 +1,5 @@
 -- `mul_rules::two_lits` meets its contract: the tests stand in the order of the rules.
 -- Assumes nothing.
-use borrow.Author.Rules.{rules}
 use mathlib.Core.Path.{◌≡◌}
 use mir.Syntax.{w64}
 use mir.Val.{to_z, of_z}

@@ -1,6 +1,5 @@
 -- `mul_rules::two_pows` meets its contract: the bases are compared by their numbers.
 -- Assumes nothing.
-use borrow.Author.Rules.{rules}
 use mathlib.Core.Path.{sym, ◌∙◌}
 use borrow.Author.Tests.{eq-eqb, ne_eqb}
 use Rattle.pool.specs.Pool.{node_in}

@@ -3,9 +3,9 @@
 use Prim.Native.Nat.{◌+◌, ◌-◌}
 use native.Mathlib.Omega.{arith}
 use Rattle.pool.specs.Pool.{node_in}
-use Rattle.pool.specs.Made.{next_of, pool_of}
+use Rattle.pool.specs.Made.{next_of}
 use Rattle.shape.specs.Shape.{rename}
-use Rattle.node_read.proofs.OneByOne.{all_below_limit, Appended, shifted_by, none_appended, one_appended, none_more, all_appended}
+use Rattle.node_read.proofs.OneByOne.{all_below_limit, shifted_by, none_appended, one_appended, none_more, all_appended}
 use Rattle.node_read.proofs.append_entries.Goals as goal
 
 pub next_of-by-requires : goal.next_of-by-requires

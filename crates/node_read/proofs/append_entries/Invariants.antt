@@ -1,11 +1,10 @@
 -- `node_read::append_entries` meets its contract: what is appended so far is what the definition appends.
 -- Assumes nothing.
 use Prim.Native.Nat.{◌+◌, ◌-◌}
-use native.Mathlib.Omega.{arith}
 use Rattle.pool.specs.Pool.{node_in}
 use Rattle.pool.specs.Made.{next_of, pool_of}
 use Rattle.shape.specs.Shape.{rename}
-use Rattle.node_read.proofs.OneByOne.{all_below_limit, Appended, shifted_by, none_appended, one_appended, none_more, all_appended}
+use Rattle.node_read.proofs.OneByOne.{Appended}
 use Rattle.node_read.proofs.append_entries.Given as goal
 
 abbrev pub invariant-loop-i : goal.invariant-loop-i

@@ -3,8 +3,7 @@
 use mathlib.Core.Path.{refl, sym, ◌∙◌}
 use Prim.Native.Nat.{◌-◌}
 use native.Mathlib.Omega.{arith}
-use borrow.Author.Tests.{not-true, not-false}
-use Rattle.node_read.proofs.Entering.{Entering, none_entered, one_entered, not_entered, all_entered}
+use Rattle.node_read.proofs.Entering.{none_entered, one_entered, not_entered, all_entered}
 use Rattle.node_read.proofs.entries_in.Goals as goal
 
 pub loop-i-init : goal.loop-i-init

@@ -1,10 +1,7 @@
 -- `node_read::entries_in` meets its contract: the entries passed stand in the tables, and one that is no node ends the loop.
 -- Assumes nothing.
-use mathlib.Core.Path.{refl, sym, ◌∙◌}
 use Prim.Native.Nat.{◌-◌}
-use native.Mathlib.Omega.{arith}
-use borrow.Author.Tests.{not-true, not-false}
-use Rattle.node_read.proofs.Entering.{Entering, none_entered, one_entered, not_entered, all_entered}
+use Rattle.node_read.proofs.Entering.{Entering}
 use Rattle.node_read.proofs.entries_in.Given as goal
 
 abbrev pub invariant-loop-i : goal.invariant-loop-i

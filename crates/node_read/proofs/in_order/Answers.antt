@@ -1,6 +1,5 @@
 -- `node_read::in_order` meets its contract: the walk marks each entry with its number + 1.
 -- Assumes nothing.
-use borrow.Author.Rules.{rules}
 use mathlib.Core.Path.{refl, ◌∙◌}
 use Rattle.pool.specs.Pool.{limit, node_in}
 use Rattle.node_walk.proofs.Visiting.{zeros_are_fresh}

@@ -1,6 +1,5 @@
 -- `node_read::read_file` meets its contract: the test, and then the entries are appended.
 -- Assumes nothing.
-use borrow.Author.Rules.{rules}
 use mathlib.Core.Path.{refl}
 use Rattle.pool.specs.Pool.{limit}
 use Rattle.pool.specs.Made.{pool_of}

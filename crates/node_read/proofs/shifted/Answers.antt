@@ -1,6 +1,5 @@
 -- `node_read::shifted` meets its contract: each part is shifted, and the node is made anew with them.
 -- Assumes nothing.
-use borrow.Author.Rules.{rules}
 use mathlib.Core.Path.{refl, ◌∙◌}
 use Prim.Native.Nat.{◌+◌, ◌<◌}
 use native.Mathlib.Omega.{arith}

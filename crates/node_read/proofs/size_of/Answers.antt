@@ -1,6 +1,5 @@
 -- `node_read::size_of` meets its contract: each way out is one in which 7 comes, or the size.
 -- Assumes nothing.
-use borrow.Author.Rules.{rules}
 use Rattle.node_read.proofs.Sizes.{too_short, too_many, other_length, right_length}
 use Rattle.node_read.proofs.size_of.Goals as goal
 

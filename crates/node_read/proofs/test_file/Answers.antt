@@ -1,8 +1,6 @@
 -- `node_read::test_file` meets its contract: 7, 8 and 9 in turn, and then the entries are in the tables.
 -- Assumes nothing.
-use borrow.Author.Rules.{rules}
 use mathlib.Core.Path.{refl}
-use borrow.Author.Tests.{not-true, not-false}
 use Rattle.node_read.proofs.Sizes.{size_is, has_entries}
 use Rattle.node_read.proofs.Accepting.{last_below, wrong_length_lem, wrong_entry_lem, wrong_sequence_lem, all_right}
 use Rattle.node_read.proofs.test_file.Goals as goal

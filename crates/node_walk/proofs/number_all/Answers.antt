@@ -1,11 +1,9 @@
 -- `node_walk::number_all` meets its contract: after i turns the first i roots are visited.
 -- Assumes nothing.
-use borrow.Author.Rules.{rules}
 use Prim.Native.Nat.{◌-◌}
 use native.Mathlib.Omega.{arith}
-use lib.ListN.{length}
 use Rattle.pool.specs.Pool.{limit, node_in}
-use Rattle.node_walk.proofs.Visiting.{RootsVisited, none_visited, root_below, roots_stand, root_visited, all_visited}
+use Rattle.node_walk.proofs.Visiting.{none_visited, root_below, roots_stand, root_visited, all_visited}
 use Rattle.node_walk.proofs.number_all.Goals as goal
 
 pub loop-i-init : goal.loop-i-init

@@ -1,6 +1,5 @@
 -- `node_write::entry` meets its contract: the node that the order names, renumbered.
 -- Assumes nothing.
-use borrow.Author.Rules.{rules}
 use mathlib.Core.Path.{◌∙◌, ap, subst⁻¹}
 use Rattle.pool.specs.Nodes.{parts}
 use Rattle.shape.specs.Shape.{rename}

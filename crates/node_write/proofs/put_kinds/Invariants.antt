@@ -2,11 +2,10 @@
 -- Assumes nothing.
 use mathlib.Core.List.{map}
 use Prim.Native.Nat.{◌-◌}
-use native.Mathlib.Omega.{arith}
 use Rattle.pool.specs.Nodes.{kind_of}
 use Rattle.pool.specs.Pool.{node_in}
 use Rattle.node_write.specs.Entries.{entry_by}
-use Rattle.node_write.proofs.Putting.{EntriesPut, kinds_put, no_entries_put, kind_put, all_entries_put}
+use Rattle.node_write.proofs.Putting.{EntriesPut}
 use Rattle.node_write.proofs.put_kinds.Given as goal
 
 abbrev pub invariant-loop-m : goal.invariant-loop-m

@@ -3,9 +3,8 @@
 use Prim.Native.Nat.{◌-◌}
 use native.Mathlib.Omega.{arith}
 use Rattle.pool.specs.Pool.{node_in}
-use Rattle.shape.specs.File.{word_bytes}
 use Rattle.node_write.specs.Entries.{entry_by}
-use Rattle.node_write.proofs.Putting.{EntriesPut, words_put, no_entries_put, word_put, all_entries_put}
+use Rattle.node_write.proofs.Putting.{words_put, no_entries_put, word_put, all_entries_put}
 use Rattle.node_write.proofs.put_words.Goals as goal
 
 pub loop-m-init : goal.loop-m-init

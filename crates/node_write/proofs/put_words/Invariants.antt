@@ -1,11 +1,10 @@
 -- `node_write::put_words` meets its contract: after m turns the words of the first m entries are put.
 -- Assumes nothing.
 use Prim.Native.Nat.{◌-◌}
-use native.Mathlib.Omega.{arith}
 use Rattle.pool.specs.Pool.{node_in}
 use Rattle.shape.specs.File.{word_bytes}
 use Rattle.node_write.specs.Entries.{entry_by}
-use Rattle.node_write.proofs.Putting.{EntriesPut, words_put, no_entries_put, word_put, all_entries_put}
+use Rattle.node_write.proofs.Putting.{EntriesPut}
 use Rattle.node_write.proofs.put_words.Given as goal
 
 abbrev pub invariant-loop-m : goal.invariant-loop-m

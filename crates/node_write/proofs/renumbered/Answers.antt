@@ -1,6 +1,5 @@
 -- `node_write::renumbered` meets its contract: each part has a number, and the node is made anew with them.
 -- Assumes nothing.
-use borrow.Author.Rules.{rules}
 use mathlib.Core.Path.{◌∙◌}
 use Rattle.node_walk.proofs.EachPart.{of_left, of_right, parts_told}
 use Rattle.node_walk.proofs.Renamed.{renamed_none, renamed_one, renamed_two}

@@ -1,6 +1,5 @@
 -- `node_write::write_file` meets its contract: the walk gives the entries and the length, and the three runs of bytes are the file.
 -- Assumes nothing.
-use borrow.Author.Rules.{rules}
 use mathlib.Core.Path.{refl}
 use mathlib.Core.List.{[], ◌∷◌}
 use native.Mathlib.Omega.{arith}

@@ -2,9 +2,7 @@
 -- Assumes nothing.
 use native.Mathlib.Omega.{arith}
 use mathlib.Core.Path.{◌≡◌}
-use Prim.Native.Nat.{◌≤◌, ◌-◌}
-use Rattle.pool.specs.Pool.{node_in}
-use Rattle.reached.specs.Kept.{test_of, FoundBelow}
+use Prim.Native.Nat.{◌-◌}
 use Rattle.reached.proofs.Found.{none_found, one_more_found}
 use Rattle.reached.proofs.fill.Goals as goal
 

@@ -1,11 +1,8 @@
 -- `reached::fill` meets its contract: after each turn the table has the answers of the nodes that were passed.
 -- Assumes nothing.
-use native.Mathlib.Omega.{arith}
-use mathlib.Core.Path.{◌≡◌}
 use Prim.Native.Nat.{◌≤◌, ◌-◌}
 use Rattle.pool.specs.Pool.{node_in}
 use Rattle.reached.specs.Kept.{test_of, FoundBelow}
-use Rattle.reached.proofs.Found.{none_found, one_more_found}
 use Rattle.reached.proofs.fill.Given as goal
 
 abbrev pub invariant-loop-i : goal.invariant-loop-i

@@ -1,6 +1,5 @@
 -- `reached::kept` meets its contract: a smaller part has its answer in the table, and any other has none.
 -- Assumes nothing.
-use borrow.Author.Rules.{rules}
 use Rattle.reached.proofs.Found.{kept_smaller, kept_other}
 use Rattle.reached.proofs.kept.Goals as goal
 

@@ -1,6 +1,5 @@
 -- `reached::kept_of_parts` meets its contract: the second part is looked at where the first has no answer.
 -- Assumes nothing.
-use borrow.Author.Rules.{rules}
 use Rattle.reached.proofs.Found.{of_none, of_one, of_first, of_second}
 use Rattle.reached.proofs.kept_of_parts.Goals as goal
 

@@ -1,6 +1,5 @@
 -- `reached::meets` meets its contract: the node's kind decides.
 -- Assumes nothing.
-use borrow.Author.Rules.{rules}
 use Rattle.reached.proofs.Found.{max_by_kind, exp_by_kind, log_by_kind}
 use Rattle.reached.proofs.meets.Goals as goal
 

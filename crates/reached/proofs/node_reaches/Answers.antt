@@ -1,6 +1,5 @@
 -- `reached::node_reaches` meets its contract: the node itself decides, or else its parts, of which a leaf has none.
 -- Assumes nothing.
-use borrow.Author.Rules.{rules}
 use Rattle.reached.specs.Kept.{kept_below}
 use Rattle.reached.proofs.Found.{leaf_decides, first_decides, second_decides}
 use Rattle.reached.proofs.node_reaches.Goals as goal

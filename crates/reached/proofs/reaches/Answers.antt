@@ -1,6 +1,5 @@
 -- `reached::reaches` meets its contract: past the tables there is no node, and the root's own answer is in the table that was filled.
 -- Assumes nothing.
-use borrow.Author.Rules.{rules}
 use native.Mathlib.Omega.{arith}
 use Rattle.reached.proofs.Found.{no_node}
 use Rattle.reached.proofs.reaches.Goals as goal

@@ -4,7 +4,7 @@ use native.Mathlib.Nat.{mod-lt, le_trans, le_of_lt, div-le_self}
 use native.Mathlib.Omega.{arith}
 use Prim.Native.Nat.{◌/◌, ◌*◌}
 use Rattle.residue.proofs.Congruence.{product_fits}
-use Rattle.residue.proofs.Euclid.{Euclid, euclid_begins, euclid_turns, euclid_inverts, euclid_refuses}
+use Rattle.residue.proofs.Euclid.{euclid_begins, euclid_turns, euclid_inverts, euclid_refuses}
 use Rattle.residue.proofs.inverse.Goals as goal
 
 pub loop-r1-init : goal.loop-r1-init

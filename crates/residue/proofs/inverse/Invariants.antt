@@ -1,10 +1,6 @@
 -- `residue::inverse` meets its contract: the loop keeps Euclid's invariant, and its end decides between the inverse and none.
 -- The measure is the second remainder. Assumes nothing.
-use native.Mathlib.Nat.{mod-lt, le_trans, le_of_lt, div-le_self}
-use native.Mathlib.Omega.{arith}
-use Prim.Native.Nat.{◌/◌, ◌*◌}
-use Rattle.residue.proofs.Congruence.{product_fits}
-use Rattle.residue.proofs.Euclid.{Euclid, euclid_begins, euclid_turns, euclid_inverts, euclid_refuses}
+use Rattle.residue.proofs.Euclid.{Euclid}
 use Rattle.residue.proofs.inverse.Given as goal
 
 abbrev pub invariant-loop-r1 : goal.invariant-loop-r1

@@ -1,9 +1,8 @@
 -- `residue::power` meets its contract. The loop's invariant: the product so far times the base to the exponent left is the whole power, modulo m.
 -- The measure is the exponent left. Assumes nothing.
-use mathlib.Core.Logic.{⊎_elim}
 use native.Mathlib.Omega.{arith}
 use Rattle.residue.proofs.Congruence.{product_fits}
-use Rattle.residue.proofs.Squaring.{Squares, squares_begin, squares_odd, squares_even, squares_end}
+use Rattle.residue.proofs.Squaring.{squares_begin, squares_odd, squares_even, squares_end}
 use Rattle.residue.proofs.power.Goals as goal
 use Rattle.residue.proofs.power.Goals.{then-n-eq1, else-n-eq1}
 

@@ -1,6 +1,5 @@
 -- `residue::product` meets its contract: a product of two residues fits 64 bits, since no modulus has more than 31.
 -- Assumes nothing.
-use borrow.Author.Rules.{rules}
 use native.Mathlib.Omega.{arith}
 use Rattle.residue.proofs.Congruence.{product_fits}
 use Rattle.residue.proofs.product.Goals as goal

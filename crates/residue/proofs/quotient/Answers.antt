@@ -2,7 +2,6 @@
 -- Assumes nothing.
 use mathlib.Core.Path.{◌≡◌, sym, ◌∙◌}
 use native.Mathlib.Nat.{le_of_lt}
-use borrow.Author.Rules.{rules}
 use Rattle.residue.specs.Residue.{quotient_of}
 use Rattle.residue.specs.declared.Divided.TheVariants.{Residue}
 use Rattle.residue.proofs.Congruence.{product_fits}

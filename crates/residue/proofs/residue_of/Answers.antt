@@ -2,7 +2,6 @@
 -- A signed number is bits here, so the first thing shown is which number each stands for. Assumes nothing.
 use mathlib.Core.Path.{◌≡◌, ap, ◌∙◌}
 use native.Mathlib.Omega.{arith}
-use borrow.Author.Rules.{rules}
 use lib.IntN.{pos, nat_abs, ◌+ℤ◌}
 use lib.Signed.{rem_z, mag_rem}
 use mir.Syntax.{w64}

@@ -1,6 +1,5 @@
 -- `sheet_line::after_order` meets its contract: a space in what is left means a fourth field.
 -- Assumes nothing.
-use borrow.Author.Rules.{rules}
 use mathlib.Core.Path.{sym, ◌∙◌, ap}
 use mathlib.Core.List.{List, ◌∷◌}
 use Prim.Native.Nat.{ℕ}

@@ -1,6 +1,5 @@
 -- `sheet_line::after_var` meets its contract: the second field ends at the next space, or is all that is left.
 -- Assumes nothing.
-use borrow.Author.Rules.{rules}
 use mathlib.Core.Path.{sym, ◌∙◌, ap}
 use mathlib.Core.List.{List, ◌∷◌}
 use Prim.Native.Nat.{ℕ}

@@ -1,6 +1,5 @@
 -- `sheet_line::content` meets its contract: the last byte alone is looked at.
 -- Assumes nothing.
-use borrow.Author.Rules.{rules}
 use Rattle.sheet_line.proofs.Splitting.{no_content, with_line_end, without_line_end}
 use Rattle.sheet_line.proofs.content.Goals as goal
 

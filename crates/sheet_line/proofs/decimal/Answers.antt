@@ -1,6 +1,5 @@
 -- `sheet_line::decimal` meets its contract: digits that do not start with 0, or one digit, are a decimal.
 -- Assumes nothing.
-use borrow.Author.Rules.{rules}
 use mathlib.Core.Path.{◌∙◌, ap}
 use Rattle.sheet_line.specs.Cut.{cut_number}
 use Rattle.sheet_line.proofs.Numbers.{no_digit, one_digit, leading_zero, more_digits}

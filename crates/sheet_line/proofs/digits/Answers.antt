@@ -2,8 +2,7 @@
 -- Assumes nothing.
 use Prim.Native.Nat.{◌-◌}
 use native.Mathlib.Omega.{arith}
-use lib.ListN.{length}
-use Rattle.sheet_line.proofs.Numbers.{Reading, starts, turn, low, high, ends}
+use Rattle.sheet_line.proofs.Numbers.{starts, turn, low, high, ends}
 use Rattle.sheet_line.proofs.digits.Goals as goal
 
 pub loop-i-init : goal.loop-i-init

@@ -1,9 +1,8 @@
 -- `sheet_line::digits` meets its contract: the digits passed gave n, and those left go on from it.
 -- Assumes nothing.
 use Prim.Native.Nat.{◌-◌}
-use native.Mathlib.Omega.{arith}
 use lib.ListN.{length}
-use Rattle.sheet_line.proofs.Numbers.{Reading, starts, turn, low, high, ends}
+use Rattle.sheet_line.proofs.Numbers.{Reading}
 use Rattle.sheet_line.proofs.digits.Given as goal
 
 abbrev pub invariant-loop-i : goal.invariant-loop-i

@@ -1,9 +1,7 @@
 -- `sheet_line::find` meets its contract: the first one of the whole is the first from here on, as far as none was passed.
 -- Assumes nothing.
 use Prim.Native.Nat.{◌-◌}
-use native.Mathlib.Omega.{arith}
-use lib.ListN.{length}
-use Rattle.sheet_line.proofs.Splitting.{Seeking, starts, found, turn, none}
+use Rattle.sheet_line.proofs.Splitting.{starts, found, turn, none}
 use Rattle.sheet_line.proofs.find.Goals as goal
 
 pub loop-i-init : goal.loop-i-init

@@ -1,9 +1,8 @@
 -- `sheet_line::find` meets its contract: the first one of the whole is the first from here on, as far as none was passed.
 -- Assumes nothing.
 use Prim.Native.Nat.{◌-◌}
-use native.Mathlib.Omega.{arith}
 use lib.ListN.{length}
-use Rattle.sheet_line.proofs.Splitting.{Seeking, starts, found, turn, none}
+use Rattle.sheet_line.proofs.Splitting.{Seeking}
 use Rattle.sheet_line.proofs.find.Given as goal
 
 abbrev pub invariant-loop-i : goal.invariant-loop-i

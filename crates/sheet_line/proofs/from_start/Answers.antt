@@ -1,6 +1,5 @@
 -- `sheet_line::from_start` meets its contract: the first field ends at the first space, and one field alone is no line.
 -- Assumes nothing.
-use borrow.Author.Rules.{rules}
 use mathlib.Core.Path.{sym, ◌∙◌, ap}
 use mathlib.Core.List.{List}
 use Prim.Native.Nat.{ℕ}

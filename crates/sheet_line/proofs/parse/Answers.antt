@@ -1,6 +1,5 @@
 -- `sheet_line::parse` meets its contract: a line that is not too long is its content, split into fields.
 -- Assumes nothing.
-use borrow.Author.Rules.{rules}
 use mathlib.Core.Path.{sym}
 use native.Mathlib.Omega.{arith}
 use lib.Seq.{length-take-le}

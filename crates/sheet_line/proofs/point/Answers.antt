@@ -1,6 +1,5 @@
 -- `sheet_line::point` meets its contract: a decimal, or a minus and a decimal that is not 0.
 -- Assumes nothing.
-use borrow.Author.Rules.{rules}
 use mathlib.Core.Path.{sym, ◌∙◌}
 use Prim.Native.Nat.{◌≤◌}
 use native.Mathlib.Omega.{arith}

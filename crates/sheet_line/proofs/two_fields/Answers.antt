@@ -1,6 +1,5 @@
 -- `sheet_line::two_fields` meets its contract: each field is a decimal, or the line has not the form.
 -- Assumes nothing.
-use borrow.Author.Rules.{rules}
 use mathlib.Core.Path.{sym, ◌∙◌}
 use Rattle.taylor.specs.Expand.{none}
 use Rattle.sheet_text.specs.Line.{read, decimal_of}

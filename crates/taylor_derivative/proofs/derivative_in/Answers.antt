@@ -2,7 +2,6 @@
 -- Assumes nothing.
 use mathlib.Core.Path.{refl, ◌∙◌}
 use native.Mathlib.Omega.{arith}
-use borrow.Author.Rules.{rules}
 use Rattle.taylor_base.specs.Answers.{list_of}
 use Rattle.pool.specs.Made.{pool_of}
 use Rattle.taylor_derivative.proofs.Factorials.{lent_tables, derivative_is, zero_behind}

@@ -1,6 +1,5 @@
 -- `taylor_derivative::factorial_in` meets its contract: a one, and the factors after it.
 -- Assumes nothing.
-use borrow.Author.Rules.{rules}
 use Rattle.taylor_base.proofs.Steps.{onward, handed_on}
 use Rattle.taylor_derivative.proofs.factorial_in.Goals as goal
 

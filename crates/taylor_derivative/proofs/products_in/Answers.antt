@@ -1,11 +1,8 @@
 -- `taylor_derivative::products_in` meets its contract: it is `fold`, one factor a turn.
 -- Assumes nothing.
-use borrow.Author.Rules.{rules}
 use native.Mathlib.Omega.{arith}
 use Prim.Native.Nat.{◌-◌}
-use Rattle.pool.specs.Made.{pool_of}
-use Rattle.taylor.specs.Work.{fold}
-use Rattle.taylor_products.proofs.Folding.{Folding, fold_starts, fold_stopped, fold_onward, fold_done}
+use Rattle.taylor_products.proofs.Folding.{fold_starts, fold_stopped, fold_onward, fold_done}
 use Rattle.taylor_derivative.specs.Factorials.{factor}
 use Rattle.taylor_derivative.proofs.products_in.Goals as goal
 

@@ -4,7 +4,7 @@ use native.Mathlib.Omega.{arith}
 use mathlib.Core.Path.{refl}
 use lib.ListN.{replicate}
 use Rattle.text.specs.Text.{room}
-use Rattle.text.proofs.Digits.{Remains, at_first, after_a_turn, at_last}
+use Rattle.text.proofs.Digits.{at_first, after_a_turn, at_last}
 use Rattle.text.proofs.decimal_text.Goals as goal
 
 pub loop-rest-init : goal.loop-rest-init

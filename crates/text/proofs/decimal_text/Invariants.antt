@@ -1,10 +1,6 @@
 -- `text::decimal_text` meets its contract: at each turn the digits still to come and those written already are the number's.
 -- Assumes nothing.
-use native.Mathlib.Omega.{arith}
-use mathlib.Core.Path.{refl}
-use lib.ListN.{replicate}
-use Rattle.text.specs.Text.{room}
-use Rattle.text.proofs.Digits.{Remains, at_first, after_a_turn, at_last}
+use Rattle.text.proofs.Digits.{Remains}
 use Rattle.text.proofs.decimal_text.Given as goal
 
 abbrev pub invariant-loop-rest : goal.invariant-loop-rest

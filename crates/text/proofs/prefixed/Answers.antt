@@ -1,6 +1,5 @@
 -- `text::prefixed` meets its contract: the byte stands one place before the text's start.
 -- Assumes nothing.
-use borrow.Author.Rules.{rules}
 use Rattle.text.proofs.Fronts.{written_in_front}
 use Rattle.text.proofs.prefixed.Goals as goal
 

@@ -5,7 +5,6 @@ use mathlib.Core.List.{List, ◌∷◌}
 use Prim.Native.Nat.{ℕ}
 use native.Mathlib.Omega.{arith}
 use lib.ListN.{length, replicate}
-use borrow.Author.Rules.{rules}
 use Rattle.text.specs.Text.{room, letter_x, underscore}
 use Rattle.text.proofs.Fronts.{one_byte, may_grow, written_as}
 use Rattle.text.proofs.Digits.{decimal_is_short}

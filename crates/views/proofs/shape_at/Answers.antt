@@ -1,6 +1,5 @@
 -- `views::shape_at` meets its contract: the view of the node that is read.
 -- Assumes nothing.
-use borrow.Author.Rules.{rules}
 use mathlib.Core.Path.{ap, ◌∙◌}
 use Rattle.views.specs.Shapes.{shape_of}
 use Rattle.views.proofs.shape_at.Goals as goal

@@ -1,6 +1,5 @@
 -- `bunlayog::build::bunlayog_exp` meets its contract: the entry point's outcome in C's terms.
 -- Assumes nothing.
-use borrow.Author.Rules.{rules}
 use Rattle.c_answers.proofs.InC.{in_c_lem}
 use Rattle.bunlayog.proofs.build.bunlayog_exp.Goals as goal
 

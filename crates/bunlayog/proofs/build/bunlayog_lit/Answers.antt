@@ -1,7 +1,6 @@
 -- `bunlayog::build::bunlayog_lit` meets its contract: the entry point's outcome in C's terms.
 -- Assumes nothing.
 use mathlib.Core.Path.{◌≡◌}
-use borrow.Author.Rules.{rules}
 use mir.Syntax.{w64}
 use mir.Val.{to_z, of_z}
 use mir.ValLaws.{to_z-of_z}

@@ -1,6 +1,5 @@
 -- `bunlayog::expansion_entries::bunlayog_taylor_coeff` meets its contract: the entry point's outcome in C's terms.
 -- Assumes nothing.
-use borrow.Author.Rules.{rules}
 use Rattle.c_answers.proofs.InC.{in_c_lem}
 use Rattle.bunlayog.proofs.expansion_entries.bunlayog_taylor_coeff.Goals as goal
 

@@ -1,7 +1,6 @@
 -- `bunlayog::expansion_entries::bunlayog_taylor_order` meets its contract: the entry point's outcome in C's terms.
 -- Assumes nothing.
 use mathlib.Core.Path.{◌∙◌, ap}
-use borrow.Author.Rules.{rules}
 use Rattle.c_answers.specs.Expansions.{count_in_c}
 use Rattle.bunlayog.proofs.expansion_entries.bunlayog_taylor_order.Goals as goal
 

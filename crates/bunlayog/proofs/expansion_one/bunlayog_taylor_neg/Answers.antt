@@ -1,6 +1,5 @@
 -- `bunlayog::expansion_one::bunlayog_taylor_neg` meets its contract: the entry point's outcome in C's terms.
 -- Assumes nothing.
-use borrow.Author.Rules.{rules}
 use Rattle.c_answers.proofs.Expansions.{series_in_c_lem}
 use Rattle.bunlayog.proofs.expansion_one.bunlayog_taylor_neg.Goals as goal
 

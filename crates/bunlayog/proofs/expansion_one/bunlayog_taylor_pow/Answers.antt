@@ -1,6 +1,5 @@
 -- `bunlayog::expansion_one::bunlayog_taylor_pow` meets its contract: the entry point's outcome in C's terms.
 -- Assumes nothing.
-use borrow.Author.Rules.{rules}
 use Rattle.c_answers.proofs.Expansions.{series_in_c_lem}
 use Rattle.bunlayog.proofs.expansion_one.bunlayog_taylor_pow.Goals as goal
 

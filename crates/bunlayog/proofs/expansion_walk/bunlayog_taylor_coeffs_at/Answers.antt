@@ -2,7 +2,6 @@
 -- Assumes nothing.
 use mir.Syntax.{w64}
 use mir.ValLaws.{to_z-of_z}
-use borrow.Author.Rules.{rules}
 use Rattle.c_answers.proofs.Expansions.{series_in_c_lem}
 use Rattle.bunlayog.proofs.expansion_walk.bunlayog_taylor_coeffs_at.Goals as goal
 

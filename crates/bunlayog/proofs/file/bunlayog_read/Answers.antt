@@ -1,6 +1,5 @@
 -- `bunlayog::file::bunlayog_read` meets its contract: the entry point's outcome in C's terms.
 -- Assumes nothing.
-use borrow.Author.Rules.{rules}
 use Rattle.c_answers.proofs.InC.{in_c_lem}
 use Rattle.bunlayog.proofs.file.bunlayog_read.Goals as goal
 

@@ -1,6 +1,5 @@
 -- `bunlayog::print::bunlayog_print` meets its contract: the entry point's outcome in C's terms.
 -- Assumes nothing.
-use borrow.Author.Rules.{rules}
 use Rattle.c_answers.proofs.InC.{written_in_c_lem}
 use Rattle.bunlayog.proofs.printing.bunlayog_print.Goals as goal
 

@@ -1,6 +1,5 @@
 -- `bunlayog::strip::bunlayog_strip` meets its contract: the entry point's outcome in C's terms.
 -- Assumes nothing.
-use borrow.Author.Rules.{rules}
 use Rattle.c_answers.proofs.InC.{written_in_c_lem}
 use Rattle.bunlayog.proofs.strip.bunlayog_strip.Goals as goal
 

@@ -1,7 +1,6 @@
 -- `bunlayog::values::bunlayog_evaluate` meets its contract: the entry point's outcome in C's terms.
 -- Assumes nothing.
 use mathlib.Core.Path.{◌∙◌, ap}
-use borrow.Author.Rules.{rules}
 use Rattle.c_answers.specs.Values.{bits_in_c}
 use Rattle.bunlayog.proofs.values.bunlayog_evaluate.Goals as goal
 

@@ -1,7 +1,6 @@
 -- `bunlayog::values::bunlayog_evaluate_residue` meets its contract: the entry point's outcome in C's terms, and its residue fits.
 -- Assumes nothing.
 use mathlib.Core.Path.{◌∙◌, ap}
-use borrow.Author.Rules.{rules}
 use Rattle.c_answers.specs.Values.{residue_in_c}
 use Rattle.bunlayog.proofs.Residues.{call_below}
 use Rattle.bunlayog.proofs.values.bunlayog_evaluate_residue.Goals as goal

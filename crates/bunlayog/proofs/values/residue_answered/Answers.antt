@@ -1,7 +1,6 @@
 -- `bunlayog::values::residue_answered` meets its contract, by the two cases of the answer: a residue below the modulus fits 32 bits.
 -- Assumes nothing.
 use native.Mathlib.Omega.{arith}
-use borrow.Author.Rules.{rules}
 use Rattle.c_answers.proofs.InC.{no_residue}
 use Rattle.bunlayog.proofs.Residues.{is_below}
 use Rattle.bunlayog.proofs.values.residue_answered.Goals as goal

@@ -1,6 +1,5 @@
 -- `bunlayog::walk::bunlayog_check` meets its contract: by the answer of the test.
 -- Assumes nothing.
-use borrow.Author.Rules.{rules}
 use Rattle.c_answers.proofs.InC.{keeps, breaks}
 use Rattle.bunlayog.proofs.walk.bunlayog_check.Goals as goal
 

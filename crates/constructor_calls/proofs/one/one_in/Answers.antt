@@ -1,6 +1,5 @@
 -- `constructor_calls::one::one_in` meets its contract: each arm is the clause of the definition.
 -- Assumes nothing.
-use borrow.Author.Rules.{rules}
 use Rattle.constructor_calls.proofs.one.one_in.Goals as goal
 
 pub returns-in-Neg : goal.returns-in-Neg

@@ -1,6 +1,5 @@
 -- `constructor_calls::two::two_in` meets its contract: each arm is the clause of the definition.
 -- Assumes nothing.
-use borrow.Author.Rules.{rules}
 use Rattle.constructor_calls.proofs.two.two_in.Goals as goal
 
 pub returns-in-Add : goal.returns-in-Add

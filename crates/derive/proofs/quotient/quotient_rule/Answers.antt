@@ -1,6 +1,5 @@
 -- `quotient_rule` meets its contract: each call is a step of the rule.
 -- Assumes nothing.
-use borrow.Author.Rules.{rules}
 use Rattle.walk_laws.proofs.Steps.{onward, stopped, called}
 use Rattle.derive.proofs.quotient.quotient_rule.Goals as goal
 

@@ -1,6 +1,5 @@
 -- `power_rule` meets its contract: each call is a step of the rule.
 -- Assumes nothing.
-use borrow.Author.Rules.{rules}
 use lib.IntN.{pos}
 use mir.Syntax.{w64}
 use mir.ValLaws.{to_z-of_z}

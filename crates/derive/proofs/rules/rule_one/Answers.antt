@@ -1,6 +1,5 @@
 -- `rule_one` follows the rule of the kind, arm by arm.
 -- Assumes nothing.
-use borrow.Author.Rules.{rules}
 use Rattle.walk_laws.proofs.Steps.{called}
 use Rattle.derive.proofs.Ruled.{by_one}
 use Rattle.derive.proofs.rules.rule_one.Goals as goal

@@ -1,6 +1,5 @@
 -- `rule_two` follows the rule of the kind, arm by arm.
 -- Assumes nothing.
-use borrow.Author.Rules.{rules}
 use Rattle.walk_laws.proofs.Steps.{called}
 use Rattle.derive.proofs.Ruled.{by_two}
 use Rattle.derive.proofs.rules.rule_two.Goals as goal

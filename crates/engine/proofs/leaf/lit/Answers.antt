@@ -1,6 +1,5 @@
 -- `engine::leaf::lit` meets its contract: the test's answer is the definition's.
 -- Assumes nothing.
-use borrow.Author.Rules.{rules}
 use mathlib.Core.Path.{◌≡◌}
 use mir.Syntax.{w64}
 use mir.Val.{to_z, of_z}

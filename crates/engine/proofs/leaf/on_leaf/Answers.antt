@@ -1,9 +1,7 @@
 -- `engine::leaf::on_leaf` meets its contract: the pool is looked at first, then the leaf's own refusal, then one node is appended to the copies.
 -- Assumes nothing.
-use borrow.Author.Rules.{rules}
 use mathlib.Core.Path.{◌∙◌}
 use native.Mathlib.Omega.{arith}
-use borrow.Author.Tests.{not-true, not-false}
 use Rattle.pool.specs.Pool.{limit, append}
 use Rattle.constructor_laws.proofs.Growth.{append_grows}
 use Rattle.lent.specs.declared.Answer.TheVariants.{Node, Refused}

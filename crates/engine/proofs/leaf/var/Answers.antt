@@ -1,6 +1,5 @@
 -- `engine::leaf::var` meets its contract: the test's answer is the definition's, and a number that passes it fits a node.
 -- Assumes nothing.
-use borrow.Author.Rules.{rules}
 use mathlib.Core.Path.{◌≡◌, sym, ◌∙◌}
 use mathlib.Core.Bool.{true, false}
 use native.Mathlib.Omega.{arith}

@@ -1,9 +1,7 @@
 -- `engine::one::on_one` meets its contract: the pool and the given number are looked at first, then the constructor works on the copies.
 -- Assumes nothing.
-use borrow.Author.Rules.{rules}
 use mathlib.Core.Path.{◌∙◌}
 use native.Mathlib.Omega.{arith}
-use borrow.Author.Tests.{not-true, not-false}
 use Rattle.refusals.specs.Refusals.{unknown_node}
 use Rattle.pool.specs.Pool.{limit}
 use Rattle.lent.specs.declared.Answer.TheVariants.{Node, Refused}

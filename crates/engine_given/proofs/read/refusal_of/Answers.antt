@@ -1,8 +1,6 @@
 -- `engine_given::read::refusal_of` meets its contract: by the three tests, in their order.
 -- Assumes nothing.
 use mathlib.Core.Path.{refl, sym, ◌∙◌}
-use borrow.Author.Tests.{not-true, not-false}
-use borrow.Author.Rules.{rules}
 use Rattle.engine_given.proofs.read.refusal_of.Goals as goal
 
 pub returns-then-not-is_pool : goal.returns-then-not-is_pool

@@ -1,9 +1,8 @@
 -- `engine_given::variable::var` meets its contract: the pool, the node and the order are looked at first, then the work is done on the copies.
 -- Assumes nothing.
-use borrow.Author.Rules.{rules}
 use mathlib.Core.Path.{◌∙◌}
 use native.Mathlib.Omega.{arith}
-use borrow.Author.Tests.{not-true, not-false, lt-ltb, le-ltb}
+use borrow.Author.Tests.{lt-ltb, le-ltb}
 use Rattle.refusals.specs.Refusals.{unknown_node, wrong_order}
 use Rattle.pool.specs.Pool.{limit}
 use Rattle.taylor.specs.Expansion.{var}

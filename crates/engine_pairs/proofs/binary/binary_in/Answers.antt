@@ -1,6 +1,5 @@
 -- `engine_pairs::binary::binary_in` meets its contract: each arm is the clause of the definition.
 -- Assumes nothing.
-use borrow.Author.Rules.{rules}
 use Rattle.engine_pairs.proofs.binary.binary_in.Goals as goal
 
 pub returns-in-Add : goal.returns-in-Add

@@ -1,7 +1,6 @@
 -- `engine_pairs::binary::both_below` meets its contract: both tests, the left one first.
 -- Assumes nothing.
 use mathlib.Core.Path.{refl, sym, ◌∙◌}
-use borrow.Author.Rules.{rules}
 use Rattle.engine_pairs.proofs.binary.both_below.Goals as goal
 
 pub returns-then-nodes_below : goal.returns-then-nodes_below

@@ -1,8 +1,6 @@
 -- `engine_pairs::binary::have_lengths` meets its contract: both lengths, and that they agree where it is asked.
 -- Assumes nothing.
 use mathlib.Core.Path.{refl, sym, ◌∙◌}
-use borrow.Author.Tests.{not-true, not-false}
-use borrow.Author.Rules.{rules}
 use Rattle.engine_pairs.proofs.Lengths.{left_fails, right_fails}
 use Rattle.engine_pairs.proofs.binary.have_lengths.Goals as goal
 

@@ -1,7 +1,6 @@
 -- `expand::kept::keep_answer` meets its contract: what was made is stored, and a refusal handed on.
 -- Assumes nothing.
 use borrow.Author.Rules.{rules}
-use native.Mathlib.Omega.{arith}
 use Rattle.expand.proofs.Turns.{not_kept, now_kept}
 use Rattle.expand.proofs.kept.keep_answer.Goals as goal
 

@@ -1,6 +1,5 @@
 -- `expand::kept::load` meets its contract: a mark below that of a constant is a list's length.
 -- Assumes nothing.
-use borrow.Author.Rules.{rules}
 use Rattle.expand.proofs.Tables.{list_loaded, constant_loaded}
 use Rattle.expand.proofs.kept.load.Goals as goal
 

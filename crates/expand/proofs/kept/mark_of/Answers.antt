@@ -1,6 +1,5 @@
 -- `expand::kept::mark_of` meets its contract: a list has at most 25 entries.
 -- Assumes nothing.
-use borrow.Author.Rules.{rules}
 use native.Mathlib.Omega.{arith}
 use Rattle.expand.proofs.kept.mark_of.Goals as goal
 

@@ -1,6 +1,5 @@
 -- `expand::kept::store` meets its contract: the mark and the row stand for the expansion.
 -- Assumes nothing.
-use borrow.Author.Rules.{rules}
 use Rattle.expand.proofs.Tables.{stored}
 use Rattle.expand.proofs.kept.store.Goals as goal
 

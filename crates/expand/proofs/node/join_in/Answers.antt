@@ -1,6 +1,5 @@
 -- `expand::node::join_in` meets its contract: what is made of the node is kept.
 -- Assumes nothing.
-use borrow.Author.Rules.{rules}
 use mathlib.Core.Path.{ap, ◌∙◌}
 use Rattle.pool.specs.Made.{pool_of}
 use Rattle.pool.specs.declared.node.Node.{Node}

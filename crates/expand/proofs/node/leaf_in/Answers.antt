@@ -1,6 +1,5 @@
 -- `expand::node::leaf_in` meets its contract: the sought variable is expanded, any other is a constant.
 -- Assumes nothing.
-use borrow.Author.Rules.{rules}
 use mathlib.Core.Path.{refl}
 use borrow.Author.Tests.{eq-eqb, ne_eqb}
 use Rattle.pool.specs.declared.table.Made.TheVariants.{Node}

@@ -1,6 +1,5 @@
 -- `expand::node::node_in` meets its contract: each arm loads the parts of its node, and does what the definition does with them.
 -- Assumes nothing.
-use borrow.Author.Rules.{rules}
 use mathlib.Core.Path.{◌≡◌, refl}
 use mathlib.Core.List.{List}
 use Prim.Native.Nat.{ℕ}

@@ -1,6 +1,5 @@
 -- `expand::node::visited` meets its contract: each arm gives the parts that the definition visits.
 -- Assumes nothing.
-use borrow.Author.Rules.{rules}
 use Rattle.expand.proofs.node.visited.Goals as goal
 
 pub returns-in-Empty : goal.returns-in-Empty

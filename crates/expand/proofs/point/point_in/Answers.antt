@@ -1,6 +1,5 @@
 -- `expand::point::point_in` meets its contract: a variable is appended, or the literal of the point.
 -- Assumes nothing.
-use borrow.Author.Rules.{rules}
 use mathlib.Core.Path.{ap, ◌∙◌}
 use mir.Syntax.{w64}
 use mir.ValLaws.{to_z-of_z}

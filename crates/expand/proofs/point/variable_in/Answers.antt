@@ -1,6 +1,5 @@
 -- `expand::point::variable_in` meets its contract: the node of the point, and the expansion of a variable there.
 -- Assumes nothing.
-use borrow.Author.Rules.{rules}
 use mathlib.Core.Path.{refl}
 use Rattle.taylor_base.proofs.Steps.{onward, stopped}
 use Rattle.taylor_base.proofs.Lists.{refusal_answers, answers_same}

@@ -1,12 +1,12 @@
 -- `expand::walk::walk_at` meets its contract: each turn of the loop is a step of the definition, a kept expansion is left as it is, and node numbers fall from a node to its parts.
 -- Assumes nothing.
-use Prim.Native.Nat.{ℕ, suc}
+use Prim.Native.Nat.{suc}
 use native.Mathlib.Omega.{arith}
 use mathlib.Core.Path.{◌≡◌, refl, ap, ◌∙◌}
 use Rattle.refusals.specs.Refusals.{broken_pool}
 use Rattle.expand.specs.Nodes.{visits}
 use Rattle.expand.proofs.Tables.{kept_long}
-use Rattle.expand.proofs.Turns.{node_of, left_as_kept, visits_now, still_ready, part_below, part_above, at_first, turn_sized, next_turn, turn_refused, turn_visited, turn_ends}
+use Rattle.expand.proofs.Turns.{node_of, left_as_kept, visits_now, part_below, part_above, at_first, turn_sized, next_turn, turn_refused, turn_visited, turn_ends}
 use Rattle.expand.proofs.walk.+walk_at.Goals as goal
 
 pub returns-then-marks-at-ne0 : goal.returns-then-marks-at-ne0

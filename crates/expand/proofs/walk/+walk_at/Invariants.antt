@@ -1,15 +1,10 @@
 -- `expand::walk::walk_at` meets its contract: each turn of the loop is a step of the definition, a kept expansion is left as it is, and node numbers fall from a node to its parts.
 -- Assumes nothing.
-use Prim.Native.Nat.{ℕ, suc, ◌-◌, ◌≤◌, ◌<◌}
-use native.Mathlib.Omega.{arith}
-use mathlib.Core.Path.{◌≡◌, refl, sym, ap, ◌∙◌}
+use Prim.Native.Nat.{◌-◌, ◌≤◌}
 use lib.ListN.{length}
-use Rattle.refusals.specs.Refusals.{broken_pool}
 use Rattle.expand.specs.Asked.{asked_variable, asked_order, asked_point}
-use Rattle.expand.specs.Nodes.{visits}
 use Rattle.expand.specs.Walks.{state_of}
-use Rattle.expand.proofs.Tables.{kept_long}
-use Rattle.expand.proofs.Turns.{node_of, left_as_kept, visits_now, still_ready, part_below, part_above, Turn, at_first, turn_sized, next_turn, turn_refused, turn_visited, turn_ends}
+use Rattle.expand.proofs.Turns.{Turn}
 use Rattle.expand.proofs.walk.+walk_at.Given as goal
 
 abbrev pub decreases-walk_at : goal.decreases-walk_at

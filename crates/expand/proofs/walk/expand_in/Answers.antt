@@ -1,6 +1,5 @@
 -- `expand::walk::expand_in` meets its contract: the four words ask for what it is asked, whichever tables are lent.
 -- Assumes nothing.
-use borrow.Author.Rules.{rules}
 use native.Mathlib.Omega.{arith}
 use Rattle.taylor_base.specs.Answers.{zeroes}
 use Rattle.expand.proofs.Tables.{blank_ready, none_kept}

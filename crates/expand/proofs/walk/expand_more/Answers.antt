@@ -1,6 +1,5 @@
 -- `expand::walk::expand_more` meets its contract: the walk begins with tables of either size in which nothing is kept, and a root past both is no node.
 -- Assumes nothing.
-use borrow.Author.Rules.{rules}
 use native.Mathlib.Omega.{arith}
 use mathlib.Core.Path.{refl}
 use Rattle.refusals.specs.Refusals.{broken_pool}

@@ -1,6 +1,5 @@
 -- `expand::walk::expand_over` meets its contract: it is a whole walk, and what is kept for the root is its answer.
 -- Assumes nothing.
-use borrow.Author.Rules.{rules}
 use mathlib.Core.Path.{refl}
 use Rattle.taylor_base.proofs.Lists.{refusal_answers}
 use Rattle.expand.proofs.Turns.{root_refused, root_marked, root_answers}

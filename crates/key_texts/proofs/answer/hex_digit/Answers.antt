@@ -1,6 +1,5 @@
 -- `key_texts::answer::hex_digit` meets its contract: a digit, or a letter.
 -- Assumes nothing.
-use borrow.Author.Rules.{rules}
 use Rattle.key_texts.proofs.HexTexts.{a_digit, a_letter}
 use Rattle.key_texts.proofs.answer.hex_digit.Goals as goal
 

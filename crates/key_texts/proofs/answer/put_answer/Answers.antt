@@ -1,6 +1,5 @@
 -- `key_texts::answer::put_answer` meets its contract: the line has room.
 -- Assumes nothing.
-use borrow.Author.Rules.{rules}
 use Rattle.key_texts.specs.Answers.{answer_line}
 use Rattle.key_texts.proofs.Lengths.{at_front, end_fits}
 use Rattle.key_texts.proofs.HexTexts.{answer_is_short}

@@ -1,6 +1,5 @@
 -- `key_texts::answer::put_double` meets its contract: the digits, and what a double that differs from itself is.
 -- Assumes nothing.
-use borrow.Author.Rules.{rules}
 use Rattle.low_bytes.proofs.Writing.{written_after, written_as}
 use Rattle.key_texts.proofs.HexTexts.{nan_line, number_line}
 use Rattle.key_texts.proofs.answer.put_double.Goals as goal

@@ -1,6 +1,5 @@
 -- `key_texts::keys::line_at` meets its contract: every line has room.
 -- Assumes nothing.
-use borrow.Author.Rules.{rules}
 use Rattle.key_texts.specs.Texts.{key_line}
 use Rattle.key_texts.proofs.Lengths.{line_is_short, at_front, end_fits, first_line_lem}
 use Rattle.key_texts.proofs.keys.line_at.Goals as goal

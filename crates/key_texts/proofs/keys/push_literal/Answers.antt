@@ -1,6 +1,5 @@
 -- `key_texts::keys::push_literal` meets its contract: one text after the other.
 -- Assumes nothing.
-use borrow.Author.Rules.{rules}
 use mir.Syntax.{w64}
 use mir.ValLaws.{to_z-of_z}
 use Rattle.low_bytes.proofs.Writing.{three_written}

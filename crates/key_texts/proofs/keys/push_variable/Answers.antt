@@ -1,6 +1,5 @@
 -- `key_texts::keys::push_variable` meets its contract: one text after the other.
 -- Assumes nothing.
-use borrow.Author.Rules.{rules}
 use Rattle.low_bytes.proofs.Writing.{three_written}
 use Rattle.key_texts.proofs.keys.push_variable.Goals as goal
 

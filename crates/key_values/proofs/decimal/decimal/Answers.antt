@@ -1,6 +1,5 @@
 -- `key_values::decimal::decimal` meets its contract: the first byte alone is looked at for a minus.
 -- Assumes nothing.
-use borrow.Author.Rules.{rules}
 use mathlib.Core.Path.{◌∙◌, ap}
 use Rattle.key_values.specs.Filled.{value_read}
 use Rattle.key_values.proofs.Quotients.{no_byte, with_minus, without_minus}

@@ -1,6 +1,5 @@
 -- `key_values::decimal::of_digits` meets its contract: few enough digits make a number that is not cut off, and exact.
 -- Assumes nothing.
-use borrow.Author.Rules.{rules}
 use mathlib.Core.Path.{sym, ◌∙◌, ap}
 use native.Mathlib.Omega.{arith}
 use Rattle.sheet_text.specs.Line.{digits_from}

@@ -1,6 +1,5 @@
 -- `key_values::decimal::quotient` meets its contract: both numbers are exact, and one division follows.
 -- Assumes nothing.
-use borrow.Author.Rules.{rules}
 use native.Mathlib.Omega.{arith}
 use Rattle.key_values.proofs.Quotients.{power_within}
 use Rattle.key_values.proofs.decimal.quotient.Goals as goal

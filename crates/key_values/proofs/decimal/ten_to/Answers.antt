@@ -1,7 +1,7 @@
 -- `key_values::decimal::ten_to` meets its contract: after i turns the product has i factors.
 -- Assumes nothing.
 use mathlib.Core.Path.{◌≡◌, ◌∙◌, ap}
-use Prim.Native.Nat.{ℕ, ◌≤◌, ◌-◌, ◌^◌}
+use Prim.Native.Nat.{ℕ, ◌-◌, ◌^◌}
 use native.Mathlib.Omega.{arith}
 use Rattle.key_values.proofs.Quotients.{power_turn, power_fits}
 use Rattle.key_values.proofs.decimal.ten_to.Goals as goal

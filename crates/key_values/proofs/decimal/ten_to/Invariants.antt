@@ -1,9 +1,7 @@
 -- `key_values::decimal::ten_to` meets its contract: after i turns the product has i factors.
 -- Assumes nothing.
-use mathlib.Core.Path.{◌≡◌, ◌∙◌, ap}
-use Prim.Native.Nat.{ℕ, ◌≤◌, ◌-◌, ◌^◌}
-use native.Mathlib.Omega.{arith}
-use Rattle.key_values.proofs.Quotients.{power_turn, power_fits}
+use mathlib.Core.Path.{◌≡◌}
+use Prim.Native.Nat.{◌≤◌, ◌-◌, ◌^◌}
 use Rattle.key_values.proofs.decimal.ten_to.Given as goal
 
 abbrev pub invariant-loop-i : goal.invariant-loop-i

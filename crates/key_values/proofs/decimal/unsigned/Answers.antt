@@ -1,6 +1,5 @@
 -- `key_values::decimal::unsigned` meets its contract: the first point parts the digits, and a second one is no digit.
 -- Assumes nothing.
-use borrow.Author.Rules.{rules}
 use mathlib.Core.Path.{sym, ◌∙◌, ap}
 use native.Mathlib.Omega.{arith}
 use lib.Seq.{length-take-le}

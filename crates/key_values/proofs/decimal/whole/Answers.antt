@@ -1,7 +1,6 @@
 -- `key_values::decimal::whole` meets its contract: what is no greater than the greatest literal is exact as a double.
 -- Assumes nothing.
 use lib.IntN.{pos}
-use borrow.Author.Rules.{rules}
 use borrow.Author.Tests.{le-leb}
 use Rattle.double.proofs.Exact.{literal_has_double}
 use Rattle.literal.specs.Literal.{greatest}

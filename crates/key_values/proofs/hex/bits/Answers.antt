@@ -1,6 +1,5 @@
 -- `key_values::hex::bits` meets its contract: the length is asked first.
 -- Assumes nothing.
-use borrow.Author.Rules.{rules}
 use mathlib.Core.Path.{◌∙◌, ap}
 use Rattle.key_values.specs.Filled.{number_read}
 use Rattle.key_values.proofs.HexDigits.{as_many, not_as_many}

@@ -1,6 +1,5 @@
 -- `key_values::hex::digit` meets its contract: the tests go up through the ranges of bytes.
 -- Assumes nothing.
-use borrow.Author.Rules.{rules}
 use Rattle.key_values.proofs.HexDigits.{below_digits, digit_is, below_capitals, capital_is, below_small, small_is, above_small}
 use Rattle.key_values.proofs.hex.digit.Goals as goal
 

@@ -2,8 +2,7 @@
 -- Assumes nothing.
 use Prim.Native.Nat.{◌-◌}
 use native.Mathlib.Omega.{arith}
-use lib.ListN.{length}
-use Rattle.key_values.proofs.HexDigits.{Reading, starts, no_digit, turn, fits, ends}
+use Rattle.key_values.proofs.HexDigits.{starts, no_digit, turn, fits, ends}
 use Rattle.key_values.proofs.hex.hex.Goals as goal
 
 pub loop-i-init : goal.loop-i-init

@@ -1,9 +1,8 @@
 -- `key_values::hex::hex` meets its contract: the digits passed gave n, and those left go on from it. 16 digits fit in 64 bits.
 -- Assumes nothing.
 use Prim.Native.Nat.{◌-◌}
-use native.Mathlib.Omega.{arith}
 use lib.ListN.{length}
-use Rattle.key_values.proofs.HexDigits.{Reading, starts, no_digit, turn, fits, ends}
+use Rattle.key_values.proofs.HexDigits.{Reading}
 use Rattle.key_values.proofs.hex.hex.Given as goal
 
 abbrev pub invariant-loop-i : goal.invariant-loop-i

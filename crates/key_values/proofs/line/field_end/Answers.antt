@@ -5,7 +5,6 @@ use mathlib.Core.List.{List}
 use Prim.Native.Nat.{ℕ, ◌+◌}
 use native.Mathlib.Omega.{arith}
 use lib.ListN.{drop, length-drop}
-use borrow.Author.Rules.{rules}
 use Rattle.sheet_line.specs.Split.{first_space}
 use Rattle.sheet_line.proofs.Splitting.{rest_of}
 use Rattle.key_values.proofs.Filling.{first_within}

@@ -1,6 +1,5 @@
 -- `key_values::line::fill` meets its contract: a line without content has no values, and any other has one in each field.
 -- Assumes nothing.
-use borrow.Author.Rules.{rules}
 use mathlib.Core.Path.{sym}
 use native.Mathlib.Omega.{arith}
 use lib.Seq.{length-take-le}

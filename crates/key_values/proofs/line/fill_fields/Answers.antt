@@ -2,10 +2,9 @@
 -- Assumes nothing.
 use borrow.Author.Rules.{rules}
 use mathlib.Core.Path.{sym, ◌∙◌}
-use Prim.Native.Nat.{◌+◌, ◌-◌}
+use Prim.Native.Nat.{◌-◌}
 use native.Mathlib.Omega.{arith}
-use lib.ListN.{length}
-use Rattle.key_values.proofs.Filling.{Filling, starts, field_within, no_value_there, turn, ends}
+use Rattle.key_values.proofs.Filling.{starts, field_within, no_value_there, turn, ends}
 use Rattle.key_values.proofs.line.fill_fields.Goals as goal
 
 pub loop-at-init : goal.loop-at-init

@@ -1,11 +1,8 @@
 -- `key_values::line::fill_fields` meets its contract: the fields passed are in the table, and those left go on from them.
 -- Assumes nothing.
-use borrow.Author.Rules.{rules}
-use mathlib.Core.Path.{sym, ◌∙◌}
 use Prim.Native.Nat.{◌+◌, ◌-◌}
-use native.Mathlib.Omega.{arith}
 use lib.ListN.{length}
-use Rattle.key_values.proofs.Filling.{Filling, starts, field_within, no_value_there, turn, ends}
+use Rattle.key_values.proofs.Filling.{Filling}
 use Rattle.key_values.proofs.line.fill_fields.Given as goal
 
 abbrev pub invariant-loop-at : goal.invariant-loop-at

@@ -1,6 +1,5 @@
 -- `key_values::line::value` meets its contract: bits are tried first, and what is none is a decimal or nothing.
 -- Assumes nothing.
-use borrow.Author.Rules.{rules}
 use mathlib.Core.Path.{sym, ◌∙◌, ap}
 use Rattle.key_values.specs.declared.decimal.Value.TheVariants.{Double}
 use Rattle.key_values.specs.Filled.{value_read}

@@ -2,8 +2,6 @@
 -- Assumes nothing.
 use mathlib.Core.Path.{sym, ◌∙◌}
 use native.Mathlib.Omega.{arith}
-use borrow.Author.Rules.{rules}
-use borrow.Author.Tests.{not-true, not-false}
 use Rattle.lent.proofs.Tested.{breaks, node_breaks, kind_breaks, words_decide}
 use Rattle.lent.proofs.rules.is_pool.Goals as goal
 

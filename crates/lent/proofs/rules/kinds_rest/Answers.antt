@@ -2,10 +2,8 @@
 -- Assumes nothing.
 use mathlib.Core.Path.{◌≡◌}
 use native.Mathlib.Omega.{arith}
-use lib.Dec.{eqb}
-use Prim.Native.Nat.{◌≤◌, ◌-◌}
-use Rattle.pool.specs.Pool.{limit, each}
-use Rattle.lent.specs.Lent.{zero_at}
+use Prim.Native.Nat.{◌-◌}
+use Rattle.pool.specs.Pool.{limit}
 use Rattle.lent.proofs.Tested.{none_yet, one_gathered}
 use Rattle.lent.proofs.rules.kinds_rest.Goals as goal
 

@@ -1,12 +1,10 @@
 -- `lent::rules::kinds_rest` meets its contract: the bits that were gathered tell of the entries that were passed.
 -- Assumes nothing.
 use mathlib.Core.Path.{◌≡◌}
-use native.Mathlib.Omega.{arith}
 use lib.Dec.{eqb}
 use Prim.Native.Nat.{◌≤◌, ◌-◌}
 use Rattle.pool.specs.Pool.{limit, each}
 use Rattle.lent.specs.Lent.{zero_at}
-use Rattle.lent.proofs.Tested.{none_yet, one_gathered}
 use Rattle.lent.proofs.rules.kinds_rest.Given as goal
 
 abbrev pub invariant-loop-i : goal.invariant-loop-i

@@ -1,12 +1,9 @@
 -- `lent::rules::words_rest` meets its contract: the bits of the blocks that were passed tell of their entries.
 -- Assumes nothing.
-use borrow.Author.Rules.{rules}
 use mathlib.Core.Path.{◌≡◌}
 use native.Mathlib.Omega.{arith}
-use lib.Dec.{eqb}
-use Prim.Native.Nat.{◌+◌, ◌≤◌, ◌-◌, ◌%◌}
-use Rattle.pool.specs.Pool.{limit, each}
-use Rattle.lent.specs.Lent.{zero_at}
+use Prim.Native.Nat.{◌+◌, ◌-◌}
+use Rattle.pool.specs.Pool.{limit}
 use Rattle.lent.proofs.Tested.{more_gathered}
 use Rattle.lent.proofs.rules.words_rest.Goals as goal
 

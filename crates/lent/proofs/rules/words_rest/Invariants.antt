@@ -1,13 +1,10 @@
 -- `lent::rules::words_rest` meets its contract: the bits of the blocks that were passed tell of their entries.
 -- Assumes nothing.
-use borrow.Author.Rules.{rules}
 use mathlib.Core.Path.{◌≡◌}
-use native.Mathlib.Omega.{arith}
 use lib.Dec.{eqb}
-use Prim.Native.Nat.{◌+◌, ◌≤◌, ◌-◌, ◌%◌}
+use Prim.Native.Nat.{◌≤◌, ◌-◌, ◌%◌}
 use Rattle.pool.specs.Pool.{limit, each}
 use Rattle.lent.specs.Lent.{zero_at}
-use Rattle.lent.proofs.Tested.{more_gathered}
 use Rattle.lent.proofs.rules.words_rest.Given as goal
 
 -- a block starts at each multiple of 32, and so does the end

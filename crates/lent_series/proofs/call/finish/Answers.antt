@@ -1,7 +1,6 @@
 -- `lent_series::call::finish` meets its contract: the entries are put back as for a node, and the expansion is beside it.
 -- Assumes nothing.
 use mathlib.Core.Path.{◌≡◌, ap, ◌∙◌}
-use borrow.Author.Rules.{rules}
 use Rattle.pool.specs.declared.table.Made as made_node
 use Rattle.pool.specs.Made.{made}
 use Rattle.lent.specs.Call.{leaves}

@@ -1,7 +1,6 @@
 -- `lent_series::call::made_of` meets its contract: each arm is the clause of the definition.
 -- Assumes nothing.
 use mathlib.Core.Path.{refl}
-use borrow.Author.Rules.{rules}
 use Rattle.lent_series.proofs.call.made_of.Goals as goal
 
 pub returns-in-Done : goal.returns-in-Done

@@ -1,7 +1,6 @@
 -- `lent_series::series::expansion_of` meets its contract: a constant, or a list.
 -- Assumes nothing.
 use native.Mathlib.Omega.{arith}
-use borrow.Author.Rules.{rules}
 use Rattle.lent_series.proofs.Numbers.{constant_fits, list_length, list_fits, constant_narrowed, list_narrowed}
 use Rattle.lent_series.proofs.series.expansion_of.Goals as goal
 

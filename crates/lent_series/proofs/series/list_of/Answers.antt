@@ -3,7 +3,7 @@
 use borrow.Author.Rules.{rules}
 use native.Mathlib.Omega.{arith}
 use Prim.Native.Nat.{◌-◌}
-use Rattle.taylor_base.proofs.Copying.{Copied, none_copied, one_more_copied, all_copied}
+use Rattle.taylor_base.proofs.Copying.{none_copied, one_more_copied, all_copied}
 use Rattle.lent_series.specs.Series.{listed}
 use Rattle.lent_series.proofs.series.list_of.Goals as goal
 

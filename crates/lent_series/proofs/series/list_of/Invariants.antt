@@ -1,10 +1,7 @@
 -- `lent_series::series::list_of` meets its contract: the entries are copied one by one.
 -- Assumes nothing.
-use borrow.Author.Rules.{rules}
-use native.Mathlib.Omega.{arith}
 use Prim.Native.Nat.{◌-◌}
-use Rattle.taylor_base.proofs.Copying.{Copied, none_copied, one_more_copied, all_copied}
-use Rattle.lent_series.specs.Series.{listed}
+use Rattle.taylor_base.proofs.Copying.{Copied}
 use Rattle.lent_series.proofs.series.list_of.Given as goal
 
 abbrev pub invariant-loop-i : goal.invariant-loop-i

@@ -4,7 +4,7 @@ use borrow.Author.Rules.{rules}
 use native.Mathlib.Omega.{arith}
 use mathlib.Core.Path.{◌≡◌}
 use Prim.Native.Nat.{ℕ, ◌-◌, ◌<◌}
-use lib.ListN.{length, get_or}
+use lib.ListN.{length}
 use Rattle.taylor_base.specs.Answers.{terms}
 use Rattle.lent_series.specs.Series.{entries}
 use Rattle.lent_series.proofs.Numbers.{entries_most, all_are_below, one_is_not, one_more_below}

@@ -1,13 +1,7 @@
 -- `lent_series::series::nodes_below` meets its contract: one number that is not below is enough.
 -- Assumes nothing.
-use borrow.Author.Rules.{rules}
-use native.Mathlib.Omega.{arith}
-use mathlib.Core.Path.{◌≡◌}
 use Prim.Native.Nat.{ℕ, ◌-◌, ◌<◌}
-use lib.ListN.{length, get_or}
-use Rattle.taylor_base.specs.Answers.{terms}
-use Rattle.lent_series.specs.Series.{entries}
-use Rattle.lent_series.proofs.Numbers.{entries_most, all_are_below, one_is_not, one_more_below}
+use lib.ListN.{get_or}
 use Rattle.lent_series.proofs.series.nodes_below.Given as goal
 
 abbrev pub invariant-loop-i : goal.invariant-loop-i

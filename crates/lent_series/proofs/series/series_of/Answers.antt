@@ -1,11 +1,10 @@
 -- `lent_series::series::series_of` meets its contract: the entries are copied one by one.
 -- Assumes nothing.
-use borrow.Author.Rules.{rules}
 use native.Mathlib.Omega.{arith}
 use Prim.Native.Nat.{◌-◌, ◌≤◌}
 use Prim.Native.Nat.{◌-◌}
 use Rattle.taylor_base.specs.Answers.{terms}
-use Rattle.taylor_base.proofs.Copying.{Copied, none_copied, one_more_copied}
+use Rattle.taylor_base.proofs.Copying.{none_copied, one_more_copied}
 use Rattle.taylor_base.proofs.Lists.{tidy_given}
 use Rattle.lent_series.proofs.Numbers.{whole_copied, series_is}
 use Rattle.lent_series.proofs.series.series_of.Goals as goal

@@ -1,6 +1,5 @@
 -- `logs::made::div_in` meets its contract: each rule builds its term.
 -- Assumes nothing.
-use borrow.Author.Rules.{rules}
 use mathlib.Core.Path.{refl}
 use Prim.Native.Nat.{◌-◌}
 use Rattle.constructors.specs.Build.{build, calls}

@@ -1,6 +1,5 @@
 -- `logs::made::max_in` meets its contract: one node is appended.
 -- Assumes nothing.
-use borrow.Author.Rules.{rules}
 use Rattle.constructors.specs.Build.{build}
 use Rattle.views.proofs.Steps.{runs_deeper}
 use Rattle.adds.proofs.Runs.{none_left}

@@ -1,6 +1,5 @@
 -- `logs::rule::div_rule` meets its contract: its two tests are the two guarded patterns of the table.
 -- Assumes nothing.
-use borrow.Author.Rules.{rules}
 use mathlib.Core.Path.{sym, ◌∙◌}
 use Rattle.pool.specs.Pool.{node_in}
 use Rattle.logs.proofs.Rules.{zero_over, over_one, over_other}

@@ -2,7 +2,7 @@
 -- Assumes nothing.
 use Prim.Native.Nat.{◌+◌, ◌-◌}
 use native.Mathlib.Omega.{arith}
-use Rattle.low_bytes.proofs.LowFirst.{NumberRead, nothing_read, byte_read, room_for_a_byte, all_read}
+use Rattle.low_bytes.proofs.LowFirst.{nothing_read, byte_read, room_for_a_byte, all_read}
 use Rattle.low_bytes.proofs.number.number_at.Goals as goal
 
 pub loop-left-init : goal.loop-left-init

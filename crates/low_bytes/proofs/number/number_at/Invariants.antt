@@ -1,8 +1,7 @@
 -- `low_bytes::number::number_at` meets its contract: each turn takes one more byte in front, and eight of them fit.
 -- Assumes nothing.
-use Prim.Native.Nat.{◌+◌, ◌-◌}
-use native.Mathlib.Omega.{arith}
-use Rattle.low_bytes.proofs.LowFirst.{NumberRead, nothing_read, byte_read, room_for_a_byte, all_read}
+use Prim.Native.Nat.{◌-◌}
+use Rattle.low_bytes.proofs.LowFirst.{NumberRead}
 use Rattle.low_bytes.proofs.number.number_at.Given as goal
 
 abbrev pub invariant-loop-left : goal.invariant-loop-left

@@ -2,7 +2,7 @@
 -- Assumes nothing.
 use Prim.Native.Nat.{◌-◌}
 use native.Mathlib.Omega.{arith}
-use Rattle.low_bytes.proofs.BytesPut.{BytesPut, no_bytes_put, byte_put, all_bytes_put}
+use Rattle.low_bytes.proofs.BytesPut.{no_bytes_put, byte_put, all_bytes_put}
 use Rattle.low_bytes.proofs.number.put_bytes.Goals as goal
 
 pub loop-i-init : goal.loop-i-init

@@ -1,8 +1,7 @@
 -- `low_bytes::number::put_bytes` meets its contract: what is left to put makes the whole, turn after turn.
 -- Assumes nothing.
 use Prim.Native.Nat.{◌-◌}
-use native.Mathlib.Omega.{arith}
-use Rattle.low_bytes.proofs.BytesPut.{BytesPut, no_bytes_put, byte_put, all_bytes_put}
+use Rattle.low_bytes.proofs.BytesPut.{BytesPut}
 use Rattle.low_bytes.proofs.number.put_bytes.Given as goal
 
 abbrev pub invariant-loop-i : goal.invariant-loop-i

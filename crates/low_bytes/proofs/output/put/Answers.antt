@@ -1,6 +1,5 @@
 -- `low_bytes::output::put` meets its contract: a byte is stored, or counted alone where it lies past the end of the output.
 -- Assumes nothing.
-use borrow.Author.Rules.{rules}
 use Rattle.low_bytes.proofs.Writing.{past_longest_lem, byte_written, byte_counted}
 use Rattle.low_bytes.proofs.output.put.Goals as goal
 

@@ -1,11 +1,9 @@
 -- `low_bytes::output::write` meets its contract: after each turn the bytes that were passed are written.
 -- Assumes nothing.
-use native.Mathlib.Omega.{arith}
-use mathlib.Core.Path.{◌≡◌, refl, ◌∙◌}
+use mathlib.Core.Path.{◌≡◌}
 use Prim.Native.Nat.{◌≤◌, ◌-◌}
 use lib.ListN.{length, take}
 use Rattle.low_bytes.specs.Output.{Wrote}
-use Rattle.low_bytes.proofs.Writing.{none_written, one_byte_more, all_bytes, stays_countable}
 use Rattle.low_bytes.proofs.output.write.Given as goal
 
 abbrev pub invariant-loop-i : goal.invariant-loop-i

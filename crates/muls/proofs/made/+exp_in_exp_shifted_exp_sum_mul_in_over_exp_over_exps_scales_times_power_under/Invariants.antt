@@ -1,19 +1,6 @@
 -- `mul`, `exp` and what they build meet their contracts: each step is a step of the rule's term, and the depth left falls from a rule to its calls.
 -- Assumes nothing.
-use Prim.Native.Nat.{ℕ, ◌+◌, ◌*◌, ◌<◌}
-use mathlib.Core.Path.{refl, ap, ◌∙◌}
-use native.Mathlib.Omega.{arith}
-use mir.Syntax.{w64}
-use mir.ValLaws.{to_z-of_z}
-use Rattle.literal.specs.Literal.{folded, exp_of}
-use Rattle.constructors.specs.Terms.{#, lit, lit_exp, mul, exp, Mul}
-use Rattle.constructors.specs.Build.{build, no_calls}
-use Rattle.views.proofs.Steps.{onward, stopped, runs_deeper}
-use Rattle.adds.proofs.Runs.{none_left, ruled, renumbered, literal_made}
-use Rattle.mul_rules.specs.Rules.{mul_term}
-use Rattle.muls.specs.Rule.{exp_term}
-use Rattle.muls.proofs.Runs.{same_product}
-use Rattle.std.proofs.Common.{rules}
+use Prim.Native.Nat.{◌+◌, ◌*◌}
 use Rattle.muls.proofs.made.+exp_in_exp_shifted_exp_sum_mul_in_over_exp_over_exps_scales_times_power_under.Given as goal
 
 abbrev pub decreases-exp_in : goal.decreases-exp_in

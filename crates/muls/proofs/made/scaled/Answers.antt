@@ -1,6 +1,5 @@
 -- `muls::made::scaled` meets its contract: the product of the literals is made first.
 -- Assumes nothing.
-use borrow.Author.Rules.{rules}
 use mathlib.Core.Path.{ap, ◌∙◌}
 use mir.Syntax.{w64}
 use mir.ValLaws.{to_z-of_z}

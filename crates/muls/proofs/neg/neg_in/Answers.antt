@@ -1,6 +1,5 @@
 -- `muls::neg::neg_in` meets its contract: -1 is made, and then the product one deeper.
 -- Assumes nothing.
-use borrow.Author.Rules.{rules}
 use Rattle.constructors.specs.Build.{build}
 use Rattle.views.proofs.Steps.{onward, stopped, runs_deeper}
 use Rattle.adds.proofs.Runs.{none_left, literal_made}

@@ -1,6 +1,5 @@
 -- `muls::power::pow_sum` meets its contract: the sum is tested before it is made.
 -- Assumes nothing.
-use borrow.Author.Rules.{rules}
 use native.Mathlib.Omega.{arith}
 use Rattle.muls.proofs.Runs.{pow_refused, pow_entered}
 use Rattle.muls.proofs.power.pow_sum.Goals as goal

@@ -2,7 +2,6 @@
 -- Assumes nothing.
 use mathlib.Core.Path.{ap}
 use mathlib.Core.Bool.{not}
-use borrow.Author.Rules.{rules}
 use Rattle.number_list.proofs.numbers.belongs.Goals as goal
 
 pub returns-then-digits : goal.returns-then-digits

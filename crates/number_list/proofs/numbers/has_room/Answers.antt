@@ -1,6 +1,5 @@
 -- `number_list::numbers::has_room` meets its contract: above a tenth there is no room for a digit.
 -- Assumes nothing.
-use borrow.Author.Rules.{rules}
 use Rattle.number_list.proofs.Room.{no_room, room}
 use Rattle.number_list.proofs.numbers.has_room.Goals as goal
 

@@ -1,6 +1,5 @@
 -- `number_list::numbers::next` meets its contract: the first digit, the end of the run from there, and its value.
 -- Assumes nothing.
-use borrow.Author.Rules.{rules}
 use Rattle.number_list.proofs.numbers.next.Goals as goal
 
 pub returns : goal.returns

@@ -2,10 +2,7 @@
 -- Assumes nothing.
 use mathlib.Core.Path.{refl}
 use Prim.Native.Nat.{◌-◌}
-use native.Mathlib.Omega.{arith}
-use lib.ListN.{length}
-use borrow.Author.Tests.{not-true, not-false}
-use Rattle.number_list.proofs.Runs.{Running, stops, goes_on, ends}
+use Rattle.number_list.proofs.Runs.{stops, goes_on, ends}
 use Rattle.number_list.proofs.numbers.run_end.Goals as goal
 
 pub loop-i-init : goal.loop-i-init

@@ -2,10 +2,8 @@
 -- Assumes nothing.
 use Prim.Native.Nat.{◌-◌}
 use native.Mathlib.Omega.{arith}
-use lib.ListN.{length}
-use borrow.Author.Tests.{not-true, not-false}
 use Rattle.number_list.proofs.Room.{over, within}
-use Rattle.number_list.proofs.Values.{Reading, starts, stops, goes_on, too_long, ends}
+use Rattle.number_list.proofs.Values.{starts, stops, goes_on, too_long, ends}
 use Rattle.number_list.proofs.numbers.value_from.Goals as goal
 
 pub loop-i-init : goal.loop-i-init

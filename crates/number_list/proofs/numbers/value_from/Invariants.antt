@@ -1,11 +1,8 @@
 -- `number_list::numbers::value_from` meets its contract: the digits passed gave n, and those left go on from it.
 -- Assumes nothing.
 use Prim.Native.Nat.{◌-◌}
-use native.Mathlib.Omega.{arith}
 use lib.ListN.{length}
-use borrow.Author.Tests.{not-true, not-false}
-use Rattle.number_list.proofs.Room.{over, within}
-use Rattle.number_list.proofs.Values.{Reading, starts, stops, goes_on, too_long, ends}
+use Rattle.number_list.proofs.Values.{Reading}
 use Rattle.number_list.proofs.numbers.value_from.Given as goal
 
 abbrev pub invariant-loop-i : goal.invariant-loop-i

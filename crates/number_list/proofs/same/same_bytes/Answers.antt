@@ -2,8 +2,7 @@
 -- Assumes nothing.
 use Prim.Native.Nat.{◌-◌}
 use native.Mathlib.Omega.{arith}
-use lib.ListN.{length}
-use Rattle.number_list.proofs.Equal.{Alike, starts, lengths_differ, differ, turn, whole}
+use Rattle.number_list.proofs.Equal.{starts, lengths_differ, differ, turn, whole}
 use Rattle.number_list.proofs.same.same_bytes.Goals as goal
 
 pub returns-then-a-b : goal.returns-then-a-b

@@ -1,9 +1,8 @@
 -- `number_list::same::same_bytes` meets its contract: the entries passed are equal, and both tables are as long.
 -- Assumes nothing.
 use Prim.Native.Nat.{◌-◌}
-use native.Mathlib.Omega.{arith}
 use lib.ListN.{length}
-use Rattle.number_list.proofs.Equal.{Alike, starts, lengths_differ, differ, turn, whole}
+use Rattle.number_list.proofs.Equal.{Alike}
 use Rattle.number_list.proofs.same.same_bytes.Given as goal
 
 abbrev pub invariant-loop-i : goal.invariant-loop-i

@@ -2,9 +2,7 @@
 -- Assumes nothing.
 use Prim.Native.Nat.{◌-◌}
 use native.Mathlib.Omega.{arith}
-use lib.ListN.{length}
-use borrow.Author.Rules.{rules}
-use Rattle.number_list.proofs.Equal.{Alike, starts, lengths_differ, differ, turn, whole}
+use Rattle.number_list.proofs.Equal.{starts, lengths_differ, differ, turn, whole}
 use Rattle.number_list.proofs.same.same_words.Goals as goal
 
 pub returns-then-a-b : goal.returns-then-a-b

@@ -1,10 +1,8 @@
 -- `number_list::tables::next_bytes` returns: each turn counts up to n. A table keeps its length.
 -- Assumes nothing.
-use mathlib.Core.Path.{◌≡◌, refl}
+use mathlib.Core.Path.{◌≡◌}
 use Prim.Native.Nat.{◌-◌}
-use native.Mathlib.Omega.{arith}
 use lib.ListN.{length}
-use borrow.Author.Rules.{rules}
 use Rattle.number_list.proofs.tables.next_bytes.Given as goal
 
 abbrev pub invariant-loop-i : goal.invariant-loop-i

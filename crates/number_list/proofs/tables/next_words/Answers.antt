@@ -1,10 +1,7 @@
 -- `number_list::tables::next_words` returns: each turn counts up to n. A table keeps its length.
 -- Assumes nothing.
-use mathlib.Core.Path.{◌≡◌, refl}
+use mathlib.Core.Path.{refl}
 use Prim.Native.Nat.{◌-◌}
-use native.Mathlib.Omega.{arith}
-use lib.ListN.{length}
-use borrow.Author.Rules.{rules}
 use Rattle.number_list.proofs.tables.next_words.Goals as goal
 
 pub loop-i-init : goal.loop-i-init

@@ -1,6 +1,6 @@
 -- `pool::halves::left_at` meets its contract: past the table the half is 0.
 -- Assumes nothing.
-use Rattle.std.proofs.Common.{rules, le-ltb, lt-ltb}
+use Rattle.std.proofs.Common.{le-ltb, lt-ltb}
 use Rattle.pool.specs.Pool.{limit}
 use Rattle.pool.proofs.halves.left_at.Goals as goal
 

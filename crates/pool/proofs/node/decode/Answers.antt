@@ -1,6 +1,6 @@
 -- `pool::node::decode` meets its contract: each arm is the table's row of its kind.
 -- Assumes nothing.
-use Rattle.std.proofs.Common.{refl, rules}
+use Rattle.std.proofs.Common.{refl}
 use Rattle.pool.specs.Nodes.{decode}
 use Rattle.pool.proofs.KindTable.{at_kind, no_kind}
 use Rattle.pool.proofs.node.decode.Goals as goal

@@ -1,6 +1,6 @@
 -- `pool::node::literal_node` meets its contract: the word's number is tested for the literal range.
 -- Assumes nothing.
-use Rattle.std.proofs.Common.{sym, ap, ◌∙◌, w64, rules}
+use Rattle.std.proofs.Common.{sym, ap, ◌∙◌, w64}
 use mir.ValLaws.{to_z-of_z}
 use Rattle.pool.specs.Nodes.{decode}
 use Rattle.literal.specs.Literal.{is_literal}

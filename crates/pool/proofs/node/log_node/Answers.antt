@@ -1,6 +1,6 @@
 -- `pool::node::log_node` meets its contract: the word has to be a node number of half a word.
 -- Assumes nothing.
-use Rattle.std.proofs.Common.{rules, le-ltb, lt-ltb}
+use Rattle.std.proofs.Common.{le-ltb, lt-ltb}
 use Rattle.pool.specs.Nodes.{half, decode}
 use Rattle.pool.proofs.node.log_node.Goals as goal
 

@@ -1,6 +1,6 @@
 -- `pool::node::pow_node` meets its contract: the exponent is compared with the least one.
 -- Assumes nothing.
-use Rattle.std.proofs.Common.{rules, le-leb}
+use Rattle.std.proofs.Common.{le-leb}
 use borrow.Author.Tests.{lt-leb}
 use Rattle.pool.specs.Nodes.{least_exponent, high_of, decode}
 use Rattle.pool.proofs.node.pow_node.Goals as goal

@@ -1,6 +1,6 @@
 -- `pool::node::variable` meets its contract: the word is compared with the greatest variable number.
 -- Assumes nothing.
-use Rattle.std.proofs.Common.{rules, le-leb}
+use Rattle.std.proofs.Common.{le-leb}
 use borrow.Author.Tests.{lt-leb}
 use Rattle.pool.specs.Nodes.{greatest_variable, decode}
 use Rattle.pool.proofs.node.variable.Goals as goal

@@ -1,6 +1,6 @@
 -- `pool::parts::counted_parts` meets its contract: arm by arm.
 -- Assumes nothing.
-use Rattle.std.proofs.Common.{refl, arith, rules}
+use Rattle.std.proofs.Common.{refl, arith}
 use Rattle.pool.proofs.PartsTold.{counted}
 use Rattle.pool.proofs.parts.counted_parts.Goals as goal
 

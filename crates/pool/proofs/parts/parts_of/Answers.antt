@@ -1,6 +1,5 @@
 -- `pool::parts::parts_of` meets its contract: the table of kinds, arm by arm.
 -- Assumes nothing.
-use Rattle.std.proofs.Common.{rules}
 use Rattle.pool.proofs.parts.parts_of.Goals as goal
 
 pub returns-in-Add : goal.returns-in-Add

@@ -1,6 +1,5 @@
 -- `pool::parts::with_parts` meets its contract: the table of kinds, arm by arm.
 -- Assumes nothing.
-use Rattle.std.proofs.Common.{rules}
 use Rattle.pool.proofs.parts.with_parts.Goals as goal
 
 pub returns-in-Add : goal.returns-in-Add

@@ -1,6 +1,6 @@
 -- `pool::rows::keeps_at` meets its contract: the comparisons are those of the kind's row.
 -- Assumes nothing.
-use Rattle.std.proofs.Common.{arith, rules}
+use Rattle.std.proofs.Common.{arith}
 use Rattle.pool.proofs.RowTests.{kind_beyond, low_fits, high_fits, table_tests}
 use Rattle.pool.proofs.rows.keeps_at.Goals as goal
 

@@ -1,6 +1,6 @@
 -- `pool::table::append` meets its contract: the two stores are the definition's, and are made only where there is room.
 -- Assumes nothing.
-use Rattle.std.proofs.Common.{rules, le-ltb, lt-ltb}
+use Rattle.std.proofs.Common.{le-ltb, lt-ltb}
 use Rattle.pool.specs.Nodes.{low_of, high_of}
 use Rattle.pool.specs.Pool.{limit, append}
 use Rattle.pool.proofs.Rooms.{next_after, end_after}

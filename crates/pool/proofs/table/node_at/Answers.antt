@@ -1,6 +1,6 @@
 -- `pool::table::node_at` meets its contract: past the tables there is no node.
 -- Assumes nothing.
-use Rattle.std.proofs.Common.{rules, le-ltb, lt-ltb}
+use Rattle.std.proofs.Common.{le-ltb, lt-ltb}
 use Rattle.pool.specs.Pool.{limit, node_in}
 use Rattle.pool.proofs.table.node_at.Goals as goal
 

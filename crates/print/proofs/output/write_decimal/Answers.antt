@@ -1,6 +1,5 @@
 -- `print::output::write_decimal` meets its contract: one digit or two are the whole decimal, and else the short text is the definition's.
 -- Assumes nothing.
-use borrow.Author.Rules.{rules}
 use Rattle.low_bytes.proofs.Writing.{written_after, written_as}
 use Rattle.print.proofs.ShortNumbers.{of_one_digit, of_two_digits}
 use Rattle.print.proofs.output.write_decimal.Goals as goal

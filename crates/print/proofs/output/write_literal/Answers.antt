@@ -1,6 +1,5 @@
 -- `print::output::write_literal` meets its contract: the size is written, and of a negative number the sign in front of it.
 -- Assumes nothing.
-use borrow.Author.Rules.{rules}
 use mathlib.Core.Path.{◌≡◌, ap, ◌∙◌}
 use mathlib.Core.List.{List, ◌∷◌}
 use Prim.Native.Nat.{ℕ}

@@ -1,6 +1,5 @@
 -- `print::output::write_text` meets its contract: the part of the array from the start on is the text's content.
 -- Assumes nothing.
-use borrow.Author.Rules.{rules}
 use Rattle.print.proofs.Writing.{rest_of_text}
 use Rattle.print.proofs.output.write_text.Goals as goal
 

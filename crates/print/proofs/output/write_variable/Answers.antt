@@ -3,7 +3,6 @@
 use mathlib.Core.Path.{ap, ◌∙◌}
 use mathlib.Core.List.{[], ◌∷◌}
 use Prim.Native.Nat.{ℕ}
-use borrow.Author.Rules.{rules}
 use Rattle.low_bytes.proofs.Writing.{written_as}
 use Rattle.text.proofs.Forms.{a_letter}
 use Rattle.print.proofs.output.write_variable.Goals as goal

@@ -6,7 +6,6 @@ use mathlib.Core.Path.{◌≡◌, sym, ◌∙◌}
 use mir.Syntax.{w64}
 use mir.ValLaws.{to_z-of_z}
 use mir.Val.{to_z, of_z}
-use Prim.Native.Nat.{ℕ, ◌+◌, ◌*◌, ◌<◌}
 use Rattle.low_bytes.proofs.Writing.{three_written, none_written, past_longest_lem, stays_countable}
 use Rattle.pool.specs.Pool.{node_in}
 use Rattle.walks.specs.Print.{text_below}

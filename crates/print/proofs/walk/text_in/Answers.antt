@@ -1,6 +1,5 @@
 -- `print::walk::text_in` meets its contract: the root is below the bound that is one more.
 -- Assumes nothing.
-use borrow.Author.Rules.{rules}
 use Rattle.print.proofs.Fmt.{whole_text}
 use Rattle.print.proofs.walk.text_in.Goals as goal
 

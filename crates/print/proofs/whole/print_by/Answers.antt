@@ -4,7 +4,6 @@ use mathlib.Core.Path.{◌≡◌}
 use mathlib.Core.List.{◌++◌}
 use lib.ListN.{take, drop}
 use Rattle.print.proofs.Writing.{not_put_too_long, not_put_no_room, put_again, put_copied}
-use borrow.Author.Rules.{rules}
 use Rattle.print.proofs.whole.print_by.Goals as goal
 
 pub returns-then-length-gt-TEXT_MAX : goal.returns-then-length-gt-TEXT_MAX

@@ -1,6 +1,5 @@
 -- `print::whole::text_length` meets its contract: it is the position after the text, written from 0 on.
 -- Assumes nothing.
-use borrow.Author.Rules.{rules}
 use Rattle.low_bytes.proofs.Writing.{counted}
 use Rattle.print.proofs.whole.text_length.Goals as goal
 

@@ -3,9 +3,8 @@
 use borrow.Author.Rules.{rules}
 use native.Mathlib.Omega.{arith}
 use mathlib.Core.Path.{◌≡◌}
-use Prim.Native.Nat.{ℕ, ◌-◌, ◌≤◌, ◌<◌}
+use Prim.Native.Nat.{ℕ, ◌-◌, ◌<◌}
 use lib.ListN.{length, get_or}
-use Rattle.low_bytes.specs.Output.{longest_text}
 use Rattle.pool.specs.Pool.{node_in}
 use Rattle.walks.specs.Print.{text_of}
 use Rattle.taylor_base.specs.Answers.{terms}

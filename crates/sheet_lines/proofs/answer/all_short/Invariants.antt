@@ -1,16 +1,10 @@
 -- `sheet_lines::answer::all_short` meets its contract: one text that is too long is enough.
 -- Assumes nothing.
-use borrow.Author.Rules.{rules}
-use native.Mathlib.Omega.{arith}
-use mathlib.Core.Path.{◌≡◌}
 use Prim.Native.Nat.{ℕ, ◌-◌, ◌≤◌, ◌<◌}
 use lib.ListN.{length, get_or}
 use Rattle.low_bytes.specs.Output.{longest_text}
 use Rattle.pool.specs.Pool.{node_in}
 use Rattle.walks.specs.Print.{text_of}
-use Rattle.taylor_base.specs.Answers.{terms}
-use Rattle.sheet_page.proofs.Whole.{is_long, is_short}
-use Rattle.sheet_lines.proofs.Pages.{all_are_short, one_is_long, one_more_short}
 use Rattle.sheet_lines.proofs.answer.all_short.Given as goal
 
 abbrev pub invariant-loop-i : goal.invariant-loop-i

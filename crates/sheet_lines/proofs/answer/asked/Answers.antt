@@ -1,7 +1,5 @@
 -- `sheet_lines::answer::asked` meets its contract: 3, 4 and 5, then the file.
 -- Assumes nothing.
-use borrow.Author.Rules.{rules}
-use borrow.Author.Tests.{not-true, not-false}
 use mathlib.Core.Path.{sym, ap, ◌∙◌}
 use Rattle.refusals.specs.Refusals.{unknown_variable, not_literal, wrong_order}
 use Rattle.expand.specs.Points.{point_of}

@@ -1,6 +1,5 @@
 -- `sheet_lines::answer::expand_file` meets its contract: the file is read into an empty pool, then comes the walk.
 -- Assumes nothing.
-use borrow.Author.Rules.{rules}
 use Rattle.expand.specs.Points.{point_of}
 use Rattle.taylor_base.proofs.Lists.{refusal_answers, answers_same}
 use Rattle.sheet_lines.proofs.Pages.{file_refused, file_read}

@@ -1,7 +1,5 @@
 -- `sheet_lines::answer::lines_of` meets its contract: a refusal, a text that is too long, or the lines.
 -- Assumes nothing.
-use borrow.Author.Rules.{rules}
-use borrow.Author.Tests.{not-true, not-false}
 use mathlib.Core.Path.{sym, ◌∙◌}
 use Rattle.refusals.specs.Refusals.{no_room}
 use Rattle.pool.specs.Made.{pool_of}

@@ -1,7 +1,6 @@
 -- `sheet_lines::prepare::answer_to` meets its contract: usage, or what is asked for.
 -- Assumes nothing.
 use mathlib.Core.Path.{refl}
-use borrow.Author.Rules.{rules}
 use Rattle.sheet_page.specs.declared.first.Verdict.TheVariants.{Usage}
 use Rattle.sheet_lines.proofs.Pages.{only_prepared}
 use Rattle.sheet_lines.proofs.prepare.answer_to.Goals as goal

@@ -1,7 +1,6 @@
 -- `sheet_lines::prepare::prepared` meets its contract: the line is read, then answered.
 -- Assumes nothing.
 use mathlib.Core.Path.{ap, ◌∙◌}
-use borrow.Author.Rules.{rules}
 use Rattle.sheet_text.specs.Sheet.{answer_to}
 use Rattle.sheet_line.specs.declared.Line.{Line}
 use Rattle.sheet_line.specs.Cut.{line_in}

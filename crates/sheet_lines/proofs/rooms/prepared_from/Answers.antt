@@ -1,10 +1,8 @@
 -- `sheet_lines::rooms::prepared_from` meets its contract: each room is longer than the longest input, so what was read decides.
 -- Assumes nothing.
 use native.Mathlib.Omega.{arith}
-use borrow.Author.Rules.{rules}
 use Rattle.sheet_lines.proofs.Pages.{prepared_as}
 use Rattle.sheet_lines.proofs.WhatWasRead.{what_was_read_decides}
-use Rattle.sheet_lines.proofs.rooms.prepared_from.Reads as reads
 use Rattle.sheet_lines.proofs.rooms.prepared_from.Goals as goal
 
 pub returns : goal.returns

@@ -1,6 +1,5 @@
 -- `sheet_page::first::head` meets its contract: each arm is the clause of the definition.
 -- Assumes nothing.
-use borrow.Author.Rules.{rules}
 use Rattle.sheet_page.proofs.first.head.Goals as goal
 
 pub returns-in-Usage : goal.returns-in-Usage

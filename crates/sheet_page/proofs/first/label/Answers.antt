@@ -1,6 +1,5 @@
 -- `sheet_page::first::label` meets its contract: one text after the other.
 -- Assumes nothing.
-use borrow.Author.Rules.{rules}
 use Rattle.low_bytes.proofs.Writing.{written_after}
 use Rattle.sheet_page.proofs.first.label.Goals as goal
 

@@ -1,7 +1,6 @@
 -- `sheet_page::pieces::piece` meets its contract: room for the longest text and the number of lines are looked at first.
 -- Assumes nothing.
 use lib.ListN.{length}
-use borrow.Author.Rules.{rules}
 use Rattle.sheet_page.proofs.Whole.{put_as, nothing_put, no_room, too_many, may_be_put}
 use Rattle.sheet_page.proofs.pieces.piece.Goals as goal
 

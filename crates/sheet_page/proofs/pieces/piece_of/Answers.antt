@@ -3,7 +3,6 @@
 use mathlib.Core.Path.{ap}
 use mathlib.Core.List.{◌++◌}
 use Prim.Native.Nat.{◌-◌}
-use borrow.Author.Rules.{rules}
 use Rattle.text.specs.Text.{decimal}
 use Rattle.sheet_text.specs.Sheet.{line_end, colon}
 use Rattle.sheet_page.specs.Pages.{head_of, short}

@@ -3,7 +3,6 @@
 use Rattle.pool.specs.Pool.{node_in}
 use Rattle.walks.specs.Print.{text_of}
 use Rattle.sheet_page.proofs.Whole.{long_not_put, short_put}
-use borrow.Author.Rules.{rules}
 use Rattle.sheet_page.proofs.pieces.text_of.Goals as goal
 
 pub returns-then-n-gt-TEXT_MAX : goal.returns-then-n-gt-TEXT_MAX

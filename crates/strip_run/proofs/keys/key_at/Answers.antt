@@ -1,7 +1,6 @@
 -- `keys::key_at` meets its contract: what follows the code is cut off, or is read with as many bytes as the code has.
 -- Assumes nothing.
 use Rattle.strip_run.proofs.Cut.{cut_off, fits_there, number_small, found}
-use borrow.Author.Rules.{rules}
 use Rattle.strip_run.proofs.keys.key_at.Goals as goal
 
 pub returns-then-end-from : goal.returns-then-end-from

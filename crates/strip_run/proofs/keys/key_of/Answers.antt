@@ -4,7 +4,6 @@ use mathlib.Core.Path.{refl}
 use Rattle.pool.specs.Nodes.{decode}
 use Rattle.key_strip.specs.Machine.{key_of}
 use Rattle.strip_run.proofs.Codes.{at_code, no_code, power_fits}
-use borrow.Author.Rules.{rules}
 use Rattle.strip_run.proofs.keys.key_of.Goals as goal
 
 pub power-requires : goal.power-requires

@@ -2,7 +2,6 @@
 -- Assumes nothing.
 use mathlib.Core.Path.{ap₂, ◌∙◌}
 use Prim.Native.Nat.{◌+◌, ◌*◌}
-use borrow.Author.Rules.{rules}
 use Rattle.strip_run.proofs.Joined.{number_joined}
 use Rattle.strip_run.proofs.operands.four_bytes.Goals as goal
 

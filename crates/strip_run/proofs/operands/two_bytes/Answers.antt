@@ -2,7 +2,6 @@
 -- Assumes nothing.
 use Prim.Native.Nat.{◌+◌}
 use native.Mathlib.Omega.{arith}
-use borrow.Author.Rules.{rules}
 use Rattle.strip_run.proofs.Joined.{two_joined}
 use Rattle.strip_run.proofs.operands.two_bytes.Goals as goal
 

@@ -1,7 +1,6 @@
 -- `running::combined` meets its contract: the lower value is the left one, and the one below both comes out of the array.
 -- Assumes nothing.
 use mathlib.Core.Path.{refl}
-use borrow.Author.Rules.{rules}
 use Rattle.strip_run.proofs.running.combined.Goals as goal
 
 pub returns : goal.returns

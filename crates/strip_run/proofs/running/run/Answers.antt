@@ -3,8 +3,6 @@
 use mathlib.Core.Path.{refl}
 use Prim.Native.Nat.{◌-◌}
 use native.Mathlib.Omega.{arith}
-use lib.ListN.{length}
-use Rattle.strip_run.specs.Running.{Running}
 use Rattle.strip_run.proofs.KeyRuns.{running_starts, went_on, stopped_at, all_run}
 use Rattle.strip_run.proofs.running.run.Goals as goal
 

@@ -5,7 +5,6 @@ use mathlib.Core.Path.{refl, ap, ◌∙◌}
 use native.Mathlib.Omega.{arith}
 use mir.Syntax.{w64}
 use mir.ValLaws.{to_z-of_z}
-use borrow.Author.Rules.{rules}
 use Rattle.literal.specs.Literal.{is_literal, signed}
 use Rattle.double.specs.Double.{double_of}
 use Rattle.evaluate.specs.declared.Binary.TheVariants as binary

@@ -3,8 +3,6 @@
 use mathlib.Core.Path.{sym}
 use Prim.Native.Nat.{◌-◌}
 use native.Mathlib.Omega.{arith}
-use lib.ListN.{length}
-use Rattle.strip_run.specs.Testing.{Testing}
 use Rattle.strip_run.proofs.KeyTests.{testing_starts, testing_ends, came_to, came_to_no_key}
 use Rattle.strip_run.proofs.testing.is_strip.Goals as goal
 

@@ -3,7 +3,6 @@
 use mathlib.Core.Path.{sym, ap, ◌∙◌}
 use mir.Syntax.{w64}
 use mir.ValLaws.{to_z-of_z}
-use borrow.Author.Rules.{rules}
 use Rattle.literal.specs.Literal.{is_literal}
 use Rattle.strip_run.specs.Testing.{literal_tested}
 use Rattle.strip_run.proofs.testing.literal_tested.Goals as goal

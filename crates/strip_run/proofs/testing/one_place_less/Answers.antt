@@ -1,6 +1,5 @@
 -- `testing::one_place_less` meets its contract: two values are to be there.
 -- Assumes nothing.
-use borrow.Author.Rules.{rules}
 use borrow.Author.Tests.{lt-ltb, le-ltb}
 use Rattle.strip_run.specs.Testing.{one_place_less}
 use Rattle.strip_run.proofs.testing.one_place_less.Goals as goal

@@ -1,6 +1,5 @@
 -- `testing::one_place_more` meets its contract: the places in use are compared with all there are.
 -- Assumes nothing.
-use borrow.Author.Rules.{rules}
 use borrow.Author.Tests.{lt-ltb, le-ltb}
 use Rattle.key_strip.specs.Strip.{most_places}
 use Rattle.strip_run.specs.Testing.{one_place_more}

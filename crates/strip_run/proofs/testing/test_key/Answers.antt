@@ -2,7 +2,6 @@
 -- Assumes nothing.
 use mathlib.Core.Path.{refl}
 use native.Mathlib.Omega.{arith}
-use borrow.Author.Rules.{rules}
 use Rattle.pool.specs.Nodes.{decode}
 use Rattle.key_strip.specs.Machine.{following, key_of}
 use Rattle.strip_run.proofs.KeyTests.{cut_tested, variable_tested, literal_tested_there, exponent_tested_there, code_tested, between_tested, zero_tested, above_tested}

@@ -1,7 +1,6 @@
 -- `strip_write::need::kept` meets its contract: a smaller part has its entries in the tables, and any other has none.
 -- Assumes nothing.
 use mathlib.Core.Path.{◌∙◌}
-use borrow.Author.Rules.{rules}
 use Rattle.pool.proofs.Folds.{below, above}
 use Rattle.strip_write.proofs.need.kept.Goals as goal
 

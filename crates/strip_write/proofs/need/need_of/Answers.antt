@@ -1,7 +1,6 @@
 -- `strip_write::need::need_of` meets its contract: past the tables there is no node, and what the root needs is in the tables that were filled.
 -- Assumes nothing.
 use mathlib.Core.Path.{refl}
-use borrow.Author.Rules.{rules}
 use native.Mathlib.Omega.{arith}
 use Rattle.strip_write.proofs.Tables.{node_needs, no_node_needs}
 use Rattle.strip_write.proofs.need.need_of.Goals as goal

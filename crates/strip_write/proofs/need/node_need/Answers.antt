@@ -1,7 +1,6 @@
 -- `strip_write::need::node_need` meets its contract: what the tables have of the parts is counted, so the sums fit, and what they come to is the node's.
 -- Assumes nothing.
 use mathlib.Core.Path.{refl, ◌∙◌}
-use borrow.Author.Rules.{rules}
 use native.Mathlib.Omega.{arith}
 use Rattle.strip_write.proofs.Tables.{own_is_short, part_is_counted, leaf_needs, base_needs, both_need}
 use Rattle.strip_write.proofs.need.node_need.Goals as goal

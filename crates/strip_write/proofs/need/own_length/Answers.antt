@@ -1,6 +1,5 @@
 -- `strip_write::need::own_length` meets its contract: each kind's number of bytes is the definition's.
 -- Assumes nothing.
-use borrow.Author.Rules.{rules}
 use Rattle.strip_write.proofs.Tables.{own_length_of}
 use Rattle.strip_write.proofs.need.own_length.Goals as goal
 

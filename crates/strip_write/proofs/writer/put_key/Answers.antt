@@ -1,6 +1,5 @@
 -- `strip_write::writer::put_key` meets its contract: the code's byte, and then those of the number.
 -- Assumes nothing.
-use borrow.Author.Rules.{rules}
 use native.Mathlib.Omega.{arith}
 use lib.ListN.{length-set}
 use Rattle.strip_write.proofs.Writing.{stays_long, key_written}

@@ -1,6 +1,5 @@
 -- `strip_write::writer::strip_into` meets its contract: the root is below the bound that is one more, and what is written from 0 on stands in front.
 -- Assumes nothing.
-use borrow.Author.Rules.{rules}
 use Rattle.pool.specs.Pool.{node_in}
 use Rattle.strip_write.proofs.Writing.{room_for_all, all_written}
 use Rattle.strip_write.proofs.writer.strip_into.Goals as goal

@@ -1,6 +1,5 @@
 -- `rebuild_one` gives the node itself where its part is the same, else calls the constructor.
 -- Assumes nothing.
-use borrow.Author.Rules.{rules}
 use borrow.Author.Tests.{eq-eqb, ne_eqb}
 use Rattle.substitute.proofs.Rebuilt.{unchanged, changed}
 use Rattle.walk_laws.proofs.Steps.{called}

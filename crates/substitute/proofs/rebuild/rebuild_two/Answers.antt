@@ -1,6 +1,5 @@
 -- `rebuild_two` gives the node itself where both parts are the same, else calls the constructor.
 -- Assumes nothing.
-use borrow.Author.Rules.{rules}
 use mathlib.Core.Path.{sym, ◌∙◌}
 use Rattle.substitute.proofs.Rebuilt.{unchanged, changed}
 use Rattle.walk_laws.proofs.Steps.{called}

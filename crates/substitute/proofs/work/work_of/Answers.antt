@@ -1,7 +1,6 @@
 -- `work_of` finds what the definition does at a node, arm by arm.
 -- Assumes nothing.
 use mathlib.Core.Path.{ap}
-use borrow.Author.Rules.{rules}
 use Rattle.walks.specs.Walk.{yield}
 use Rattle.substitute.proofs.work.work_of.Goals as goal
 

@@ -1,6 +1,5 @@
 -- `taylor_base::answer::answer_of` meets its contract: both arms are the clauses of the definition.
 -- Assumes nothing.
-use borrow.Author.Rules.{rules}
 use mathlib.Core.Path.{sym, ap}
 use Rattle.taylor_base.specs.Answers.{answer_of}
 use Rattle.taylor_base.proofs.answer.answer_of.Goals as goal

@@ -1,6 +1,5 @@
 -- `taylor_base::answer::at` meets its contract: below the length the array has the entries of the list.
 -- Assumes nothing.
-use borrow.Author.Rules.{rules}
 use mathlib.Core.Path.{sym}
 use lib.Seq.{get_or-take}
 use Rattle.taylor_base.proofs.answer.at.Goals as goal

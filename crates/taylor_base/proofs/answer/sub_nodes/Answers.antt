@@ -1,6 +1,5 @@
 -- `taylor_base::answer::sub_nodes` meets its contract: it is the definition of `sub`, step by step.
 -- Assumes nothing.
-use borrow.Author.Rules.{rules}
 use Rattle.taylor_base.proofs.Steps.{onward, handed_on}
 use Rattle.taylor_base.proofs.answer.sub_nodes.Goals as goal
 

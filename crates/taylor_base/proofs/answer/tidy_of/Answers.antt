@@ -1,6 +1,5 @@
 -- `taylor_base::answer::tidy_of` meets its contract: a constant is made anew, a list is tidied.
 -- Assumes nothing.
-use borrow.Author.Rules.{rules}
 use Rattle.taylor_base.proofs.Operations.{list_sized}
 use Rattle.taylor_base.proofs.Lists.{constant_tidied, list_tidied}
 use Rattle.taylor_base.proofs.answer.tidy_of.Goals as goal

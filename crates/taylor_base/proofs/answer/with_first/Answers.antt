@@ -1,6 +1,5 @@
 -- `taylor_base::answer::with_first` meets its contract: a refusal is handed up, and a node takes the first place in the tidied list.
 -- Assumes nothing.
-use borrow.Author.Rules.{rules}
 use mathlib.Core.Path.{refl}
 use Rattle.taylor_base.proofs.Steps.{stopped}
 use Rattle.taylor_base.proofs.Lists.{refusal_lists, first_put}

@@ -1,16 +1,12 @@
 -- `taylor_base::entry::entries_in` meets its contract: it is `fill`, one entry a turn.
 -- Assumes nothing.
-use mathlib.Core.List.{[]}
 use native.Mathlib.Omega.{arith}
-use borrow.Author.Rules.{rules}
 use Prim.Native.Nat.{◌-◌}
 use Rattle.pool.specs.Made.{pool_of}
-use Rattle.taylor.specs.Work.{fill}
-use Rattle.taylor_base.specs.Answers.{list_of}
-use Rattle.taylor_base.specs.Entries.{entry_work, entry_at}
+use Rattle.taylor_base.specs.Entries.{entry_work}
 use Rattle.taylor_base.proofs.Steps.{with_those}
 use Rattle.taylor_base.proofs.Lists.{refusal_lists}
-use Rattle.taylor_base.proofs.Filling.{Filling, fill_starts, fill_stopped, fill_onward, fill_done}
+use Rattle.taylor_base.proofs.Filling.{fill_starts, fill_stopped, fill_onward, fill_done}
 use Rattle.taylor_base.proofs.entry.entries_in.Goals as goal
 
 pub loop-k-init : goal.loop-k-init

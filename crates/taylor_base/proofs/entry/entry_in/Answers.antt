@@ -1,6 +1,5 @@
 -- `taylor_base::entry::entry_in` meets its contract: each arm calls the constructor that the definition names.
 -- Assumes nothing.
-use borrow.Author.Rules.{rules}
 use Rattle.taylor_base.proofs.entry.entry_in.Goals as goal
 
 pub returns-in-Sum : goal.returns-in-Sum

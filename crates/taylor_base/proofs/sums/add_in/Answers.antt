@@ -1,12 +1,11 @@
 -- `taylor_base::sums::add_in` meets its contract: two constants, a constant at coefficient 0 of a list, or two lists side by side.
 -- Assumes nothing.
 use borrow.Author.Rules.{rules}
-use mathlib.Core.Path.{◌≡◌}
 use mathlib.Core.Bool.{false}
 use Rattle.pool.specs.Made.{pool_of}
 use Rattle.taylor.specs.Work.{add, at}
 use Rattle.taylor_base.proofs.Lists.{constant_answers, lists_answer}
-use Rattle.taylor_base.proofs.Operations.{Coded, given_coded, shorter_entries, two_lists, first_lists, list_sized}
+use Rattle.taylor_base.proofs.Operations.{given_coded, shorter_entries, two_lists, first_lists, list_sized}
 use Rattle.taylor_base.proofs.sums.add_in.Goals as goal
 
 pub returns-then-lhs : goal.returns-then-lhs

@@ -1,6 +1,5 @@
 -- `taylor_base::sums::coeff_in` meets its contract: a list has it, a constant is its own coefficient 0, and every other is a new zero.
 -- Assumes nothing.
-use borrow.Author.Rules.{rules}
 use mathlib.Core.Path.{refl, ap, ◌∙◌}
 use native.Mathlib.Omega.{arith}
 use Prim.Native.Nat.{ℕ}

@@ -1,6 +1,5 @@
 -- `taylor_base::sums::max_in` meets its contract: of two constants the constructor, else the refusal.
 -- Assumes nothing.
-use borrow.Author.Rules.{rules}
 use mathlib.Core.Path.{refl}
 use Rattle.taylor_base.proofs.Lists.{constant_answers, refusal_answers}
 use Rattle.taylor_base.proofs.Operations.{no_maximum}

@@ -2,11 +2,10 @@
 -- Assumes nothing.
 use borrow.Author.Rules.{rules}
 use mathlib.Core.Bool.{false}
-use mathlib.Core.Path.{◌≡◌}
 use Rattle.pool.specs.Made.{pool_of}
 use Rattle.taylor.specs.Work.{neg}
 use Rattle.taylor_base.proofs.Lists.{constant_answers, lists_answer}
-use Rattle.taylor_base.proofs.Operations.{Coded, given_coded, all_entries, each_lists}
+use Rattle.taylor_base.proofs.Operations.{given_coded, all_entries, each_lists}
 use Rattle.taylor_base.proofs.sums.neg_in.Goals as goal
 
 pub returns-then-e : goal.returns-then-e

@@ -8,7 +8,7 @@ use Rattle.taylor.specs.Expansion.{first}
 use Rattle.taylor_base.specs.Answers.{list_of}
 use Rattle.taylor_base.proofs.Steps.{goes_on}
 use Rattle.taylor_base.proofs.Lists.{lists_same, lists_end}
-use Rattle.taylor_base.proofs.Operations.{Coded, all_entries, each_lists, first_lists}
+use Rattle.taylor_base.proofs.Operations.{all_entries, each_lists, first_lists}
 use Rattle.taylor_base.proofs.sums.sub_from.Goals as goal
 
 pub entries_in-negative-requires : goal.entries_in-negative-requires

@@ -2,11 +2,10 @@
 -- Assumes nothing.
 use borrow.Author.Rules.{rules}
 use mathlib.Core.Bool.{false}
-use mathlib.Core.Path.{◌≡◌}
 use Rattle.pool.specs.Made.{pool_of}
 use Rattle.taylor.specs.Work.{sub, at}
 use Rattle.taylor_base.proofs.Lists.{constant_answers, lists_answer}
-use Rattle.taylor_base.proofs.Operations.{Coded, given_coded, shorter_entries, two_lists, first_lists, list_sized}
+use Rattle.taylor_base.proofs.Operations.{given_coded, shorter_entries, two_lists, first_lists, list_sized}
 use Rattle.taylor_base.proofs.sums.sub_in.Goals as goal
 
 pub returns-then-lhs : goal.returns-then-lhs

@@ -1,6 +1,5 @@
 -- `taylor_base::sums::var_in` meets its contract: a zero, from order 1 on a one, and the point before them.
 -- Assumes nothing.
-use borrow.Author.Rules.{rules}
 use mathlib.Core.Path.{refl, ◌∙◌}
 use Rattle.taylor_base.proofs.Steps.{onward, stopped}
 use Rattle.taylor_base.proofs.Lists.{lists_answer, lists_same, refusal_lists, tidied_lists}

@@ -1,6 +1,5 @@
 -- `taylor_products::power::pow_in` meets its contract: a one, and the rounds on the tidied base.
 -- Assumes nothing.
-use borrow.Author.Rules.{rules}
 use mathlib.Core.Path.{ap}
 use Rattle.pool.specs.Made.{pool_of}
 use Rattle.taylor.specs.Expansion.{Expansion, Constant, pow_from, digits}

@@ -1,12 +1,10 @@
 -- `taylor_products::power::rounds_in` meets its contract: each round is a turn of `pow_from`, and there are as many as the exponent has digits.
 -- Assumes nothing.
-use native.Mathlib.Omega.{arith}
-use borrow.Author.Rules.{rules}
-use lib.Count.{count_leading_zeros, leading_le}
+use lib.Count.{count_leading_zeros}
 use Rattle.pool.specs.Made.{pool_of}
 use Rattle.taylor.specs.Expansion.{Constant, pow_from, digits}
 use Rattle.taylor_base.specs.Answers.{expansion_of}
-use Rattle.taylor_products.proofs.Powering.{Powering, pow_starts, product_stopped, square_stopped, pow_onward, pow_done}
+use Rattle.taylor_products.proofs.Powering.{Powering}
 use Rattle.taylor_products.proofs.power.rounds_in.Given as goal
 
 abbrev pub invariant-loop-rounds : goal.invariant-loop-rounds

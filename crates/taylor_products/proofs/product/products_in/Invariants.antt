@@ -1,17 +1,12 @@
 -- `taylor_products::product::products_in` meets its contract: it is `fill`, one coefficient a turn.
 -- Assumes nothing.
-use mathlib.Core.Path.{ap, ◌∙◌}
 use mathlib.Core.List.{[]}
-use native.Mathlib.Numerals.{add-one}
-use native.Mathlib.Omega.{arith}
-use borrow.Author.Rules.{rules}
-use Prim.Native.Nat.{ℕ, ◌-◌}
+use Prim.Native.Nat.{◌-◌}
 use Rattle.pool.specs.Made.{pool_of}
-use Rattle.taylor.specs.Work.{fold, fill}
-use Rattle.taylor.specs.Expansion.{product_term, product_at}
+use Rattle.taylor.specs.Work.{fill}
+use Rattle.taylor.specs.Expansion.{product_at}
 use Rattle.taylor_base.specs.Answers.{list_of}
-use Rattle.taylor_base.proofs.Lists.{refusal_lists}
-use Rattle.taylor_base.proofs.Filling.{Filling, fill_starts, fill_stopped, fill_onward, fill_done}
+use Rattle.taylor_base.proofs.Filling.{Filling}
 use Rattle.taylor_products.proofs.product.products_in.Given as goal
 
 abbrev pub invariant-loop-k : goal.invariant-loop-k

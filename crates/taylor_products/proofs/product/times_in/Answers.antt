@@ -2,12 +2,11 @@
 -- Assumes nothing.
 use borrow.Author.Rules.{rules}
 use mathlib.Core.Bool.{false}
-use mathlib.Core.Path.{◌≡◌}
 use Rattle.pool.specs.Made.{pool_of}
 use Rattle.taylor.specs.Work.{mul, at}
 use Rattle.taylor.specs.Expansion.{times}
 use Rattle.taylor_base.proofs.Lists.{constant_answers, lists_answer}
-use Rattle.taylor_base.proofs.Operations.{Coded, given_coded, all_entries, each_lists, list_sized}
+use Rattle.taylor_base.proofs.Operations.{given_coded, all_entries, each_lists, list_sized}
 use Rattle.taylor_products.proofs.product.times_in.Goals as goal
 
 pub returns-then-rhs : goal.returns-then-rhs

@@ -10,7 +10,7 @@ use Rattle.taylor.specs.Expansion.{product_at}
 use Rattle.taylor_base.specs.Answers.{list_of}
 use Rattle.taylor_base.proofs.Steps.{onward, stopped}
 use Rattle.taylor_base.proofs.Lists.{refusal_lists, lists_same}
-use Rattle.taylor_base.proofs.Operations.{Coded, shorter_entries, shorter_length}
+use Rattle.taylor_base.proofs.Operations.{shorter_entries, shorter_length}
 use Rattle.taylor_products.proofs.product.times_lists.Goals as goal
 
 pub returns-in_default : goal.returns-in_default

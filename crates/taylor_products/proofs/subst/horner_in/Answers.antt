@@ -1,18 +1,15 @@
 -- `taylor_products::subst::horner_in` meets its contract: each turn takes the last coefficient that is left.
 -- Assumes nothing.
 use mathlib.Core.Path.{ap}
-use mathlib.Core.List.{reverse}
 use native.Mathlib.Omega.{arith}
 use Prim.Native.Nat.{ℕ}
 use borrow.Author.Rules.{rules}
 use Rattle.pool.specs.Made.{pool_of}
-use Rattle.taylor.specs.Work.{at}
-use Rattle.taylor.specs.Expansion.{Constant, horner}
-use Rattle.taylor_base.specs.Answers.{list_of, expansion_of}
+use Rattle.taylor_base.specs.Answers.{expansion_of}
 use Rattle.taylor_products.specs.Powers.{horner_step}
 use Rattle.taylor_base.proofs.Lists.{answers_same}
-use Rattle.taylor_base.proofs.Operations.{Coded, coded_long}
-use Rattle.taylor_products.proofs.Hornering.{Hornering, horner_starts, horner_stopped, horner_onward, horner_done}
+use Rattle.taylor_base.proofs.Operations.{coded_long}
+use Rattle.taylor_products.proofs.Hornering.{horner_starts, horner_stopped, horner_onward, horner_done}
 use Rattle.taylor_products.proofs.subst.horner_in.Goals as goal
 
 pub loop-i-init : goal.loop-i-init

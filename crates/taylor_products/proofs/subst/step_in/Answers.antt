@@ -1,6 +1,5 @@
 -- `taylor_products::subst::step_in` meets its contract: the product, and then the sum.
 -- Assumes nothing.
-use borrow.Author.Rules.{rules}
 use mathlib.Core.Path.{ap}
 use Rattle.pool.specs.Made.{pool_of}
 use Rattle.taylor.specs.Expansion.{Constant, add_to}

@@ -1,6 +1,5 @@
 -- `taylor_products::subst::subst_in` meets its contract: a constant is itself, a list goes by Horner's method from a zero.
 -- Assumes nothing.
-use borrow.Author.Rules.{rules}
 use Rattle.taylor_base.proofs.Operations.{list_sized}
 use mathlib.Core.Path.{refl}
 use Rattle.taylor_base.proofs.Steps.{onward, stopped}

@@ -2,15 +2,12 @@
 -- Assumes nothing.
 use mathlib.Core.Path.{sym}
 use native.Mathlib.Omega.{arith}
-use borrow.Author.Rules.{rules}
 use Prim.Native.Nat.{◌-◌}
 use lib.Seq.{get_or-take}
 use Rattle.pool.specs.Made.{pool_of}
-use Rattle.taylor.specs.Work.{fold}
-use Rattle.taylor_base.specs.Answers.{list_of}
-use Rattle.taylor_products.specs.Terms.{term_work, term_at}
+use Rattle.taylor_products.specs.Terms.{term_work}
 use Rattle.taylor_base.proofs.Steps.{with_those}
-use Rattle.taylor_products.proofs.Folding.{Folding, fold_starts, fold_stopped, fold_onward, fold_done}
+use Rattle.taylor_products.proofs.Folding.{fold_starts, fold_stopped, fold_onward, fold_done}
 use Rattle.taylor_products.proofs.term.fold_in.Goals as goal
 
 pub overflow_add-end : goal.overflow_add-end

@@ -1,16 +1,11 @@
 -- `taylor_products::term::fold_in` meets its contract: it is `fold`, one term a turn.
 -- Assumes nothing.
-use mathlib.Core.Path.{sym}
-use native.Mathlib.Omega.{arith}
-use borrow.Author.Rules.{rules}
 use Prim.Native.Nat.{◌-◌}
-use lib.Seq.{get_or-take}
 use Rattle.pool.specs.Made.{pool_of}
 use Rattle.taylor.specs.Work.{fold}
 use Rattle.taylor_base.specs.Answers.{list_of}
-use Rattle.taylor_products.specs.Terms.{term_work, term_at}
-use Rattle.taylor_base.proofs.Steps.{with_those}
-use Rattle.taylor_products.proofs.Folding.{Folding, fold_starts, fold_stopped, fold_onward, fold_done}
+use Rattle.taylor_products.specs.Terms.{term_at}
+use Rattle.taylor_products.proofs.Folding.{Folding}
 use Rattle.taylor_products.proofs.term.fold_in.Given as goal
 
 abbrev pub invariant-loop-j : goal.invariant-loop-j

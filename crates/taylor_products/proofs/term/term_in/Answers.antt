@@ -1,6 +1,5 @@
 -- `taylor_products::term::term_in` meets its contract: each arm is the clause of the definition.
 -- Assumes nothing.
-use borrow.Author.Rules.{rules}
 use Rattle.taylor_products.proofs.term.term_in.Goals as goal
 
 pub returns-in-Plus : goal.returns-in-Plus

@@ -2,7 +2,6 @@
 -- Assumes nothing.
 use Prim.Native.Nat.{ℕ}
 use mathlib.Core.Path.{ap, ◌∙◌}
-use borrow.Author.Rules.{rules}
 use Rattle.pool.specs.Made.{pool_of}
 use Rattle.taylor.specs.Expansion.{quotient_at}
 use Rattle.taylor_base.specs.Answers.{list_of}

@@ -1,6 +1,5 @@
 -- `taylor_quotients::coefficient::exp_at` meets its contract: the terms are summed up, then divided.
 -- Assumes nothing.
-use borrow.Author.Rules.{rules}
 use Rattle.taylor_base.proofs.Steps.{onward, handed_on}
 use Rattle.taylor_quotients.proofs.coefficient.exp_at.Goals as goal
 

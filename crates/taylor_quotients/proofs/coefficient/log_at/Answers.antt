@@ -1,6 +1,5 @@
 -- `taylor_quotients::coefficient::log_at` meets its contract: the terms are summed up, then taken away and divided.
 -- Assumes nothing.
-use borrow.Author.Rules.{rules}
 use Rattle.taylor_base.proofs.Steps.{onward, handed_on, with_those}
 use Rattle.pool.specs.Made.{pool_of}
 use Rattle.taylor_quotients.specs.Recurrences.{less_work}

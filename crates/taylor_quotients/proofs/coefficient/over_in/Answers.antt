@@ -1,6 +1,5 @@
 -- `taylor_quotients::coefficient::over_in` meets its contract: it is the definition, step by step.
 -- Assumes nothing.
-use borrow.Author.Rules.{rules}
 use Rattle.taylor_base.proofs.Steps.{onward, handed_on}
 use Rattle.taylor_quotients.proofs.coefficient.over_in.Goals as goal
 

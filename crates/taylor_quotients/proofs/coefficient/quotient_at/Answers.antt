@@ -1,6 +1,5 @@
 -- `taylor_quotients::coefficient::quotient_at` meets its contract: the terms are taken away, then comes the scale.
 -- Assumes nothing.
-use borrow.Author.Rules.{rules}
 use Rattle.taylor_base.proofs.Steps.{onward, handed_on}
 use Rattle.taylor_quotients.proofs.coefficient.quotient_at.Goals as goal
 

@@ -2,7 +2,6 @@
 -- Assumes nothing.
 use borrow.Author.Rules.{rules}
 use mathlib.Core.Bool.{false}
-use mathlib.Core.Path.{◌≡◌}
 use Rattle.pool.specs.Made.{pool_of}
 use Rattle.taylor_base.proofs.Operations.{given_coded, all_entries}
 use Rattle.taylor_base.proofs.Lists.{constant_answers, lists_answer, answers_same}

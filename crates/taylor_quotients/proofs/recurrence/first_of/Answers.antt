@@ -1,6 +1,5 @@
 -- `taylor_quotients::recurrence::first_of` meets its contract, by the operation.
 -- Assumes nothing.
-use borrow.Author.Rules.{rules}
 use Rattle.taylor_quotients.proofs.recurrence.first_of.Goals as goal
 
 pub returns-in-ConstantOver : goal.returns-in-ConstantOver

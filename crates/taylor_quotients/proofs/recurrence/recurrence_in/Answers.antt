@@ -1,6 +1,5 @@
 -- `taylor_quotients::recurrence::recurrence_in` meets its contract: a zero, the scale, the first coefficient, and the coefficients after it.
 -- Assumes nothing.
-use borrow.Author.Rules.{rules}
 use mathlib.Core.Path.{ap, ◌∙◌}
 use mathlib.Core.List.{[], ◌∷◌}
 use Prim.Native.Nat.{ℕ, ◌-◌}

@@ -1,15 +1,11 @@
 -- `taylor_quotients::recurrence::rest_in` meets its contract: it is `fill` from the first coefficient on, one coefficient a turn.
 -- Assumes nothing.
-use borrow.Author.Rules.{rules}
-use mathlib.Core.Path.{refl}
 use mathlib.Core.List.{[], ◌∷◌}
-use native.Mathlib.Omega.{arith}
 use Prim.Native.Nat.{◌-◌, ◌≤◌}
 use Rattle.pool.specs.Made.{pool_of}
 use Rattle.taylor.specs.Work.{fill}
 use Rattle.taylor_base.specs.Answers.{list_of}
-use Rattle.taylor_base.proofs.Lists.{refusal_lists}
-use Rattle.taylor_base.proofs.Filling.{Filling, one_filled, fill_stopped, fill_onward, fill_done}
+use Rattle.taylor_base.proofs.Filling.{Filling}
 use Rattle.taylor_quotients.specs.Recurrences.{coefficient_work}
 use Rattle.taylor_quotients.proofs.recurrence.rest_in.Given as goal
 

@@ -1,6 +1,5 @@
 -- `taylor_quotients::recurrence::scale_for` meets its contract, by the operation.
 -- Assumes nothing.
-use borrow.Author.Rules.{rules}
 use Rattle.taylor_quotients.proofs.recurrence.scale_for.Goals as goal
 
 pub returns-in-ConstantOver : goal.returns-in-ConstantOver
