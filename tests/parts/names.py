@@ -1,5 +1,5 @@
 #!/usr/bin/env python3
-"""Says which names that README.md and docs/ have in backticks stand nowhere in crates/, and which files and folders that they name are not there.
+"""Says which names that README.md and docs/ have in backticks stand nowhere in crates/, and which files, folders and must-fail edits that they name are not there.
 usage: tests/parts/names.py, at the root. A name of a definition, theorem, function or type is a word with _ or with a small and a capital letter; others are too common to look for."""
 import glob
 import os
@@ -8,7 +8,7 @@ import sys
 
 WORD = r"[A-Za-z_][\w'₀-₉]*"
 # names of the Rust, of C, of tools and of the comparison, and names that a page says are gone
-OTHERS = set("F64 powi evaluate_var Distributive x_65536 VarSupport factorial_moments_to_moments num_traits rustc_hash refused_first entry_fits entry_folds factorialsFrom".split())
+OTHERS = set("F64 powi evaluate_var Distributive x_65536 VarSupport factorial_moments_to_moments num_traits rustc_hash refused_first entry_fits entry_folds factorialsFrom at_X".split())
 
 
 def read(path):
@@ -61,6 +61,15 @@ def main():
                 if is_name and word in words and word not in edits and not any(it.split("/")[1] in crates for it in words[word]):
                     bad += 1
                     print(f"{page}: `{word}` stands in none of the crates {' '.join(sorted(crates))}")
+    # the edits of each row stand in the crate that is named before them, the edits of the arms' table in constructors
+    for line in read("docs/GUARANTEES.md").split("\n"):
+        cells = [it.strip() for it in line.split("|")[1:-1]]
+        crate = "constructors" if len(cells) == 2 else None
+        for found in re.finditer(r"([a-z_0-9]+): (?=`)|`([^`]+)`", cells[-1] if cells and (crate or re.match(r"[a-z_0-9]+: `", cells[-1])) else ""):
+            crate = found[1] or crate
+            if found[2] and not os.path.exists(f"crates/{crate}/must-fail/{found[2]}.edit"):
+                bad += 1
+                print(f"docs/GUARANTEES.md: {crate} has no edit {found[2]}")
     print(f"{bad} names and files of the pages are not there")
     return bad > 0
 
