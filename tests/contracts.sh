@@ -8,7 +8,7 @@ for main in crates/*/src/main.rt; do
   free="$free${crate%%/*} "
 done
 # A signature goes from its fn to the line that ends with the body's brace. Prints each function without ensures, and last how many there are.
-find crates -path '*/src/*.rt' | sort | xargs awk -v free="$free" '
+find crates/*/src -name '*.rt' | sort | xargs awk -v free="$free" '
   !on && /^ *(pub )?(extern "C" )?fn / { on = 1; promised = 0; place = FILENAME ": " $0 }
   on && /^ *ensures / { promised = 1 }
   on && !/^ *(ensures|requires) / && /\{$/ {
