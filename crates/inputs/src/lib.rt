@@ -1,7 +1,8 @@
 // The inputs of the programs, standard input, nodes.bin and a strip's file, read to their end. Each read's own answer says whether it failed.
 #![tactic(auto)]
 
-ghost use Rattle.std.specs.Prelude.{◌≤◌, length};
+ghost use Rattle.std.specs.Prelude.{◌≡◌, ◌≤◌, length};
+ghost use Rattle.inputs.specs.declared.Input.TheVariants.{Failed};
 ghost use Rattle.inputs.specs.Rooms.{Within, More, Decides};
 
 use low_bytes::TEXT_MAX;
@@ -32,7 +33,7 @@ pub enum Input {
 fn read_more<R: Read>(
     rt: &impl Eprint,
     reader: &mut R,
-    name: &str,
+    name: &[u8],
     room: &mut [u8],
     done: usize,
 ) -> Input
@@ -49,7 +50,7 @@ fn read_more<R: Read>(
 }
 
 // An input until it ends or the room is full. One that is not ready, as a pipe that does not wait, has failed.
-pub fn read_input<R: Read>(rt: &impl Eprint, reader: &mut R, name: &str, room: &mut [u8]) -> Input
+pub fn read_input<R: Read>(rt: &impl Eprint, reader: &mut R, name: &[u8], room: &mut [u8]) -> Input
     ensures { Within result room.new }
 {
     let mut done = 0;
@@ -66,11 +67,15 @@ pub fn read_input<R: Read>(rt: &impl Eprint, reader: &mut R, name: &str, room: &
     Input::Bytes(done)
 }
 
-// The file of a name.
-pub fn read_file(rt: &(impl Files + Eprint), name: &str, room: &mut [u8]) -> Input
+// The file of a name, which std wants as text.
+pub fn read_file(rt: &(impl Files + Eprint), name: &[u8], room: &mut [u8]) -> Input
     ensures { Within result room.new }
 {
-    match fs::open(rt, name) {
+    let Ok(path) = str::from_utf8(name) else {
+        outputs::say(rt, b"the name of a file", "it is not UTF-8 text");
+        return Input::Failed;
+    };
+    match fs::open(rt, path) {
         Ok(mut file) => read_input(rt, &mut file, name, room),
         Err(error) => {
             if error.kind() == ErrorKind::NotFound {
@@ -82,60 +87,52 @@ pub fn read_file(rt: &(impl Files + Eprint), name: &str, room: &mut [u8]) -> Inp
     }
 }
 
-// That there is no file of that name.
-pub fn say_missing(rt: &impl Eprint, name: &str) {
-    outputs::say(rt, name, "No such file or directory");
-}
-
 // nodes.bin in the working directory.
 pub fn read_nodes(rt: &(impl Files + Eprint), room: &mut [u8; FILE_ROOM]) -> Input
     ensures { Decides result room.new }
 {
-    read_file(rt, "nodes.bin", room)
+    read_file(rt, b"nodes.bin", room)
 }
 
 // The file of a name, where a missing one has failed.
-fn read_named(rt: &(impl Files + Eprint), name: &str, room: &mut [u8]) -> Input
+fn read_named(rt: &(impl Files + Eprint), name: &[u8], room: &mut [u8]) -> Input
     ensures { Within result room.new }
 {
     let input = read_file(rt, name, room);
     match input {
         Input::Bytes(n) => Input::Bytes(n),
         Input::Missing => {
-            say_missing(rt, name);
+            outputs::say_missing(rt, name);
             Input::Failed
         }
         Input::Failed => Input::Failed,
     }
 }
 
-// Whether the program has an argument of that number. One that does not fit into no room is there.
-fn has_argument(rt: &impl Env, number: usize) -> bool {
-    match rt.arg(number, &mut []) {
-        Ok(_) => true,
-        Err(FillError::TooLong) => true,
-        Err(FillError::NotPresent) => false,
-    }
+// That there is not exactly one argument.
+fn say_usage(rt: &impl Eprint) -> Input
+    ensures { result ≡ Failed }
+{
+    let _ = eprintln!(rt; "one argument is needed, the name of a strip's file");
+    Input::Failed
 }
 
 // The file that the program's only argument names.
 fn read_argument(rt: &(impl Env + Files + Eprint), room: &mut [u8]) -> Input
     ensures { Within result room.new }
 {
-    if !has_argument(rt, 1) || has_argument(rt, 2) {
-        let _ = eprintln!(rt; "one argument is needed, the name of a strip's file");
-        return Input::Failed;
-    }
+    let Err(FillError::NotPresent) = rt.arg(2, &mut []) else {
+        return say_usage(rt);
+    };
     let mut name = [0u8; NAME_ROOM];
-    let Ok(n) = rt.arg(1, &mut name) else {
-        outputs::say(rt, "the name of the strip's file", "File name too long");
-        return Input::Failed;
-    };
-    let Ok(text) = str::from_utf8(&name[..n]) else {
-        outputs::say(rt, "the name of the strip's file", "it is not UTF-8 text");
-        return Input::Failed;
-    };
-    read_named(rt, text, room)
+    match rt.arg(1, &mut name) {
+        Ok(n) => read_named(rt, &name[..n], room),
+        Err(FillError::NotPresent) => say_usage(rt),
+        Err(FillError::TooLong) => {
+            outputs::say(rt, b"the name of the strip's file", "File name too long");
+            Input::Failed
+        }
+    }
 }
 
 // The strip in the file that the program's only argument names, unless it is longer than any strip.

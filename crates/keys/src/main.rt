@@ -50,7 +50,7 @@ fn run_line(rt: &(impl Env + Files + Print + Eprint), line: &[u8]) -> bool {
 
 fn main(rt: HostRuntime) {
     let mut line = [0u8; LINE_ROOM];
-    let typed = inputs::read_input(&rt, &mut rt.stdin(), "standard input", &mut line);
+    let typed = inputs::read_input(&rt, &mut rt.stdin(), b"standard input", &mut line);
     let Input::Bytes(m) = typed else {
         return;
     };

@@ -83,7 +83,7 @@ fn print_page(rt: &(impl Print + Eprint), page: Page, kinds: &[u8; LIMIT], words
 
 fn main(rt: HostRuntime) {
     let mut line = [0u8; LINE_ROOM];
-    let typed = inputs::read_input(&rt, &mut rt.stdin(), "standard input", &mut line);
+    let typed = inputs::read_input(&rt, &mut rt.stdin(), b"standard input", &mut line);
     let Input::Bytes(m) = typed else {
         return;
     };

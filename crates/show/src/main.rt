@@ -50,7 +50,7 @@ fn main(rt: HostRuntime) {
         Input::Bytes(n) => {
             show_file(&rt, &file[..n]);
         }
-        Input::Missing => inputs::say_missing(&rt, "nodes.bin"),
+        Input::Missing => outputs::say_missing(&rt, b"nodes.bin"),
         Input::Failed => {}
     }
 }
