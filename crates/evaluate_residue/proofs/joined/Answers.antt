@@ -66,10 +66,10 @@ pub returns-in-Add : goal.returns-in-Add
 returns-in-Add c = of_the_arm _ _ (kept_of c.args.kept.now) c.in-Add.is (ap Residue c.sum.ensures)
 
 pub returns-in-Mul : goal.returns-in-Mul
-returns-in-Mul c = of_the_arm _ _ (kept_of c.args.kept.now) c.in-Mul.is (ap Residue c.product.ensures)
+returns-in-Mul c = of_the_arm _ _ (kept_of c.args.kept.now) c.in-Mul.is (search rules)
 
 pub returns-in-Div : goal.returns-in-Div
-returns-in-Div c = of_the_arm _ _ (kept_of c.args.kept.now) c.in-Div.is c.quotient.ensures
+returns-in-Div c = of_the_arm _ _ (kept_of c.args.kept.now) c.in-Div.is (search rules)
 
 pub returns-in-Exp : goal.returns-in-Exp
 returns-in-Exp c = of_the_arm _ _ (kept_of c.args.kept.now) c.in-Exp.is refl
