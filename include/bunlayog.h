@@ -1,6 +1,6 @@
 /* Bunlayog: a proved expression engine, as C functions.
  *
- * Link with libbunlayog.a (`rt staticlib bunlayog` writes target/staticlib/libbunlayog.a, `install.sh` installs it). What each function
+ * Link with libbunlayog.a (`rt lib` in crates/bunlayog writes out/libbunlayog.a there, `install.sh` installs it). What each function
  * answers stands in docs/SPECIFICATION.md, rule by rule; examples/first.c is a first program. C99 or later, or C++11 or later.
  *
  * Every function answers BUNLAYOG_OK or the number of a refusal. After a refusal every byte that was lent is as before, the places for
@@ -26,13 +26,13 @@
  * Stack in bytes, as measured (docs/MEASUREMENTS.md has more figures, and the worst pool for each):
  *   check, taylor_order, taylor_from_coefficients       1,024
  *   run_strip                                           1,128
- *   lit, var and the constructors                      81,880
- *   the other operations on expansions                 86,616
- *   write, read                                       369,104
- *   strip                                             516,040
+ *   lit, var and the constructors                      78,672
+ *   the other operations on expansions                 83,416
+ *   write, read                                       434,632
+ *   strip                                             385,080
  *   substitute_var, derive, evaluate, evaluate_residue,
- *   print                                           1,054,472
- *   taylor_coeffs, taylor_coeffs_at                 1,175,016
+ *   print                                             989,120
+ *   taylor_coeffs, taylor_coeffs_at                 1,044,528
  *
  * The archive is for x86-64 Linux. It calls memcpy and memset and nothing else, and has no data that can be written.
  */

@@ -1,6 +1,6 @@
 /* Makes the samples anew, with the engine's own calls. Writes NAME.bin and NAME.txt of each into the folder that is given.
  *
- *     cc -Iinclude samples/make.c target/staticlib/libbunlayog.a -o make_samples && ./make_samples samples */
+ *     cc -Iinclude samples/make.c crates/bunlayog/out/libbunlayog.a -o make_samples && ./make_samples samples */
 #include "bunlayog.h"
 #include "bunlayog_text.h"
 
