@@ -34,7 +34,7 @@ pub loop-i-smaller : goal.loop-i-smaller
 loop-i-smaller c = omega (arith, c.loop-i-test.true)
 
 pub loop-i-preserved : goal.loop-i-preserved
-loop-i-preserved c = (omega (arith, c.loop-i-test.true), each_more _ _ c.loop-i.invariant.1 (lt-ltb _ _ c.if-values-i-ge-MODULUS.false))
+loop-i-preserved c = (omega (arith, c.loop-i-test.true), each_more _ _ c.loop-i.invariant.1 (lt-ltb _ _ (omega arith)))
 
 pub returns : goal.returns
 returns c =

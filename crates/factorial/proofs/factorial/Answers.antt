@@ -15,7 +15,7 @@ pub overflow_mul-product : goal.overflow_mul-product
 overflow_mul-product c = omega (arith, product_fits c.loop-i.invariant)
 
 pub loop-i-preserved : goal.loop-i-preserved
-loop-i-preserved c = next_product c.loop-i.invariant c.loop-i-test.true c.if-product-gt-LITERAL_MAX.false
+loop-i-preserved c = next_product c.loop-i.invariant c.loop-i-test.true (omega arith)
 
 pub loop-i-smaller : goal.loop-i-smaller
 loop-i-smaller c = omega (arith, turn_is_below_nineteen c.loop-i.invariant)

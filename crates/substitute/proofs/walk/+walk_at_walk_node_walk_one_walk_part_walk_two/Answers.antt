@@ -15,13 +15,13 @@ walk_at-returns-then-word-ne0 t c = given_again (substitute_at c.args.var c.args
 pub walk_at-returns-in_default : goal.walk_at-returns-in_default
 walk_at-returns-in_default t c =
     let call = c.walk_node-visited in
-    visited (substitute_at c.args.var c.args.value) _ _ c.args.term c.requires c.if-word-ne0.false
+    visited (substitute_at c.args.var c.args.value) _ _ c.args.term c.requires (omega arith)
     (stopped call.new.kinds call.new.words (results_of call.new.kept) _ _ _ _ c.in_default.is call.ensures)
 
 pub walk_at-returns : goal.walk_at-returns
 walk_at-returns t c =
     let call = c.walk_node-visited in
-    visited (substitute_at c.args.var c.args.value) _ _ c.args.term c.requires c.if-word-ne0.false
+    visited (substitute_at c.args.var c.args.value) _ _ c.args.term c.requires (omega arith)
     (onward call.new.kinds call.new.words (results_of call.new.kept) _ c.in-Node.is call.ensures (kept_now _ _ _ (omega arith) (omega arith)))
 
 pub walk_part-returns-then-a-term : goal.walk_part-returns-then-a-term
