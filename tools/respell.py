@@ -7,7 +7,6 @@ import re
 import sys
 
 ROOT = sys.argv[1] if len(sys.argv) > 1 else "."
-KIT = os.path.dirname(os.path.dirname(os.path.realpath(os.popen("command -v rt").read().strip() or "/opt/rattle/bin/rt")))
 TOKEN = re.compile(r"[^\s(){}\[\];,.:\"\\|@]+")
 KIT_PATH = re.compile(r"^(?:pub )?(?:ghost )?use ((?!Rattle\.|crate)[A-Za-z_.]+|Rattle\.(?:std|core|io|os|libc|std_\w+)[\w.'-]*)\.\{([^}]*)\}")
 USE = re.compile(r"^\s*(?:pub )?(?:ghost )?use ")
