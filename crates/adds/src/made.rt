@@ -19,7 +19,7 @@ pub fn lit_in(kinds: &mut [u8; LIMIT], words: &mut [u64; LIMIT], room: Room, fol
 }
 
 // The sum of two nodes, with `left` constructors left to run inside one another.
-#[cycle(add_chain_add_in_add_onto_add_sums)]
+#[cycle(add_rules)]
 pub fn add_in(
     kinds: &mut [u8; LIMIT],
     words: &mut [u64; LIMIT],
@@ -45,7 +45,7 @@ pub fn add_in(
 }
 
 // add(b, lit(x + y))
-#[cycle(add_chain_add_in_add_onto_add_sums)]
+#[cycle(add_rules)]
 fn add_onto(
     kinds: &mut [u8; LIMIT],
     words: &mut [u64; LIMIT],
@@ -69,7 +69,7 @@ fn add_onto(
 }
 
 // add(add(a, c), lit(x + y))
-#[cycle(add_chain_add_in_add_onto_add_sums)]
+#[cycle(add_rules)]
 fn add_sums(
     kinds: &mut [u8; LIMIT],
     words: &mut [u64; LIMIT],
@@ -102,7 +102,7 @@ fn add_sums(
 }
 
 // add(add(a, b), c)
-#[cycle(add_chain_add_in_add_onto_add_sums)]
+#[cycle(add_rules)]
 fn add_chain(
     kinds: &mut [u8; LIMIT],
     words: &mut [u64; LIMIT],

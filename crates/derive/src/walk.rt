@@ -33,7 +33,7 @@ pub fn derive_in(
 }
 
 // From a node: its result is kept, as one more than its number.
-#[cycle(walk_at_walk_node_walk_one_walk_part_walk_two)]
+#[cycle(walk)]
 fn walk_at(
     kinds: &mut [u8; LIMIT],
     words: &mut [u64; LIMIT],
@@ -69,7 +69,7 @@ fn walk_at(
 }
 
 // At a node, by its kind.
-#[cycle(walk_at_walk_node_walk_one_walk_part_walk_two)]
+#[cycle(walk)]
 fn walk_node(
     kinds: &mut [u8; LIMIT],
     words: &mut [u64; LIMIT],
@@ -92,7 +92,7 @@ fn walk_node(
 }
 
 // A node of two parts, left before right.
-#[cycle(walk_at_walk_node_walk_one_walk_part_walk_two)]
+#[cycle(walk)]
 fn walk_two(
     kinds: &mut [u8; LIMIT],
     words: &mut [u64; LIMIT],
@@ -127,7 +127,7 @@ fn walk_two(
 }
 
 // A node of one part.
-#[cycle(walk_at_walk_node_walk_one_walk_part_walk_two)]
+#[cycle(walk)]
 fn walk_one(
     kinds: &mut [u8; LIMIT],
     words: &mut [u64; LIMIT],
@@ -153,7 +153,7 @@ fn walk_one(
 }
 
 // A part, which has a smaller number than the node.
-#[cycle(walk_at_walk_node_walk_one_walk_part_walk_two)]
+#[cycle(walk)]
 fn walk_part(
     kinds: &mut [u8; LIMIT],
     words: &mut [u64; LIMIT],

@@ -8,7 +8,7 @@ use crate::rule::{DivRule, LogRule};
 use pool::{LIMIT, Made, Node, Room};
 
 // The logarithm of a node, with `left` constructors left to run inside one another.
-#[cycle(log_in_log_product)]
+#[cycle(log_rules)]
 pub fn log_in(
     kinds: &mut [u8; LIMIT],
     words: &mut [u64; LIMIT],
@@ -31,7 +31,7 @@ pub fn log_in(
 }
 
 // add(log(b), lit(a.log()))
-#[cycle(log_in_log_product)]
+#[cycle(log_rules)]
 fn log_product(
     kinds: &mut [u8; LIMIT],
     words: &mut [u64; LIMIT],

@@ -9,7 +9,7 @@ use mul_rules::MulRule;
 use pool::{LIMIT, Made, Node, Room};
 
 // The product of two nodes, with `left` constructors left to run inside one another.
-#[cycle(exp_in_exp_shifted_exp_sum_mul_in_over_exp_over_exps_scales_times_power_under)]
+#[cycle(mul_and_exp_rules)]
 pub fn mul_in(
     kinds: &mut [u8; LIMIT],
     words: &mut [u64; LIMIT],
@@ -41,7 +41,7 @@ pub fn mul_in(
 }
 
 // The exponential of a node, with `left` constructors left to run inside one another.
-#[cycle(exp_in_exp_shifted_exp_sum_mul_in_over_exp_over_exps_scales_times_power_under)]
+#[cycle(mul_and_exp_rules)]
 pub fn exp_in(
     kinds: &mut [u8; LIMIT],
     words: &mut [u64; LIMIT],
@@ -64,7 +64,7 @@ pub fn exp_in(
 }
 
 // exp(add(a, b))
-#[cycle(exp_in_exp_shifted_exp_sum_mul_in_over_exp_over_exps_scales_times_power_under)]
+#[cycle(mul_and_exp_rules)]
 fn exp_sum(
     kinds: &mut [u8; LIMIT],
     words: &mut [u64; LIMIT],
@@ -87,7 +87,7 @@ fn exp_sum(
 }
 
 // mul(lit(z.exp()), exp(a))
-#[cycle(exp_in_exp_shifted_exp_sum_mul_in_over_exp_over_exps_scales_times_power_under)]
+#[cycle(mul_and_exp_rules)]
 fn exp_shifted(
     kinds: &mut [u8; LIMIT],
     words: &mut [u64; LIMIT],
@@ -118,7 +118,7 @@ fn exp_shifted(
 }
 
 // mul(x, exp(add(a, b)))
-#[cycle(exp_in_exp_shifted_exp_sum_mul_in_over_exp_over_exps_scales_times_power_under)]
+#[cycle(mul_and_exp_rules)]
 fn over_exp(
     kinds: &mut [u8; LIMIT],
     words: &mut [u64; LIMIT],
@@ -142,7 +142,7 @@ fn over_exp(
 }
 
 // mul(mul(x, y), exp(add(a, b)))
-#[cycle(exp_in_exp_shifted_exp_sum_mul_in_over_exp_over_exps_scales_times_power_under)]
+#[cycle(mul_and_exp_rules)]
 fn over_exps(
     kinds: &mut [u8; LIMIT],
     words: &mut [u64; LIMIT],
@@ -189,7 +189,7 @@ fn scaled(
 }
 
 // Mul(lit(x * y), mul(c, d))
-#[cycle(exp_in_exp_shifted_exp_sum_mul_in_over_exp_over_exps_scales_times_power_under)]
+#[cycle(mul_and_exp_rules)]
 fn scales(
     kinds: &mut [u8; LIMIT],
     words: &mut [u64; LIMIT],
@@ -214,7 +214,7 @@ fn scales(
 }
 
 // Mul(a, mul(b, c))
-#[cycle(exp_in_exp_shifted_exp_sum_mul_in_over_exp_over_exps_scales_times_power_under)]
+#[cycle(mul_and_exp_rules)]
 fn under(
     kinds: &mut [u8; LIMIT],
     words: &mut [u64; LIMIT],
@@ -238,7 +238,7 @@ fn under(
 }
 
 // mul(a, pow(b, e1 + e2))
-#[cycle(exp_in_exp_shifted_exp_sum_mul_in_over_exp_over_exps_scales_times_power_under)]
+#[cycle(mul_and_exp_rules)]
 fn times_power(
     kinds: &mut [u8; LIMIT],
     words: &mut [u64; LIMIT],

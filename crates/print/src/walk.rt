@@ -29,7 +29,7 @@ fn precedence(node: Node) -> u32
 
 // A part whose number is below the bound, in brackets where its precedence is less than the one it stands under. Any other part prints nothing. The two are
 // numbers of their own: a struct of two numbers is handed on through memory, stored one by one and then read as one, and takes a processor longer.
-#[cycle(inside_joined_node_fmt_power_wrapped)]
+#[cycle(fmt)]
 fn node_fmt(
     kinds: &[u8; LIMIT],
     words: &[u64; LIMIT],
@@ -59,7 +59,7 @@ fn node_fmt(
 
 // A node without the brackets around it; its parts are below its own number. It is looked up where it is matched: a node that is handed on takes longer. The
 // numbers of a node that has two are read from its word: a node made by value is stored in pieces and read back whole, which a processor waits for.
-#[cycle(inside_joined_node_fmt_power_wrapped)]
+#[cycle(fmt)]
 fn inside(
     kinds: &[u8; LIMIT],
     words: &[u64; LIMIT],
@@ -88,7 +88,7 @@ fn inside(
 }
 
 // Two parts, the left one under the precedence `first` and the right one under `second`, and the sign between them.
-#[cycle(inside_joined_node_fmt_power_wrapped)]
+#[cycle(fmt)]
 fn joined(
     kinds: &[u8; LIMIT],
     words: &[u64; LIMIT],
@@ -110,7 +110,7 @@ fn joined(
 }
 
 // One part between an opening and its closing bracket.
-#[cycle(inside_joined_node_fmt_power_wrapped)]
+#[cycle(fmt)]
 fn wrapped(
     kinds: &[u8; LIMIT],
     words: &[u64; LIMIT],
@@ -129,7 +129,7 @@ fn wrapped(
 }
 
 // A base and its exponent.
-#[cycle(inside_joined_node_fmt_power_wrapped)]
+#[cycle(fmt)]
 fn power(
     kinds: &[u8; LIMIT],
     words: &[u64; LIMIT],

@@ -32,7 +32,7 @@ fn put_own(out: &mut [u8], at: usize, node: Node) -> usize
 }
 
 // The strip of a part whose number is below the bound: its left part, its right part, then its own code. Any other part has no strip.
-#[cycle(strip_below_strip_both)]
+#[cycle(strip_parts)]
 fn strip_below(
     kinds: &[u8; LIMIT],
     words: &[u64; LIMIT],
@@ -63,7 +63,7 @@ fn strip_below(
 }
 
 // The strips of two parts of node i, the left one first.
-#[cycle(strip_below_strip_both)]
+#[cycle(strip_parts)]
 fn strip_both(
     kinds: &[u8; LIMIT],
     words: &[u64; LIMIT],

@@ -1,7 +1,7 @@
 -- The cycle of calls that prints a node: parts are written one after the other, and each call of node_fmt is on a smaller bound.
 -- The measure is three times the bound, and for the members in between one or two more. Assumes nothing.
 use Prim.Native.Nat.{◌+◌, ◌*◌}
-use Rattle.print.proofs.walk.+inside_joined_node_fmt_power_wrapped.Given as goal
+use Rattle.print.proofs.walk.+fmt.Given as goal
 
 abbrev pub decreases-inside : goal.decreases-inside
 decreases-inside l = 3 * l.i + 2

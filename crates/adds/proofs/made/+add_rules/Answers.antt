@@ -11,7 +11,7 @@ use Rattle.views.proofs.Steps.{onward, stopped, runs_deeper}
 use Rattle.adds.specs.Rule.{add_term}
 use Rattle.adds.proofs.Runs.{none_left, ruled, renumbered, same_sum, literal_made}
 use Rattle.std.proofs.Common.{rules}
-use Rattle.adds.proofs.made.+add_chain_add_in_add_onto_add_sums.Goals as goal
+use Rattle.adds.proofs.made.+add_rules.Goals as goal
 
 pub add_chain-returns-in_default : goal.add_chain-returns-in_default
 unfolding build

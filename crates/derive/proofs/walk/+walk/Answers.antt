@@ -7,7 +7,7 @@ use Rattle.walk_laws.specs.Walked.{results_of}
 use Rattle.walk_laws.proofs.Steps.{onward, stopped}
 use Rattle.walk_laws.proofs.Bounds.{below, above}
 use Rattle.walk_laws.proofs.Turns.{given_again, visited, kept_now}
-use Rattle.derive.proofs.walk.+walk_at_walk_node_walk_one_walk_part_walk_two.Goals as goal
+use Rattle.derive.proofs.walk.+walk.Goals as goal
 
 pub walk_at-returns-then-word-ne0 : goal.walk_at-returns-then-word-ne0
 walk_at-returns-then-word-ne0 t c = given_again (derive_at c.args.var) _ _ c.args.term c.requires c.if-word-ne0.true

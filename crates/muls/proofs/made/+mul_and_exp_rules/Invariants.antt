@@ -1,7 +1,7 @@
 -- `mul`, `exp` and what they build meet their contracts: each step is a step of the rule's term, and the depth left falls from a rule to its calls.
 -- Assumes nothing.
 use Prim.Native.Nat.{◌+◌, ◌*◌}
-use Rattle.muls.proofs.made.+exp_in_exp_shifted_exp_sum_mul_in_over_exp_over_exps_scales_times_power_under.Given as goal
+use Rattle.muls.proofs.made.+mul_and_exp_rules.Given as goal
 
 abbrev pub decreases-exp_in : goal.decreases-exp_in
 decreases-exp_in l = 4 * l.left

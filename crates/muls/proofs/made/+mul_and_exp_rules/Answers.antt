@@ -13,7 +13,7 @@ use Rattle.mul_rules.specs.Rules.{mul_term}
 use Rattle.muls.specs.Rule.{exp_term}
 use Rattle.muls.proofs.Runs.{same_product}
 use Rattle.std.proofs.Common.{rules}
-use Rattle.muls.proofs.made.+exp_in_exp_shifted_exp_sum_mul_in_over_exp_over_exps_scales_times_power_under.Goals as goal
+use Rattle.muls.proofs.made.+mul_and_exp_rules.Goals as goal
 
 pub exp_in-returns-then-left-eq0 : goal.exp_in-returns-then-left-eq0
 exp_in-returns-then-left-eq0 t c = rw (none_left c.args.left c.if-left-eq0.true)

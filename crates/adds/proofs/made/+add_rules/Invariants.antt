@@ -1,7 +1,7 @@
 -- `add` and what it builds meet their contracts: each step is a step of the rule's term, and the depth left falls from a rule to its calls.
 -- Assumes nothing.
 use Prim.Native.Nat.{◌+◌, ◌*◌}
-use Rattle.adds.proofs.made.+add_chain_add_in_add_onto_add_sums.Given as goal
+use Rattle.adds.proofs.made.+add_rules.Given as goal
 
 abbrev pub decreases-add_chain : goal.decreases-add_chain
 decreases-add_chain l = 2 * l.left + 1

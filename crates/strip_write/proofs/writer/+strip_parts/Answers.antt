@@ -9,7 +9,7 @@ use Rattle.pool.specs.Pool.{node_in}
 use Rattle.key_strip.specs.Strip.{own_key}
 use Rattle.strip_write.specs.Written.{strip_below}
 use Rattle.strip_write.proofs.Writing.{stays_long, written_as, room_after, both_have_room, both_written, nothing_written, leaf_is, base_is, both_are}
-use Rattle.strip_write.proofs.writer.+strip_below_strip_both.Goals as goal
+use Rattle.strip_write.proofs.writer.+strip_parts.Goals as goal
 
 pub strip_below-returns-then-bound-i : goal.strip_below-returns-then-bound-i
 strip_below-returns-then-bound-i t c =

@@ -1,7 +1,7 @@
 -- Node numbers fall from a node to its parts, and the functions of the walk at one node call each other in one order.
 -- Assumes nothing.
 use Prim.Native.Nat.{◌+◌, ◌*◌}
-use Rattle.substitute.proofs.walk.+walk_at_walk_node_walk_one_walk_part_walk_two.Given as goal
+use Rattle.substitute.proofs.walk.+walk.Given as goal
 
 abbrev pub decreases-walk_at : goal.decreases-walk_at
 decreases-walk_at l = 4 * l.term + 3

@@ -11,7 +11,7 @@ use Rattle.views.proofs.Steps.{onward, stopped, runs_deeper}
 use Rattle.adds.proofs.Runs.{none_left, ruled, renumbered, literal_made}
 use Rattle.logs.specs.Rule.{log_term}
 use Rattle.std.proofs.Common.{rules}
-use Rattle.logs.proofs.made.+log_in_log_product.Goals as goal
+use Rattle.logs.proofs.made.+log_rules.Goals as goal
 
 pub log_in-returns-then-left-eq0 : goal.log_in-returns-then-left-eq0
 log_in-returns-then-left-eq0 t c = rw (none_left c.args.left c.if-left-eq0.true)

@@ -10,7 +10,7 @@ use Rattle.low_bytes.proofs.Writing.{three_written, none_written, past_longest_l
 use Rattle.pool.specs.Pool.{node_in}
 use Rattle.walks.specs.Print.{text_below}
 use Rattle.print.proofs.Fmt.{for_node, read_by_halves, not_smaller, with_brackets, without_brackets}
-use Rattle.print.proofs.walk.+inside_joined_node_fmt_power_wrapped.Goals as goal
+use Rattle.print.proofs.walk.+fmt.Goals as goal
 
 pub inside-left_at-left-requires : goal.inside-left_at-left-requires
 inside-left_at-left-requires t c = tt

@@ -1,7 +1,7 @@
 -- `log` and what it builds of a product meet their contracts: each step is a step of the rule's term, and the depth left falls from a rule to its calls.
 -- Assumes nothing.
 use Prim.Native.Nat.{◌+◌, ◌*◌}
-use Rattle.logs.proofs.made.+log_in_log_product.Given as goal
+use Rattle.logs.proofs.made.+log_rules.Given as goal
 
 abbrev pub decreases-log_in : goal.decreases-log_in
 decreases-log_in l = 2 * l.left
