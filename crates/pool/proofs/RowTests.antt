@@ -7,7 +7,7 @@ use Rattle.literal.specs.Literal.{is_literal, signed, greatest}
 use Rattle.pool.specs.Nodes.{decode, may_stand_at, half, low_of, high_of, least_exponent, greatest_variable}
 use Rattle.pool.specs.Rows.{row_numbers}
 use Rattle.pool.specs.declared.node.Node.{Node}
-use Rattle.pool.specs.declared.node.Node.TheVariants.{Empty, Variable, Lit, Add, Mul, Div, Exp, Log, Pow, Max}
+use Rattle.pool.specs.declared.node.Node.TheVariants.{Empty, Variable, Lit, Exp, Log, Pow}
 use Rattle.pool.proofs.KindTable.{and_true, no_kind}
 
 -- the three comparisons with the numbers of a row, as the code makes them

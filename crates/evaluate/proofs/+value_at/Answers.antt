@@ -1,7 +1,6 @@
 -- `evaluate::value_at` meets its contract: each part has a smaller number, so that the walk ends; the loop goes over the parts, and what is then joined is the node's value.
 -- Assumes nothing.
 use native.Mathlib.Omega.{arith}
-use Prim.Native.Nat.{◌-◌}
 use Rattle.evaluate.proofs.Walking.{already_kept, none_turned, part_past, part_stopped, part_done, parts_below, value_kept, value_refused}
 use Rattle.evaluate.proofs.+value_at.Goals as goal
 

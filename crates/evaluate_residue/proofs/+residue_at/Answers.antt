@@ -1,7 +1,6 @@
 -- The walk of an evaluation by residues meets its contract: after each part the loop is where the definition is, and what is kept stays right.
 -- Assumes nothing.
 use native.Mathlib.Omega.{arith}
-use Prim.Native.Nat.{◌-◌}
 use Rattle.evaluate_residue.proofs.Walk.{few_parts, kept_before, first_part, next_part, broken, handed_on, parts_are_ready, newly_kept, node_refused}
 use Rattle.evaluate_residue.proofs.+residue_at.Goals as goal
 

@@ -1,6 +1,5 @@
 -- `factorial::factorial` meets its contract: the product of i factors is i!, and one past the literals refuses n!. The measure is how many factorials that are literals are left.
 -- Assumes nothing.
-use Prim.Native.Nat.{◌-◌}
 use native.Mathlib.Omega.{arith}
 use Rattle.factorial.proofs.Running.{at_first, turn_is_below_nineteen, product_fits, next_product, product_past_the_literals, last_fits, last_product}
 use Rattle.factorial.proofs.factorial.Goals as goal

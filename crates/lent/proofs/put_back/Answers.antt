@@ -2,7 +2,6 @@
 -- Assumes nothing.
 use native.Mathlib.Omega.{arith}
 use mathlib.Core.Path.{◌≡◌}
-use Prim.Native.Nat.{◌-◌}
 use Rattle.lent.proofs.Overwrite.{starts_at, ends_at, one_more, as_long}
 use Rattle.lent.proofs.put_back.Goals as goal
 

@@ -1,6 +1,6 @@
 -- `node_read::append_entries` meets its contract: what is appended so far is what the definition appends.
 -- Assumes nothing.
-use Prim.Native.Nat.{◌+◌, ◌-◌}
+use Prim.Native.Nat.{◌+◌}
 use native.Mathlib.Omega.{arith}
 use Rattle.pool.specs.Pool.{node_in}
 use Rattle.pool.specs.Made.{next_of}

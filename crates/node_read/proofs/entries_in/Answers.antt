@@ -1,7 +1,6 @@
 -- `node_read::entries_in` meets its contract: the entries passed stand in the tables, and one that is no node ends the loop.
 -- Assumes nothing.
 use mathlib.Core.Path.{refl, sym, ◌∙◌}
-use Prim.Native.Nat.{◌-◌}
 use native.Mathlib.Omega.{arith}
 use Rattle.node_read.proofs.Entering.{none_entered, one_entered, not_entered, all_entered}
 use Rattle.node_read.proofs.entries_in.Goals as goal

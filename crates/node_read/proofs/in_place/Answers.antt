@@ -1,6 +1,6 @@
 -- `node_read::in_place` meets its contract: the marks passed are right, and one that is not ends the loop.
 -- Assumes nothing.
-use Prim.Native.Nat.{◌+◌, ◌-◌}
+use Prim.Native.Nat.{◌+◌}
 use native.Mathlib.Omega.{arith}
 use lib.Dec.{eqb}
 use lib.ListN.{get_or}

@@ -1,6 +1,5 @@
 -- `node_walk::number_all` meets its contract: after i turns the first i roots are visited.
 -- Assumes nothing.
-use Prim.Native.Nat.{◌-◌}
 use native.Mathlib.Omega.{arith}
 use Rattle.pool.specs.Pool.{limit, node_in}
 use Rattle.node_walk.proofs.Visiting.{none_visited, root_below, roots_stand, root_visited, all_visited}

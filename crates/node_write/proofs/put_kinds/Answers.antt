@@ -1,8 +1,6 @@
 -- `node_write::put_kinds` meets its contract: after m turns the kinds of the first m entries are put.
 -- Assumes nothing.
-use Prim.Native.Nat.{◌-◌}
 use native.Mathlib.Omega.{arith}
-use Rattle.pool.specs.Nodes.{kind_of}
 use Rattle.pool.specs.Pool.{node_in}
 use Rattle.node_write.specs.Entries.{entry_by}
 use Rattle.node_write.proofs.Putting.{kinds_put, no_entries_put, kind_put, all_entries_put}

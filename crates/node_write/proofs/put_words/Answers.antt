@@ -1,6 +1,5 @@
 -- `node_write::put_words` meets its contract: after m turns the words of the first m entries are put.
 -- Assumes nothing.
-use Prim.Native.Nat.{◌-◌}
 use native.Mathlib.Omega.{arith}
 use Rattle.pool.specs.Pool.{node_in}
 use Rattle.node_write.specs.Entries.{entry_by}

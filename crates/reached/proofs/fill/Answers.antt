@@ -2,7 +2,6 @@
 -- Assumes nothing.
 use native.Mathlib.Omega.{arith}
 use mathlib.Core.Path.{◌≡◌}
-use Prim.Native.Nat.{◌-◌}
 use Rattle.reached.proofs.Found.{none_found, one_more_found}
 use Rattle.reached.proofs.fill.Goals as goal
 

@@ -1,7 +1,6 @@
 -- `lent::copies::copy_words` meets its contract: after each turn the copy is the table up to the entry, and from there on it is as it was.
 -- Assumes nothing.
 use native.Mathlib.Omega.{arith}
-use Prim.Native.Nat.{◌-◌}
 use Rattle.lent.proofs.Overwrite.{starts_at, one_more, ends_here}
 use Rattle.lent.proofs.copies.copy_words.Goals as goal
 

@@ -2,7 +2,6 @@
 -- Assumes nothing.
 use mathlib.Core.Path.{◌≡◌}
 use native.Mathlib.Omega.{arith}
-use Prim.Native.Nat.{◌-◌}
 use Rattle.pool.specs.Pool.{limit}
 use Rattle.lent.proofs.Tested.{none_yet, one_gathered}
 use Rattle.lent.proofs.rules.kinds_rest.Goals as goal

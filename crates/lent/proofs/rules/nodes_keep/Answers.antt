@@ -1,9 +1,7 @@
 -- `lent::rules::nodes_keep` meets its contract: the entries that were passed keep the rules.
 -- Assumes nothing.
 use mathlib.Core.Path.{◌≡◌, sym, ◌∙◌}
-use mathlib.Core.Bool.{true}
 use native.Mathlib.Omega.{arith}
-use Prim.Native.Nat.{◌-◌}
 use Rattle.constructor_laws.proofs.Rules.{entry_before}
 use Rattle.lent.proofs.Each.{each_none, each_more, each_fails}
 use Rattle.lent.proofs.rules.nodes_keep.Goals as goal

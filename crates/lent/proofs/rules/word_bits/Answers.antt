@@ -2,7 +2,6 @@
 -- Assumes nothing.
 use mathlib.Core.Path.{◌≡◌}
 use native.Mathlib.Omega.{arith}
-use Prim.Native.Nat.{◌-◌}
 use Rattle.lent.proofs.Tested.{none_yet, one_gathered}
 use Rattle.lent.proofs.rules.word_bits.Goals as goal
 

@@ -2,7 +2,7 @@
 -- Assumes nothing.
 use mathlib.Core.Path.{◌≡◌}
 use native.Mathlib.Omega.{arith}
-use Prim.Native.Nat.{◌+◌, ◌-◌}
+use Prim.Native.Nat.{◌+◌}
 use Rattle.pool.specs.Pool.{limit}
 use Rattle.lent.proofs.Tested.{more_gathered}
 use Rattle.lent.proofs.rules.words_rest.Goals as goal

@@ -1,6 +1,5 @@
 -- `low_bytes::number::number_at` meets its contract: each turn takes one more byte in front, and eight of them fit.
 -- Assumes nothing.
-use Prim.Native.Nat.{◌-◌}
 use Rattle.low_bytes.proofs.LowFirst.{NumberRead}
 use Rattle.low_bytes.proofs.number.number_at.Given as goal
 

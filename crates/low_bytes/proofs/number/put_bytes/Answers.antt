@@ -1,6 +1,5 @@
 -- `low_bytes::number::put_bytes` meets its contract: what is left to put makes the whole, turn after turn.
 -- Assumes nothing.
-use Prim.Native.Nat.{◌-◌}
 use native.Mathlib.Omega.{arith}
 use Rattle.low_bytes.proofs.BytesPut.{no_bytes_put, byte_put, all_bytes_put}
 use Rattle.low_bytes.proofs.number.put_bytes.Goals as goal

@@ -2,7 +2,6 @@
 -- Assumes nothing.
 use native.Mathlib.Omega.{arith}
 use mathlib.Core.Path.{refl, ◌∙◌}
-use Prim.Native.Nat.{◌-◌}
 use Rattle.low_bytes.proofs.Writing.{none_written, one_byte_more, all_bytes, stays_countable}
 use Rattle.low_bytes.proofs.output.write.Goals as goal
 

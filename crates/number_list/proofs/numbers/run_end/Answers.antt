@@ -1,7 +1,6 @@
 -- `number_list::numbers::run_end` meets its contract: the run goes on from here to where it ends.
 -- Assumes nothing.
 use mathlib.Core.Path.{refl}
-use Prim.Native.Nat.{◌-◌}
 use Rattle.number_list.proofs.Runs.{stops, goes_on, ends}
 use Rattle.number_list.proofs.numbers.run_end.Goals as goal
 

@@ -1,6 +1,5 @@
 -- `number_list::numbers::value_from` meets its contract: the digits passed gave n, and those left go on from it.
 -- Assumes nothing.
-use Prim.Native.Nat.{◌-◌}
 use native.Mathlib.Omega.{arith}
 use Rattle.number_list.proofs.Room.{over, within}
 use Rattle.number_list.proofs.Values.{starts, stops, goes_on, too_long, ends}

@@ -1,6 +1,5 @@
 -- `number_list::same::same_bytes` meets its contract: the entries passed are equal, and both tables are as long.
 -- Assumes nothing.
-use Prim.Native.Nat.{◌-◌}
 use native.Mathlib.Omega.{arith}
 use Rattle.number_list.proofs.Equal.{starts, lengths_differ, differ, turn, whole}
 use Rattle.number_list.proofs.same.same_bytes.Goals as goal

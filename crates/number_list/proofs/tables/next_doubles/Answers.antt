@@ -1,7 +1,6 @@
 -- `number_list::tables::next_doubles` returns: each turn counts up to n. A table keeps its length.
 -- Assumes nothing.
 use mathlib.Core.Path.{refl}
-use Prim.Native.Nat.{◌-◌}
 use Rattle.number_list.proofs.tables.next_doubles.Goals as goal
 
 pub loop-i-init : goal.loop-i-init

@@ -1,7 +1,6 @@
 -- `running::run` meets its contract: what is left to run, with the values in places, gives what the whole strip gives.
 -- Assumes nothing.
 use mathlib.Core.Path.{refl}
-use Prim.Native.Nat.{◌-◌}
 use native.Mathlib.Omega.{arith}
 use Rattle.strip_run.proofs.KeyRuns.{running_starts, went_on, stopped_at, all_run}
 use Rattle.strip_run.proofs.running.run.Goals as goal

@@ -1,7 +1,6 @@
 -- `testing::is_strip` meets its contract: what is left to test, with the places in use, decides as the whole strip does.
 -- Assumes nothing.
 use mathlib.Core.Path.{sym}
-use Prim.Native.Nat.{◌-◌}
 use native.Mathlib.Omega.{arith}
 use Rattle.strip_run.proofs.KeyTests.{testing_starts, testing_ends, came_to, came_to_no_key}
 use Rattle.strip_run.proofs.testing.is_strip.Goals as goal

@@ -1,7 +1,6 @@
 -- `strip_write::need::fill` meets its contract: after each turn the tables have what the nodes that were passed need.
 -- Assumes nothing.
 use mathlib.Core.Path.{◌≡◌}
-use Prim.Native.Nat.{◌-◌}
 use native.Mathlib.Omega.{arith}
 use Rattle.strip_write.proofs.Tables.{none_needed, one_more_needed}
 use Rattle.strip_write.proofs.need.fill.Goals as goal

@@ -2,7 +2,6 @@
 -- The measure is twice the bound, which falls to the node's own number, and for its two parts one more. Assumes nothing.
 use mathlib.Core.Path.{refl, sym, ap, ◌∙◌}
 use mathlib.Core.List.{◌++◌}
-use Prim.Native.Nat.{◌+◌}
 use native.Mathlib.Omega.{arith}
 use lib.ListN.{length, length-append}
 use Rattle.pool.specs.Pool.{node_in}

@@ -1,6 +1,5 @@
 -- `taylor_base::answer::tidied` meets its contract: after i turns the first i entries are copied and the rest are zeros.
 -- Assumes nothing.
-use Prim.Native.Nat.{◌-◌}
 use borrow.Author.Rules.{rules}
 use Rattle.taylor_base.proofs.Copying.{none_copied, one_more_copied, all_copied}
 use Rattle.taylor_base.proofs.answer.tidied.Goals as goal

@@ -1,7 +1,6 @@
 -- `taylor_base::entry::entries_in` meets its contract: it is `fill`, one entry a turn.
 -- Assumes nothing.
 use native.Mathlib.Omega.{arith}
-use Prim.Native.Nat.{◌-◌}
 use Rattle.pool.specs.Made.{pool_of}
 use Rattle.taylor_base.specs.Entries.{entry_work}
 use Rattle.taylor_base.proofs.Steps.{with_those}

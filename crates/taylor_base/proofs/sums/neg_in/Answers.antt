@@ -1,7 +1,6 @@
 -- `taylor_base::sums::neg_in` meets its contract: a constant, or each entry of a list.
 -- Assumes nothing.
 use borrow.Author.Rules.{rules}
-use mathlib.Core.Bool.{false}
 use Rattle.pool.specs.Made.{pool_of}
 use Rattle.taylor.specs.Work.{neg}
 use Rattle.taylor_base.proofs.Lists.{constant_answers, lists_answer}

@@ -1,7 +1,6 @@
 -- `taylor_base::sums::sub_in` meets its contract: two constants, a constant at coefficient 0 of a list, a list taken from a constant, or two lists side by side.
 -- Assumes nothing.
 use borrow.Author.Rules.{rules}
-use mathlib.Core.Bool.{false}
 use Rattle.pool.specs.Made.{pool_of}
 use Rattle.taylor.specs.Work.{sub, at}
 use Rattle.taylor_base.proofs.Lists.{constant_answers, lists_answer}

@@ -3,7 +3,7 @@
 use mathlib.Core.Path.{ap, ◌∙◌}
 use native.Mathlib.Numerals.{add-one}
 use native.Mathlib.Omega.{arith}
-use Prim.Native.Nat.{ℕ, ◌-◌}
+use Prim.Native.Nat.{ℕ}
 use Rattle.pool.specs.Made.{pool_of}
 use Rattle.taylor.specs.Work.{fold}
 use Rattle.taylor.specs.Expansion.{product_term}

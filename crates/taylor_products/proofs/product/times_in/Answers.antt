@@ -1,7 +1,6 @@
 -- `taylor_products::product::times_in` meets its contract: two constants, each entry of a list times a constant, or two lists.
 -- Assumes nothing.
 use borrow.Author.Rules.{rules}
-use mathlib.Core.Bool.{false}
 use Rattle.pool.specs.Made.{pool_of}
 use Rattle.taylor.specs.Work.{mul, at}
 use Rattle.taylor.specs.Expansion.{times}
