@@ -1,10 +1,10 @@
 -- How the constructors run: with no depth left, by a rule's term, and on folded literals.
 -- Assumes nothing.
+use Rattle.std.specs.Prelude.{Ok, Err}
 use mathlib.Core.Path.{◌≡◌, refl, sym, ap, ◌∙◌}
 use Prim.Native.Nat.{ℕ}
 use lib.IntN.{ℤ, ◌+ℤ◌}
-use Rattle.literal.specs.declared.Folded.{Folded}
-use Rattle.literal.specs.declared.Folded.TheVariants as folding
+use Rattle.literal.specs.Literal.{Folded}
 use Rattle.pool.specs.declared.node.Node.TheVariants as node
 use Rattle.pool.specs.Pool.{Pool, Out, refused, append}
 use Rattle.constructors.specs.Terms.{Term}
@@ -33,8 +33,8 @@ module _ (P : Pool) {o : Out} {f : Folded} where
   literal_made e h = h ∙ ap (λ (g : Folded). literal g P) e
 
   -- a literal that folds to z is appended
-  pub value_made : {y z : ℤ} → f ≡ folding.Value z → y ≡ z → o ≡ append (node.Lit y) P → o ≡ literal f P
+  pub value_made : {y z : ℤ} → f ≡ Ok z → y ≡ z → o ≡ append (node.Lit y) P → o ≡ literal f P
   value_made e d h = h ∙ ap (λ (y : ℤ). append (node.Lit y) P) d ∙ sym (ap (λ (g : Folded). literal g P) e)
 
-pub fold_refused : (P : Pool) {f : Folded} {k : ℕ} → f ≡ folding.Refused k → refused k ≡ literal f P
+pub fold_refused : (P : Pool) {f : Folded} {k : ℕ} → f ≡ Err k → refused k ≡ literal f P
 fold_refused P e = sym (ap (λ (g : Folded). literal g P) e)

@@ -3,10 +3,10 @@ ghost use Rattle.std.specs.Prelude.{◌≡◌};
 ghost use Rattle.constructors.specs.Terms.{skip, return};
 ghost use Rattle.constructors.specs.Patterns.{lit_in, add_in};
 ghost use Rattle.constructors.specs.Tables.{add_table};
-ghost use Rattle.pool.specs.Pool.{node_in};
+ghost use Rattle.pool.specs.Pool.{node_at};
 ghost use Rattle.adds.specs.Rule.{add_term};
 
-use pool::LIMIT;
+use pool::Pool;
 use views::Shape;
 
 // What is to be built; numbers of nodes are u32, literals i64.
@@ -26,27 +26,27 @@ pub enum AddRule {
     Chain(u32, u32, u32),
 }
 
-pub fn add_rule(kinds: &[u8; LIMIT], words: &[u64; LIMIT], lhs: u32, rhs: u32) -> AddRule
-    ensures { add_term result ≡ add_table (node_in kinds.now words.now) lhs rhs }
+pub fn add_rule(pool: &Pool, lhs: u32, rhs: u32) -> AddRule
+    ensures { add_term result ≡ add_table (node_at pool.now) lhs rhs }
 {
-    let shape = views::shape_at(kinds, words, lhs);
+    let shape = views::shape_at(pool, lhs);
     match shape {
-        Shape::Lit(a) => lit_rule(kinds, words, lhs, rhs, a),
-        Shape::Add(a, b) => sum_rule(kinds, words, lhs, rhs, a, b),
-        _ => other_rule(kinds, words, lhs, rhs),
+        Shape::Lit(a) => lit_rule(pool, lhs, rhs, a),
+        Shape::Add(a, b) => sum_rule(pool, lhs, rhs, a, b),
+        _ => other_rule(pool, lhs, rhs),
     }
 }
 
 // On the left is Lit(a).
-fn lit_rule(kinds: &[u8; LIMIT], words: &[u64; LIMIT], lhs: u32, rhs: u32, a: i64) -> AddRule
-    requires lhs_value { lit_in (node_in kinds.now words.now lhs) ≡ return a }
-    requires lhs_value_2 { add_in (node_in kinds.now words.now lhs) ≡ skip }
-    ensures { add_term result ≡ add_table (node_in kinds.now words.now) lhs rhs }
+fn lit_rule(pool: &Pool, lhs: u32, rhs: u32, a: i64) -> AddRule
+    requires lhs_value { lit_in (node_at pool.now lhs) ≡ return a }
+    requires lhs_value_2 { add_in (node_at pool.now lhs) ≡ skip }
+    ensures { add_term result ≡ add_table (node_at pool.now) lhs rhs }
 {
     if literal::is_zero(a) {
         return AddRule::Same(rhs);
     }
-    let shape = views::shape_at(kinds, words, rhs);
+    let shape = views::shape_at(pool, rhs);
     match shape {
         Shape::Lit(b) => {
             if literal::is_zero(b) {
@@ -55,7 +55,7 @@ fn lit_rule(kinds: &[u8; LIMIT], words: &[u64; LIMIT], lhs: u32, rhs: u32, a: i6
             AddRule::Sum(a, b)
         }
         Shape::Add(b, part) => {
-            let Shape::Lit(y) = views::shape_at(kinds, words, part) else {
+            let Shape::Lit(y) = views::shape_at(pool, part) else {
                 return AddRule::Plain(rhs, lhs);
             };
             AddRule::Onto(b, a, y)
@@ -65,53 +65,37 @@ fn lit_rule(kinds: &[u8; LIMIT], words: &[u64; LIMIT], lhs: u32, rhs: u32, a: i6
 }
 
 // On the left is Add(a, b).
-fn sum_rule(
-    kinds: &[u8; LIMIT],
-    words: &[u64; LIMIT],
-    lhs: u32,
-    rhs: u32,
-    a: u32,
-    b: u32,
-) -> AddRule
-    requires lhs_value { lit_in (node_in kinds.now words.now lhs) ≡ skip }
-    requires lhs_value_2 { add_in (node_in kinds.now words.now lhs) ≡ return (a, b) }
-    ensures { add_term result ≡ add_table (node_in kinds.now words.now) lhs rhs }
+fn sum_rule(pool: &Pool, lhs: u32, rhs: u32, a: u32, b: u32) -> AddRule
+    requires lhs_value { lit_in (node_at pool.now lhs) ≡ skip }
+    requires lhs_value_2 { add_in (node_at pool.now lhs) ≡ return (a, b) }
+    ensures { add_term result ≡ add_table (node_at pool.now) lhs rhs }
 {
-    let shape = views::shape_at(kinds, words, rhs);
+    let shape = views::shape_at(pool, rhs);
     match shape {
         Shape::Lit(l) => {
             if literal::is_zero(l) {
                 return AddRule::Same(lhs);
             }
-            let Shape::Lit(x) = views::shape_at(kinds, words, a) else {
+            let Shape::Lit(x) = views::shape_at(pool, a) else {
                 return AddRule::Plain(lhs, rhs);
             };
             AddRule::Onto(b, l, x)
         }
-        Shape::Add(c, d) => sums_rule(kinds, words, lhs, rhs, a, b, c, d),
+        Shape::Add(c, d) => sums_rule(pool, lhs, rhs, a, b, c, d),
         _ => AddRule::Plain(lhs, rhs),
     }
 }
 
 // On the left is Add(a, b), on the right Add(c, d).
-fn sums_rule(
-    kinds: &[u8; LIMIT],
-    words: &[u64; LIMIT],
-    lhs: u32,
-    rhs: u32,
-    a: u32,
-    b: u32,
-    c: u32,
-    d: u32,
-) -> AddRule
-    requires lhs_value { lit_in (node_in kinds.now words.now lhs) ≡ skip }
-    requires lhs_value_2 { add_in (node_in kinds.now words.now lhs) ≡ return (a, b) }
-    requires rhs_value { lit_in (node_in kinds.now words.now rhs) ≡ skip }
-    requires rhs_value_2 { add_in (node_in kinds.now words.now rhs) ≡ return (c, d) }
-    ensures { add_term result ≡ add_table (node_in kinds.now words.now) lhs rhs }
+fn sums_rule(pool: &Pool, lhs: u32, rhs: u32, a: u32, b: u32, c: u32, d: u32) -> AddRule
+    requires lhs_value { lit_in (node_at pool.now lhs) ≡ skip }
+    requires lhs_value_2 { add_in (node_at pool.now lhs) ≡ return (a, b) }
+    requires rhs_value { lit_in (node_at pool.now rhs) ≡ skip }
+    requires rhs_value_2 { add_in (node_at pool.now rhs) ≡ return (c, d) }
+    ensures { add_term result ≡ add_table (node_at pool.now) lhs rhs }
 {
-    let shape = views::shape_at(kinds, words, d);
-    let Shape::Lit(x) = views::shape_at(kinds, words, b) else {
+    let shape = views::shape_at(pool, d);
+    let Shape::Lit(x) = views::shape_at(pool, b) else {
         let Shape::Lit(_) = shape else {
             return AddRule::Plain(lhs, rhs);
         };
@@ -124,12 +108,12 @@ fn sums_rule(
 }
 
 // On the left is neither a literal nor a sum.
-fn other_rule(kinds: &[u8; LIMIT], words: &[u64; LIMIT], lhs: u32, rhs: u32) -> AddRule
-    requires lhs_value { lit_in (node_in kinds.now words.now lhs) ≡ skip }
-    requires lhs_value_2 { add_in (node_in kinds.now words.now lhs) ≡ skip }
-    ensures { add_term result ≡ add_table (node_in kinds.now words.now) lhs rhs }
+fn other_rule(pool: &Pool, lhs: u32, rhs: u32) -> AddRule
+    requires lhs_value { lit_in (node_at pool.now lhs) ≡ skip }
+    requires lhs_value_2 { add_in (node_at pool.now lhs) ≡ skip }
+    ensures { add_term result ≡ add_table (node_at pool.now) lhs rhs }
 {
-    let Shape::Lit(b) = views::shape_at(kinds, words, rhs) else {
+    let Shape::Lit(b) = views::shape_at(pool, rhs) else {
         return AddRule::Plain(lhs, rhs);
     };
     if literal::is_zero(b) {

@@ -1,5 +1,6 @@
 -- A call that evaluates by residues answers a residue below the modulus, or a refusal.
 -- Assumes nothing.
+use Rattle.std.specs.Prelude.{Ok, Err}
 use mathlib.Core.Path.{◌≡◌, refl}
 use mathlib.Core.Bool.{Bool, true, false}
 use mathlib.Core.List.{List, [], ◌∷◌}
@@ -7,8 +8,7 @@ use Prim.Native.Nat.{ℕ, suc, ◌<◌}
 use native.Mathlib.Omega.{arith}
 use Rattle.refusals.specs.Refusals.{broken_pool, unknown_node, wrong_values}
 use Rattle.residue.specs.Residue.{Modulus, fixed_modulus}
-use Rattle.residue.specs.declared.Divided.{Divided}
-use Rattle.residue.specs.declared.Divided.TheVariants.{Residue, Refused}
+use Rattle.residue.specs.Residue.{Divided}
 use Rattle.pool.specs.Nodes.{all_below}
 use Rattle.pool.specs.Pool.{node_in, is_pool}
 use Rattle.pool.proofs.Folds.{below}
@@ -19,7 +19,7 @@ use Rattle.engine_values.specs.Values.{are_residues, evaluate_residue_call}
 use Rattle.lent.specs.Call.{demand}
 use Rattle.engine_values.proofs.Evaluates.{residues_below}
 
-pub is_below : {r : Divided} {x : ℕ} → r ≡ Residue x → Below fixed_modulus r → x < fixed_modulus
+pub is_below : {r : Divided} {x : ℕ} → r ≡ Ok x → Below fixed_modulus r → x < fixed_modulus
 is_below e h = rw e at h
 
 fixed : Modulus fixed_modulus
@@ -27,12 +27,12 @@ fixed = record { least = omega arith; most = omega arith }
 
 module _ (ks ws : List ℕ) (n root : ℕ) (values : List ℕ) where
   tested_below :
-      (p g a : Bool) → are_residues values ≡ a → Below fixed_modulus (demand Refused p broken_pool (demand Refused g unknown_node (demand Refused a wrong_values (evaluate_residue fixed_modulus (node_in ks ws) values root))))
+      (p g a : Bool) → are_residues values ≡ a → Below fixed_modulus (demand Err p broken_pool (demand Err g unknown_node (demand Err a wrong_values (evaluate_residue fixed_modulus (node_in ks ws) values root))))
   tested_below false g a e = tt
   tested_below true false a e = tt
   tested_below true true false e = tt
   tested_below true true true e = answer_below fixed_modulus fixed values (residues_below values e) (node_in ks ws) (suc root) root
-      (below (Refused broken_pool) (evaluate_residue fixed_modulus (node_in ks ws) values) (suc root) root (omega arith))
+      (below (Err broken_pool) (evaluate_residue fixed_modulus (node_in ks ws) values) (suc root) root (omega arith))
 
   pub call_below : {r : Divided} → r ≡ evaluate_residue_call ks ws n root values → Below fixed_modulus r
   unfolding evaluate_residue_call

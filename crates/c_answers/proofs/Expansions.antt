@@ -1,5 +1,6 @@
 -- An expansion, or a refusal, in C's terms.
 -- Assumes nothing.
+use Rattle.std.specs.Prelude.{Err}
 use mathlib.Core.Path.{◌≡◌, refl, ap}
 use mathlib.Core.Logic.{◌≢◌}
 use mathlib.Core.List.{List}
@@ -7,13 +8,12 @@ use Prim.Native.Nat.{ℕ}
 use borrow.Author.Tests.{eq-eqb, ne_eqb}
 use Rattle.lent.specs.Call.{Returned, returned}
 use Rattle.lent_series.specs.declared.call.Outcome.{Outcome}
-use Rattle.engine_given.specs.declared.read.Counted.{Counted}
-use Rattle.engine_given.specs.declared.read.Counted.TheVariants.{Refused}
+use Rattle.engine_given.specs.Read.{Counted}
 use Rattle.c_answers.specs.Interface.{value_in_c}
 use Rattle.c_answers.specs.Expansions.{count_in_c, outcome_returned_in_c, outcome_in_c, series_returned_in_c, series_in_c}
 
 -- the refusal of a count
-pub no_count : {a : Counted} {k : ℕ} (before : ℕ) → a ≡ Refused k → value_in_c k before ≡ count_in_c before a
+pub no_count : {a : Counted} {k : ℕ} (before : ℕ) → a ≡ Err k → value_in_c k before ≡ count_in_c before a
 no_count before e = rw e
 
 -- an outcome that is a refusal, or an expansion

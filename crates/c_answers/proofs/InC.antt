@@ -1,19 +1,18 @@
 -- An entry point's outcome in C's terms.
 -- Assumes nothing.
+use Rattle.std.specs.Prelude.{Ok, Err}
 use mathlib.Core.Path.{◌≡◌, sym, ap, ◌∙◌}
 use mathlib.Core.Bool.{Bool, true, false}
 use mathlib.Core.List.{List}
 use Prim.Native.Nat.{ℕ}
 use lib.Ieee.{Float, binary64, to_bits}
 use Rattle.refusals.specs.Refusals.{broken_pool}
-use Rattle.double.specs.declared.Valued.{Valued}
-use Rattle.double.specs.declared.Valued.TheVariants as valued
-use Rattle.residue.specs.declared.Divided.{Divided}
-use Rattle.residue.specs.declared.Divided.TheVariants as divided
+use Rattle.double.specs.Double.{Valued}
+use Rattle.residue.specs.Residue.{Divided}
 use Rattle.lent.specs.Call.{Returned, returned}
-use Rattle.lent.specs.declared.Answer.{Answer}
+use Rattle.lent.specs.Answer.{Answer}
 use Rattle.lent.specs.Writing.{Put, put}
-use Rattle.lent.specs.declared.Written.{Written}
+use Rattle.lent.specs.Answer.{Written}
 use Rattle.c_answers.specs.Interface.{check_number, returned_in_c, in_c, number_of, node_or, value_in_c, output_in_c, written_in_c, written_number, length_or}
 use Rattle.c_answers.specs.Values.{bits_in_c, residue_in_c}
 
@@ -29,13 +28,13 @@ pub in_c_lem : {a : Answer} {ks ws : List ℕ} {n : ℕ} (before : ℕ) {L : Ret
 in_c_lem before e p q = rw (p, q) (ap (in_c before) e)
 
 -- a double, a residue, or the refusal of either
-pub bits_of : {a : Valued} {x : Float} {b : ℕ} (before : ℕ) → a ≡ valued.Double x → b ≡ to_bits binary64 x → value_in_c 0 b ≡ bits_in_c before a
+pub bits_of : {a : Valued} {x : Float} {b : ℕ} (before : ℕ) → a ≡ Ok x → b ≡ to_bits binary64 x → value_in_c 0 b ≡ bits_in_c before a
 bits_of before e p = rw (e, p)
 
-pub no_bits : {a : Valued} {k : ℕ} (before : ℕ) → a ≡ valued.Refused k → value_in_c k before ≡ bits_in_c before a
+pub no_bits : {a : Valued} {k : ℕ} (before : ℕ) → a ≡ Err k → value_in_c k before ≡ bits_in_c before a
 no_bits before e = rw e
 
-pub no_residue : {a : Divided} {k : ℕ} (before : ℕ) → a ≡ divided.Refused k → value_in_c k before ≡ residue_in_c before a
+pub no_residue : {a : Divided} {k : ℕ} (before : ℕ) → a ≡ Err k → value_in_c k before ≡ residue_in_c before a
 no_residue before e = rw e
 
 -- a call that writes to an output

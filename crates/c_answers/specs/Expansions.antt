@@ -1,11 +1,10 @@
 -- Expansions in C's terms: an order, and an array of 25 beside it.
 -- Assumes nothing.
-use Rattle.std.specs.Prelude.{Bool, true, false, List, ℕ, eqb}
+use Rattle.std.specs.Prelude.{Bool, true, false, List, ℕ, eqb, Ok, Err}
 use Rattle.lent.specs.Call.{Returned, returned}
 use Rattle.lent_series.specs.declared.series.Series.{Series}
 use Rattle.lent_series.specs.declared.call.Outcome.{Outcome}
-use Rattle.engine_given.specs.declared.read.Counted.{Counted}
-use Rattle.engine_given.specs.declared.read.Counted.TheVariants.{Count, Refused}
+use Rattle.engine_given.specs.Read.{Counted}
 use Rattle.c_answers.specs.Interface.{ValueInC, value_in_c}
 
 abbrev pub series : ℕ → List ℕ → Series
@@ -13,8 +12,8 @@ series order coeffs = record { order = order; coeffs = coeffs }
 
 -- how many coefficients, or what stood there before
 abbrev pub count_in_c : ℕ → Counted → ValueInC
-count_in_c before (Count n) = value_in_c 0 n
-count_in_c before (Refused k) = value_in_c k before
+count_in_c before (Ok n) = value_in_c 0 n
+count_in_c before (Err k) = value_in_c k before
 
 -- a call that gives an expansion: its order and coefficients, or what stood there before
 pub record OutcomeInC : Type 0 where

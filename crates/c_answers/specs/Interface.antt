@@ -1,14 +1,12 @@
 -- What a C function leaves: its answer, 0 or the refusal number, and everything that was lent to it. The places for answers are lent bytes
 -- too: "After a refusal all lent bytes and the count are unchanged."
 -- Assumes nothing.
-use Rattle.std.specs.Prelude.{Bool, true, false, List, ℕ}
+use Rattle.std.specs.Prelude.{Bool, true, false, List, ℕ, Ok, Err}
 use Rattle.refusals.specs.Refusals.{broken_pool}
 use Rattle.lent.specs.Call.{Returned, returned}
 use Rattle.lent.specs.Writing.{Put}
-use Rattle.lent.specs.declared.Answer.{Answer}
-use Rattle.lent.specs.declared.Answer.TheVariants.{Node, Refused}
-use Rattle.lent.specs.declared.Written.{Written}
-use Rattle.lent.specs.declared.Written.TheVariants as written
+use Rattle.lent.specs.Answer.{Answer}
+use Rattle.lent.specs.Answer.{Written}
 
 -- the test of a pool: 0, or 1
 abbrev pub check_number : Bool → ℕ
@@ -17,13 +15,13 @@ check_number false = broken_pool
 
 -- 0, or the refusal number
 abbrev pub number_of : Answer → ℕ
-number_of (Node i) = 0
-number_of (Refused k) = k
+number_of (Ok i) = 0
+number_of (Err k) = k
 
 -- the answer's node, or what stood there before
 abbrev pub node_or : Answer → ℕ → ℕ
-node_or (Node i) before = i
-node_or (Refused k) before = before
+node_or (Ok i) before = i
+node_or (Err k) before = before
 
 -- an answer that is a number, and the place for it
 pub record ValueInC : Type 0 where
@@ -50,13 +48,13 @@ abbrev pub output_in_c : ℕ → List ℕ → ℕ → OutputInC
 output_in_c r out n = record { answer = r; out = out; written = n }
 
 abbrev pub written_number : Written → ℕ
-written_number (written.Length n) = 0
-written_number (written.Refused k) = k
+written_number (Ok n) = 0
+written_number (Err k) = k
 
 -- how many bytes, or what stood there before
 abbrev pub length_or : Written → ℕ → ℕ
-length_or (written.Length n) before = n
-length_or (written.Refused k) before = before
+length_or (Ok n) before = n
+length_or (Err k) before = before
 
 abbrev pub written_in_c : ℕ → Put → OutputInC
 written_in_c before o = output_in_c (written_number o.answer) o.out (length_or o.answer before)

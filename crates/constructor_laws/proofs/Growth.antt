@@ -1,5 +1,6 @@
 -- Every constructor only appends, whatever the pool, the arguments and the depth: appending does, one piece of work after another does where both do, so a term does where the calls in it do, and the rest is induction on the depth.
 -- Assumes nothing.
+use Rattle.std.specs.Prelude.{Ok, Err}
 use mathlib.Core.Path.{◌≡◌, refl, sym, ap, ◌∙◌, subst}
 use mathlib.Core.Bool.{Bool, true, false, ◌&&◌, cond}
 use mathlib.Core.List.{List}
@@ -11,8 +12,7 @@ use lib.Seq.{take-take, drop-drop, take-set-le, drop-set-lt, get_or-take}
 use borrow.Author.Tests.{ltb-true}
 use Rattle.refusals.specs.Refusals.{exponent_too_large, too_deep, pool_full}
 use Rattle.literal.specs.Literal.{folded, exp_of, log_of}
-use Rattle.literal.specs.declared.Folded.{Folded}
-use Rattle.literal.specs.declared.Folded.TheVariants.{Value, Refused}
+use Rattle.literal.specs.Literal.{Folded}
 use Rattle.pool.specs.declared.node.Node.{Node}
 use Rattle.pool.specs.declared.node.Node.TheVariants as node
 use Rattle.pool.specs.Nodes.{kind_of, word_of, greatest_exponent}
@@ -143,8 +143,8 @@ pub append_grows : (n : Node) → Growing (append n)
 append_grows n = record { grows = λ P. append_comes_to (Grows P) n P (λ room below. appended_grown n P below) tt }
 
 pub literal_grows : (f : Folded) → Growing (literal f)
-literal_grows (Value z) = append_grows (node.Lit z)
-literal_grows (Refused k) = refuse_grows k
+literal_grows (Ok z) = append_grows (node.Lit z)
+literal_grows (Err k) = refuse_grows k
 
 pub exponent_grows : (fits : Bool) {run : Run} → Growing run → Growing (if_exponent_fits fits run)
 exponent_grows true g = g

@@ -1,5 +1,6 @@
 -- Every constructor keeps the rules of the pool, at any depth: given nodes of a pool that keeps them, it answers a node of a pool that keeps them. Appending a fine node does, a sound term does where the calls in it do, the tables are sound, and the rest is induction on the depth.
 -- Assumes nothing.
+use Rattle.std.specs.Prelude.{Ok, Err}
 use mathlib.Core.Path.{◌≡◌, refl, subst}
 use mathlib.Core.Bool.{Bool, true, false, cond}
 use Prim.Native.Nat.{ℕ, zero, suc, ◌≤◌, ◌<◌}
@@ -9,8 +10,7 @@ use lib.Dec.{leb}
 use lib.IntN.{ℤ, pos}
 use Rattle.refusals.specs.Refusals.{exponent_too_large, too_deep, no_exp_or_log, out_of_range}
 use Rattle.literal.specs.Literal.{is_literal, is_zero, is_one, folded, exp_of, log_of}
-use Rattle.literal.specs.declared.Folded.{Folded}
-use Rattle.literal.specs.declared.Folded.TheVariants.{Value, Refused}
+use Rattle.literal.specs.Literal.{Folded}
 use Rattle.pool.specs.declared.node.Node.{Node}
 use Rattle.pool.specs.declared.node.Node.TheVariants as node
 use Rattle.pool.specs.Nodes.{greatest_variable, greatest_exponent}
@@ -81,16 +81,16 @@ exponent_keeps false work = refuse_keeps exponent_too_large
 
 -- a number, if there is one, in the literal range
 abbrev InLiterals : Folded → Type 0
-InLiterals (Value z) = is_literal z ≡ true
-InLiterals (Refused k) = Unit {0}
+InLiterals (Ok z) = is_literal z ≡ true
+InLiterals (Err k) = Unit {0}
 
-picked_in_literals : (t : Bool) (z : ℤ) (k : ℕ) → (t ≡ true → is_literal z ≡ true) → InLiterals (cond t (Value z) (Refused k))
+picked_in_literals : (t : Bool) (z : ℤ) (k : ℕ) → (t ≡ true → is_literal z ≡ true) → InLiterals (cond t (Ok z) (Err k))
 picked_in_literals true z k h = h refl
 picked_in_literals false z k h = tt
 
 pub literal_keeps : {n : ℕ} (f : Folded) → InLiterals f → Keeping n (literal f)
-literal_keeps (Value z) h = append_keeps (record { below = tt; range = h })
-literal_keeps (Refused k) h = refuse_keeps k
+literal_keeps (Ok z) h = append_keeps (record { below = tt; range = h })
+literal_keeps (Err k) h = refuse_keeps k
 
 pub folded_keeps : {n : ℕ} (z : ℤ) → Keeping n (literal (folded z))
 unfolding folded

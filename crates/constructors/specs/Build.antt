@@ -1,10 +1,9 @@
 -- Running the rules: a term is worked argument by argument, left first, and then its call is made, one deeper. One recursion on the depth left holds all constructors.
 -- Assumes nothing.
-use Rattle.std.specs.Prelude.{Bool, true, false, ℕ, zero, suc, leb}
+use Rattle.std.specs.Prelude.{Bool, true, false, ℕ, zero, suc, leb, Ok, Err}
 use Rattle.refusals.specs.Refusals.{too_deep, exponent_too_large}
 use Rattle.literal.specs.Literal.{folded, exp_of, log_of}
-use Rattle.literal.specs.declared.Folded.{Folded}
-use Rattle.literal.specs.declared.Folded.TheVariants.{Value, Refused}
+use Rattle.literal.specs.Literal.{Folded}
 use Rattle.pool.specs.declared.node.Node.TheVariants as node
 use Rattle.pool.specs.Nodes.{greatest_exponent}
 use Rattle.pool.specs.Pool.{Run, ◌>>=◌, yield, refuse, append, node_at}
@@ -24,8 +23,8 @@ pub record Calls : Type 0 where
 
 -- a folded literal becomes a node: 11 or 12 first, then 18
 abbrev pub literal : Folded → Run
-literal (Value z) = append (node.Lit z)
-literal (Refused k) = refuse k
+literal (Ok z) = append (node.Lit z)
+literal (Err k) = refuse k
 
 -- 13. "An exponent sum is above 4,294,967,295"
 abbrev pub if_exponent_fits : Bool → Run → Run

@@ -1,16 +1,18 @@
 -- Doubles, from document 01's "Values": the toolchain's account of IEEE 754 at binary64, with 01's own rules for Pow and Max.
 -- Assumes nothing.
-use Rattle.std.specs.Prelude.{◌||◌, cond, ℕ, zero, suc, ◌/◌, ◌%◌, eqb, ℤ, pos, Float}
+use Rattle.std.specs.Prelude.{◌||◌, cond, ℕ, zero, suc, ◌/◌, ◌%◌, eqb, ℤ, pos, Float, Result, Ok, Err}
 use Rattle.std.specs.Float.{binary64}
 use Rattle.std.specs.Float.Ieee.{mul, lt, is_nan, of_int}
 use Rattle.refusals.specs.Refusals.{not_literal}
 use Rattle.literal.specs.Literal.{is_literal}
-use Rattle.double.specs.declared.Valued.{Valued}
-use Rattle.double.specs.declared.Valued.TheVariants.{Double, Refused}
+
+-- a double, or the refusal number
+abbrev pub Valued : Type 0
+Valued = Result Float ℕ
 
 -- "Every literal is exact as a double"; any other number is none: 4
 unfoldable pub double_of : ℤ → Valued
-double_of z = cond (is_literal z) (Double (of_int binary64 z)) (Refused not_literal)
+double_of z = cond (is_literal z) (Ok (of_int binary64 z)) (Err not_literal)
 
 -- "Pow .. takes the exponent's bits from the lowest, multiplies where a bit is one, then squares while higher bits remain": a turn for each bit of n, at most k of them
 unfoldable pub pow_from : ℕ → Float → Float → ℕ → Float

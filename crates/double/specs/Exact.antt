@@ -1,9 +1,8 @@
 -- A double that is a whole number, by the toolchain's `HasValue x s a c`: x is finite, has the sign s (true below 0), and is a / c in size.
 -- Assumes nothing.
-use Rattle.std.specs.Prelude.{Bool, true, false, ℤ, pos, negsuc, nat_abs, Float}
+use Rattle.std.specs.Prelude.{Bool, true, false, ℤ, pos, negsuc, nat_abs, Float, Ok, Err}
 use Rattle.std.specs.Float.Ieee.Exact.{HasValue}
-use Rattle.double.specs.declared.Valued.{Valued}
-use Rattle.double.specs.declared.Valued.TheVariants.{Double, Refused}
+use Rattle.double.specs.Double.{Valued}
 
 abbrev pub is_below_zero : ℤ → Bool
 is_below_zero (pos n) = false
@@ -15,5 +14,5 @@ Is x z = HasValue x (is_below_zero z) (nat_abs z) 1
 
 -- the answer is the double that is z
 abbrev pub GivesExactly : Valued → ℤ → Type 0
-GivesExactly (Double x) z = Is x z
-GivesExactly (Refused k) z = ⊥
+GivesExactly (Ok x) z = Is x z
+GivesExactly (Err k) z = ⊥

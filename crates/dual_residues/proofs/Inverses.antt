@@ -1,5 +1,6 @@
 -- Inverses of residues: that of a square, so that (1/d²) × d = 1/d also where d has none, and those of 1 to 24 at document 01's modulus.
 -- Assumes nothing.
+use Rattle.std.specs.Prelude.{Ok, Err}
 use mathlib.Core.Path.{◌≡◌, refl, sym, ap, ◌∙◌}
 use mathlib.Core.Bool.{true}
 use mathlib.Core.List.{List, [], ◌∷◌}
@@ -11,8 +12,7 @@ use lib.IntN.{pos}
 use lib.ListN.{get_or}
 use borrow.Author.Tests.{eqb-true}
 use Rattle.residue.specs.Residue.{fixed_modulus, residue, quotient_of}
-use Rattle.residue.specs.declared.Divided.{Divided}
-use Rattle.residue.specs.declared.Divided.TheVariants.{Residue, Refused}
+use Rattle.residue.specs.Residue.{Divided}
 use Rattle.residue.proofs.Congruence.{factor_first, factor_second}
 use Rattle.residue.proofs.Theorems.{quotient_is, quotient_exact, quotient_none}
 use Rattle.pool.specs.Pool.{each}
@@ -53,11 +53,11 @@ module _ (m : ℕ) (some : 2 ≤ m) where
       regroup : (x d : ℕ) → 1 * (x * x) * d ≡ x * (x * d)
       regroup x d = omega arith
 
-  refused_is_none : {k q : ℕ} → Refused k ≡ Residue q → ⊥
+  refused_is_none : {k q : ℕ} → Err k ≡ Ok q → ⊥
   refused_is_none e = let clash : ◌≡◌ {A = ℕ} 0 1 = cc in omega arith
 
   -- what has no inverse has none as a square
-  no_square_inverse : (d k : ℕ) → quotient_of m 1 d ≡ Refused k → (z : ℕ) → z * (d * d % m) % m ≡ 1 → ⊥
+  no_square_inverse : (d k : ℕ) → quotient_of m 1 d ≡ Err k → (z : ℕ) → z * (d * d % m) % m ≡ 1 → ⊥
   no_square_inverse d k e z h =
       refused_is_none (sym e ∙ quotient_is m 1 d (z * d) (ap (λ a. a % m) (mul_assoc z d d) ∙ sym (factor_second m z (d * d)) ∙ h) some)
 
@@ -66,10 +66,10 @@ module _ (m : ℕ) (some : 2 ≤ m) where
   inverse_of_square d = go (quotient_of m 1 d) refl
     where
       go : (r : Divided) → quotient_of m 1 d ≡ r → inverse_of (d * d % m) % m * d % m ≡ or_zero m some r % m
-      go (Residue x) e =
+      go (Ok x) e =
           let inverse : x * d % m ≡ 1 = (quotient_exact m 1 d x some e).product in
           ap (λ r. or_zero m some r % m * d % m) (quotient_is m 1 (d * d % m) (x * x) (square_inverse d x inverse) some) ∙ square_times d x inverse
-      go (Refused k) e =
+      go (Err k) e =
           ap (λ r. or_zero m some r % m * d % m) (quotient_none m 1 (d * d % m) (no_square_inverse d k e))
           ∙ ap (λ a. a * d % m) (zero-mod m)
           ∙ ap (λ a. a % m) (zero-mul d)

@@ -1,5 +1,6 @@
 -- Demand 3 of the entry points: what `write` and `read` give is what their contracts say, so the theorems about files hold of the calls.
 -- Assumes nothing.
+use Rattle.std.specs.Prelude.{Ok, Err}
 use mathlib.Core.Path.{◌≡◌, sym, ap, ◌∙◌, subst, subst⁻¹}
 use mathlib.Core.Logic.{◌↔◌}
 use mathlib.Core.List.{List}
@@ -12,8 +13,7 @@ use Rattle.shape.specs.File.{file_from, size_of, read_file}
 use Rattle.shape.specs.Demand.{KeepsRules, HasRoom, SameShape, IsNodeFile, Leaves}
 use Rattle.shape.proofs.Demand3.{same_file_for_one_shape, accepts_node_files, accepted_leaves_the_rules, reads_back}
 use Rattle.lent.specs.Call.{leaves}
-use Rattle.lent.specs.declared.Answer.{Answer}
-use Rattle.lent.specs.declared.Answer.TheVariants.{Node, Refused}
+use Rattle.lent.specs.Answer.{Answer}
 use Rattle.lent.specs.Writing.{Accepted, bytes_written}
 use Rattle.engine_file.specs.Outcome.{written_from, read_into, pool_returned, Gives}
 use Rattle.engine_file.proofs.Accepting.{accepted_writes, file_is_there, accepted_where_the_file_fits}
@@ -30,26 +30,26 @@ same_bytes_written_for_one_shape P Q k m r s old other a b =
 
 -- a call of reading is accepted exactly where the definition accepts
 IsNode : Answer → Type 0
-IsNode (Node i) = Unit {0}
-IsNode (Refused k) = ⊥
+IsNode (Ok i) = Unit {0}
+IsNode (Err k) = ⊥
 
-accepted_out : (ks ws : List ℕ) (n : ℕ) (out : Out) {i : ℕ} → Gives (leaves Node Refused ks ws n out) i → (Q : Pool) × (out ≡ done i Q)
+accepted_out : (ks ws : List ℕ) (n : ℕ) (out : Out) {i : ℕ} → Gives (leaves Ok Err ks ws n out) i → (Q : Pool) × (out ≡ done i Q)
 unfolding IsNode
 accepted_out ks ws n (done j Q) e = (Q, cc)
 accepted_out ks ws n (refused m) e = absurd (subst⁻¹ IsNode e tt)
 
 module _ (P : Pool) (k : KeepsRules P) (whole : P.end ≡ limit) (bs : List ℕ) where
-  returned_is : read_into P bs ≡ leaves Node Refused P.kinds P.words P.count (read_file bs P)
-  returned_is = rw k.rules (ap (λ m. leaves Node Refused P.kinds P.words P.count (read_file bs (pool P.kinds P.words P.count m))) (sym whole))
+  returned_is : read_into P bs ≡ leaves Ok Err P.kinds P.words P.count (read_file bs P)
+  returned_is = rw k.rules (ap (λ m. leaves Ok Err P.kinds P.words P.count (read_file bs (pool P.kinds P.words P.count m))) (sym whole))
 
   accepted_gives : {i : ℕ} {Q : Pool} → read_file bs P ≡ done i Q → Gives (read_into P bs) i
-  accepted_gives e = ap (λ L. L.answer) (returned_is ∙ ap (leaves Node Refused P.kinds P.words P.count) e)
+  accepted_gives e = ap (λ L. L.answer) (returned_is ∙ ap (leaves Ok Err P.kinds P.words P.count) e)
 
   given_accepted : {i : ℕ} → Gives (read_into P bs) i → (Q : Pool) × (read_file bs P ≡ done i Q)
   given_accepted {i} e = accepted_out P.kinds P.words P.count (read_file bs P) (subst (λ L. Gives L i) returned_is e)
 
   returned_pool_is : {i : ℕ} {Q : Pool} → read_file bs P ≡ done i Q → Q.end ≡ P.end → pool_returned (read_into P bs) ≡ Q
-  returned_pool_is {i} {Q} e same = ap pool_returned (returned_is ∙ ap (leaves Node Refused P.kinds P.words P.count) e) ∙ ap (pool Q.kinds Q.words Q.count) (sym (same ∙ whole))
+  returned_pool_is {i} {Q} e same = ap pool_returned (returned_is ∙ ap (leaves Ok Err P.kinds P.words P.count) e) ∙ ap (pool Q.kinds Q.words Q.count) (sym (same ∙ whole))
 
 -- (b) "Whatever bytes are handed in, reading into an empty pool that keeps these rules accepts them exactly when they are the node file of some root in some such pool."
 pub reading_accepts_node_files : (bs : List ℕ) → AreBytes bs → (P : Pool) → KeepsRules P → P.count ≡ 0 → P.end ≡ limit → ((i : ℕ) × Gives (read_into P bs) i) ↔ IsNodeFile bs

@@ -1,5 +1,6 @@
 -- The ways in which writing ends: the pool is refused, the root is, the output is too short, or the file is there.
 -- Assumes nothing.
+use Rattle.std.specs.Prelude.{Ok, Err}
 use mathlib.Core.Path.{◌≡◌, refl, sym, ap, ap₂, ◌∙◌}
 use mathlib.Core.Bool.{Bool, true, false, cond}
 use mathlib.Core.List.{List, [], ◌∷◌, ◌++◌}
@@ -19,13 +20,12 @@ use Rattle.node_write.specs.declared.FileLength.TheVariants.{Bytes, NoRoom}
 use Rattle.engine_file.specs.Write.{file_over, write_call}
 use Rattle.lent.specs.Call.{demand}
 use Rattle.lent.specs.Writing.{Put, put, unwritten, writes}
-use Rattle.lent.specs.declared.Written.{Written}
-use Rattle.lent.specs.declared.Written.TheVariants.{Length, Refused}
+use Rattle.lent.specs.Answer.{Written}
 
 -- the answer to the caller
 answer_of : FileLength → Written
-answer_of (Bytes m) = Length m
-answer_of NoRoom = Refused no_room
+answer_of (Bytes m) = Ok m
+answer_of NoRoom = Err no_room
 
 told : FileOutput → Put
 told x = put (answer_of x.answer) x.out
@@ -40,12 +40,12 @@ told_is old file = go (leb (length file) (length old))
     go false = refl
 
 module _ {r : Bool} {ks ws : List ℕ} {n : ℕ} {k w : List ℕ} (t : TakenIn r ks ws n k w) (root : ℕ) (old : List ℕ) where
-  pub pool_refused : r ≡ false → put (Refused broken_pool) old ≡ write_call ks ws n root old
+  pub pool_refused : r ≡ false → put (Err broken_pool) old ≡ write_call ks ws n root old
   unfolding write_call
   pool_refused e = rw (sym t.tested ∙ e)
 
   module _ (e : r ≡ true) where
-    pub root_refused : all_below n (root ∷ []) ≡ false → put (Refused unknown_node) old ≡ write_call ks ws n root old
+    pub root_refused : all_below n (root ∷ []) ≡ false → put (Err unknown_node) old ≡ write_call ks ws n root old
     unfolding write_call
     root_refused f = rw (is_pool_lem t e, f)
 
@@ -61,10 +61,10 @@ module _ {r : Bool} {ks ws : List ℕ} {n : ℕ} {k w : List ℕ} (t : TakenIn r
           ∙ told_is old (written_file k w root)
           ∙ rw (is_pool_lem t e, given) (ap₂ (λ a b. file_over old (written_file a b root)) (t.kinds_copied e) (t.words_copied e))
 
-      pub file_there : {f : FileLength} {m : ℕ} (out : List ℕ) → f ≡ Bytes m → file_output f out ≡ file_into old (written_file k w root) → put (Length m) out ≡ write_call ks ws n root old
+      pub file_there : {f : FileLength} {m : ℕ} (out : List ℕ) → f ≡ Bytes m → file_output f out ≡ file_into old (written_file k w root) → put (Ok m) out ≡ write_call ks ws n root old
       unfolding answer_of
       file_there {f} out g h = written_over f out h (sym (ap answer_of g))
 
-      pub no_room_there : {f : FileLength} (out : List ℕ) → f ≡ NoRoom → file_output f out ≡ file_into old (written_file k w root) → put (Refused no_room) out ≡ write_call ks ws n root old
+      pub no_room_there : {f : FileLength} (out : List ℕ) → f ≡ NoRoom → file_output f out ≡ file_into old (written_file k w root) → put (Err no_room) out ≡ write_call ks ws n root old
       unfolding answer_of
       no_room_there {f} out g h = written_over f out h (sym (ap answer_of g))

@@ -1,11 +1,10 @@
 -- What demand 3 says of the calls speaks of these: a call of writing from a root of a pool, and the pool that a call of reading returns.
 -- Assumes nothing.
-use Rattle.std.specs.Prelude.{◌≡◌, List, ℕ}
+use Rattle.std.specs.Prelude.{◌≡◌, List, ℕ, Ok}
 use Rattle.pool.specs.Pool.{Pool}
 use Rattle.shape.specs.File.{read_file}
 use Rattle.lent.specs.Call.{Returned, lent_pool, on_pool}
-use Rattle.lent.specs.declared.Answer.{Answer}
-use Rattle.lent.specs.declared.Answer.TheVariants.{Node}
+use Rattle.lent.specs.Answer.{Answer}
 use Rattle.engine_file.specs.Write.{write_call}
 use Rattle.lent.specs.Writing.{Put}
 
@@ -23,4 +22,4 @@ pool_returned L = lent_pool L.kinds L.words L.count
 
 -- the call is accepted, with the root i
 abbrev pub Gives : Returned Answer → ℕ → Type 0
-Gives L i = L.answer ≡ Node i
+Gives L i = L.answer ≡ Ok i

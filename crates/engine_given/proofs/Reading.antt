@@ -1,5 +1,6 @@
 -- What is read of an expansion: the refusal number comes first, and goes by the three demands.
 -- Assumes nothing.
+use Rattle.std.specs.Prelude.{Ok, Err}
 use mathlib.Core.Path.{◌≡◌, refl, sym, ap, ◌∙◌}
 use mathlib.Core.Bool.{Bool, true, false, cond}
 use mathlib.Core.Logic.{◌≢◌}
@@ -24,7 +25,6 @@ use Rattle.lent_series.specs.Call.{accepted, refused_outcome}
 use Rattle.lent_series.proofs.Numbers.{usable, given_order_lem}
 use Rattle.engine_given.specs.Read.{given_to_read, count_of, coefficients_of}
 use Rattle.engine_given.specs.First.{first_refusal}
-use Rattle.engine_given.specs.declared.read.Counted.TheVariants.{Count, Refused}
 
 -- where there is no refusal, all three tests were met
 picked : (t : Bool) (a b : ℕ) → b ≢ 0 → cond t a b ≡ 0 → (t ≡ true) × (a ≡ 0)
@@ -61,8 +61,8 @@ module _ (ks ws : List ℕ) (n : ℕ) (s : Series) where
         go : (f : ℕ) → k ≡ f → cond (eqb f 0) then (refuses f) ≡ given_to_read refuses ks ws n s then → refuses k ≡ given_to_read refuses ks ws n s then
         go f e d = rw (← e, ne_eqb k 0 h) at d
 
-    pub is_refused : k ≢ 0 → Refused k ≡ count_of ks ws n s
-    is_refused h = is_first Refused (Count (order (given s))) h
+    pub is_refused : k ≢ 0 → Err k ≡ count_of ks ws n s
+    is_refused h = is_first Err (Ok (order (given s))) h
 
     pub refused_of : k ≢ 0 → refused_outcome k ≡ coefficients_of ks ws n s
     refused_of h = is_first refused_outcome (accepted (given s)) h
@@ -82,8 +82,8 @@ module _ (ks ws : List ℕ) (n : ℕ) (s : Series) where
           let m = all_met no_refusal in
           usable s n long (pool_sized ks ws n m.pool).small m.nodes m.length_ok_lem
 
-      pub is_counted : length s.coeffs ≡ terms → Count s.order ≡ count_of ks ws n s
-      is_counted long = ap Count (given_order_lem s long (all_met no_refusal).length_ok_lem) ∙ is_none Refused (Count (order (given s)))
+      pub is_counted : length s.coeffs ≡ terms → Ok s.order ≡ count_of ks ws n s
+      is_counted long = ap Ok (given_order_lem s long (all_met no_refusal).length_ok_lem) ∙ is_none Err (Ok (order (given s)))
 
       pub expansion_of_lem : {e : coded.Expansion} {r : Series} → r ≡ series_of (expansion_of e) → Narrowed s e → ◌≡◌ {A = Outcome} (record { number = 0; series = r }) (coefficients_of ks ws n s)
       expansion_of_lem {e} {r} d g = ap (λ (x : Series). record { number = 0; series = x }) (d ∙ ap series_of g.is) ∙ is_none refused_outcome (accepted (given s))

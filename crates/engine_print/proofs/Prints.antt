@@ -1,5 +1,6 @@
 -- The ways in which a call that prints ends, in the order of their refusals.
 -- Assumes nothing.
+use Rattle.std.specs.Prelude.{Ok, Err}
 use mathlib.Core.Path.{◌≡◌}
 use mathlib.Core.Bool.{true, false}
 use mathlib.Core.List.{List, [], ◌∷◌}
@@ -15,25 +16,24 @@ use Rattle.walks.specs.Print.{text_of, has_max}
 use Rattle.print.specs.Output.{Printed}
 use Rattle.engine_print.specs.Printing.{print_call}
 use Rattle.lent.specs.Writing.{put}
-use Rattle.lent.specs.declared.Written.TheVariants.{Length, Refused}
 
 module _ (ks ws : List ℕ) (n root : ℕ) (out : List ℕ) where
-  pub not_a_pool : is_pool ks ws n ≡ false → put (Refused broken_pool) out ≡ print_call ks ws n root out
+  pub not_a_pool : is_pool ks ws n ≡ false → put (Err broken_pool) out ≡ print_call ks ws n root out
   unfolding print_call
   not_a_pool e = rw e
 
   module _ (p : is_pool ks ws n ≡ true) where
-    pub not_a_node : all_below n (root ∷ []) ≡ false → put (Refused unknown_node) out ≡ print_call ks ws n root out
+    pub not_a_node : all_below n (root ∷ []) ≡ false → put (Err unknown_node) out ≡ print_call ks ws n root out
     unfolding print_call
     not_a_node e = rw (p, e)
 
     module _ (g : all_below n (root ∷ []) ≡ true) where
-      pub has_a_max : has_max (node_in ks ws) root ≡ true → put (Refused max_reached) out ≡ print_call ks ws n root out
+      pub has_a_max : has_max (node_in ks ws) root ≡ true → put (Err max_reached) out ≡ print_call ks ws n root out
       unfolding print_call
       has_a_max e = rw (p, g, e)
 
       module _ (m : has_max (node_in ks ws) root ≡ false) {len : ℕ} {out' : List ℕ} (w : Printed (text_of (node_in ks ws) root) out len out') where
-        pub too_long : longest_text < len → put (Refused no_room) out' ≡ print_call ks ws n root out
+        pub too_long : longest_text < len → put (Err no_room) out' ≡ print_call ks ws n root out
         unfolding print_call
         too_long past =
             let long : longest_text < length (text_of (node_in ks ws) root) = omega (arith, w.counted) in
@@ -46,13 +46,13 @@ module _ (ks ws : List ℕ) (n root : ℕ) (out : List ℕ) where
           short : length (text_of (node_in ks ws) root) ≤ longest_text
           short = omega (arith, whole)
 
-          pub no_room_for_it : length out < len → put (Refused no_room) out' ≡ print_call ks ws n root out
+          pub no_room_for_it : length out < len → put (Err no_room) out' ≡ print_call ks ws n root out
           unfolding print_call
           no_room_for_it h =
               let little : length out < length (text_of (node_in ks ws) root) = omega (arith, whole) in
               rw (p, g, m, le-leb (length (text_of (node_in ks ws) root)) longest_text short, lt-leb (length (text_of (node_in ks ws) root)) (length out) little, w.no_room little)
 
-          pub printed : len ≤ length out → put (Length len) out' ≡ print_call ks ws n root out
+          pub printed : len ≤ length out → put (Ok len) out' ≡ print_call ks ws n root out
           unfolding print_call
           printed h =
               let room : length (text_of (node_in ks ws) root) ≤ length out = omega (arith, whole) in

@@ -1,5 +1,6 @@
 -- The ways in which a call of the machine ends, in the order of their refusals.
 -- Assumes nothing.
+use Rattle.std.specs.Prelude.{Err}
 use mathlib.Core.Path.{◌≡◌}
 use mathlib.Core.Bool.{true, false}
 use mathlib.Core.List.{List}
@@ -8,19 +9,18 @@ use lib.ListN.{length}
 use lib.Ieee.{Float}
 use borrow.Author.Tests.{le-leb, lt-leb}
 use Rattle.refusals.specs.Refusals.{wrong_values, wrong_strip}
-use Rattle.double.specs.declared.Valued.{Valued}
-use Rattle.double.specs.declared.Valued.TheVariants.{Refused}
+use Rattle.double.specs.Double.{Valued}
 use Rattle.key_strip.specs.Machine.{is_strip, run_strip}
 use Rattle.engine_values.specs.Values.{most_values}
 use Rattle.engine_strip.specs.Strips.{run_strip_call}
 
 module _ (strip : List ℕ) (values : List Float) where
-  pub too_many : most_values < length values → Refused wrong_values ≡ run_strip_call strip values
+  pub too_many : most_values < length values → Err wrong_values ≡ run_strip_call strip values
   unfolding run_strip_call
   too_many h = rw (lt-leb (length values) most_values h)
 
   module _ (few : length values ≤ most_values) where
-    pub no_strip : is_strip strip ≡ false → Refused wrong_strip ≡ run_strip_call strip values
+    pub no_strip : is_strip strip ≡ false → Err wrong_strip ≡ run_strip_call strip values
     unfolding run_strip_call
     no_strip e = rw (le-leb (length values) most_values few, e)
 

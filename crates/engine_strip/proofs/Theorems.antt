@@ -1,5 +1,6 @@
 -- C-20 of the calls: a strip that was made runs as the expression is evaluated, one shape has one strip, and the machine refuses by 28 exactly what is no tree's strip.
 -- Assumes nothing.
+use Rattle.std.specs.Prelude.{Err}
 use mathlib.Core.Path.{◌≡◌, refl, sym, ap, ◌∙◌, subst, subst⁻¹}
 use mathlib.Core.Logic.{◌↔◌, inl, inr}
 use mathlib.Core.Bool.{Bool, true, false, true≢false}
@@ -12,8 +13,7 @@ use lib.Ieee.{Float}
 use borrow.Author.Tests.{le-leb, lt-ltb}
 use Rattle.refusals.specs.Refusals.{wrong_values, wrong_strip}
 use Rattle.low_bytes.specs.LowBytes.{AreBytes}
-use Rattle.double.specs.declared.Valued.{Valued}
-use Rattle.double.specs.declared.Valued.TheVariants.{Refused}
+use Rattle.double.specs.Double.{Valued}
 use Rattle.pool.specs.Pool.{Pool, node_at}
 use Rattle.walks.specs.Evaluate.{evaluate}
 use Rattle.shape.specs.Demand.{KeepsRules, SameShape}
@@ -35,7 +35,7 @@ use Rattle.engine_strip.specs.Outcome.{strip_from}
 use Rattle.engine_strip.proofs.Accepting.{Strips, accepted_strips, strip_is_there}
 
 -- the machine's call on a strip that it accepts
-run_is : (bs : List ℕ) (values : List Float) → is_strip bs ≡ true → run_strip_call bs values ≡ demand Refused (leb (length values) most_values) wrong_values (run_strip values bs)
+run_is : (bs : List ℕ) (values : List Float) → is_strip bs ≡ true → run_strip_call bs values ≡ demand Err (leb (length values) most_values) wrong_values (run_strip values bs)
 unfolding run_strip_call
 run_is bs values e = rw e
 
@@ -55,7 +55,7 @@ module _ (P : Pool) (fit : (i : ℕ) → get_or P.words i 0 < 2 ^ 64) (r : ℕ) 
       ∙ le-leb (places_of (node_at P) r) most_places made.few_places
 
   -- evaluation's call on the same root
-  evaluation_is : (values : List Float) → evaluate_call P.kinds P.words P.count r values ≡ demand Refused (leb (length values) most_values) wrong_values (evaluate (node_at P) values r)
+  evaluation_is : (values : List Float) → evaluate_call P.kinds P.words P.count r values ≡ demand Err (leb (length values) most_values) wrong_values (evaluate (node_at P) values r)
   unfolding evaluate_call
   evaluation_is values = rw (made.rules, lt-ltb r P.count made.given)
 
@@ -63,7 +63,7 @@ module _ (P : Pool) (fit : (i : ℕ) → get_or P.words i 0 < 2 ^ 64) (r : ℕ) 
   pub strip_runs_as_evaluated : (values : List Float) → run_strip_call (bytes_written (strip_from P r old)) values ≡ evaluate_call P.kinds P.words P.count r values
   strip_runs_as_evaluated values =
       run_is (bytes_written (strip_from P r old)) values made_is_accepted
-      ∙ ap (demand Refused (leb (length values) most_values) wrong_values) (ap (run_strip values) (strip_is_there P r old a) ∙ strip_runs P keeps r made.given made.no_exp_or_log_lem values)
+      ∙ ap (demand Err (leb (length values) most_values) wrong_values) (ap (run_strip values) (strip_is_there P r old a) ∙ strip_runs P keeps r made.given made.no_exp_or_log_lem values)
       ∙ sym (evaluation_is values)
 
 -- two roots of one shape, in one pool or in two: one answer, refusals included
@@ -86,18 +86,18 @@ not_by_28 (inl e) = omega arith
 not_by_28 (inr n) = n
 
 module _ (bs : List ℕ) (are : AreBytes bs) (values : List Float) (few : length values ≤ most_values) where
-  accepted_is_not_28 : is_strip bs ≡ true → run_strip_call bs values ≡ Refused wrong_strip → ⊥
+  accepted_is_not_28 : is_strip bs ≡ true → run_strip_call bs values ≡ Err wrong_strip → ⊥
   accepted_is_not_28 is e =
-      let ran : run_strip values bs ≡ Refused wrong_strip = sym (run_is bs values is ∙ ap (λ t. demand Refused t wrong_values (run_strip values bs)) (le-leb (length values) most_values few)) ∙ e in
+      let ran : run_strip values bs ≡ Err wrong_strip = sym (run_is bs values is ∙ ap (λ t. demand Err t wrong_values (run_strip values bs)) (le-leb (length values) most_values few)) ∙ e in
       not_by_28 (subst (λ v. Among of_running (of_valued v)) ran ((of_strips bs is).running values))
 
-  refused_is_28 : is_strip bs ≡ false → run_strip_call bs values ≡ Refused wrong_strip
+  refused_is_28 : is_strip bs ≡ false → run_strip_call bs values ≡ Err wrong_strip
   unfolding run_strip_call
   refused_is_28 e = rw (le-leb (length values) most_values few, e)
 
   -- "28 .. when a code is unknown, what follows a code is cut off or breaks document 01's table or literal range, values are missing, more than 128 places are
   -- needed, or not exactly one value is left": exactly the bytes that are the strip of no tree within 128 places
-  pub refused_by_28_exactly : (run_strip_call bs values ≡ Refused wrong_strip) ↔ (IsTreesStrip bs → ⊥)
+  pub refused_by_28_exactly : (run_strip_call bs values ≡ Err wrong_strip) ↔ (IsTreesStrip bs → ⊥)
   refused_by_28_exactly = (
     λ e tree. accepted_is_not_28 ((accepted_exactly bs are).1 tree) e,
     λ none. refused_is_28 (not_true_false (is_strip bs) (λ is. none ((accepted_exactly bs are).0 is))),

@@ -1,10 +1,9 @@
 -- Key strips as calls from outside (C-20). Writing: 1, 2, then 16, 27 and 19. Running: 6, then 28 for the whole strip, then 15.
 -- Assumes nothing.
-use Rattle.std.specs.Prelude.{not, List, [], ◌∷◌, ℕ, leb, length, Float}
+use Rattle.std.specs.Prelude.{not, List, [], ◌∷◌, ℕ, leb, length, Float, Err}
 use Rattle.refusals.specs.Refusals.{broken_pool, unknown_node, wrong_values, not_evaluated, no_room, too_many_places, wrong_strip}
 use Rattle.low_bytes.specs.Output.{text_fits}
-use Rattle.double.specs.declared.Valued.{Valued}
-use Rattle.double.specs.declared.Valued.TheVariants.{Refused}
+use Rattle.double.specs.Double.{Valued}
 use Rattle.pool.specs.Nodes.{all_below}
 use Rattle.pool.specs.Pool.{node_in, is_pool}
 use Rattle.key_strip.specs.Strip.{strip_of, places_of, most_places, has_exp_or_log}
@@ -26,6 +25,6 @@ strip_call ks ws n root out =
 -- "The machine answers any bytes: 28, checked after 9 and before 15"
 unfoldable pub run_strip_call : List ℕ → List Float → Valued
 run_strip_call strip values =
-    demand Refused (leb (length values) most_values) wrong_values
-    (demand Refused (is_strip strip) wrong_strip
+    demand Err (leb (length values) most_values) wrong_values
+    (demand Err (is_strip strip) wrong_strip
     (run_strip values strip))

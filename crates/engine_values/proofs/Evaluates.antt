@@ -1,5 +1,6 @@
 -- The ways in which a call that evaluates ends, in the order of their refusals.
 -- Assumes nothing.
+use Rattle.std.specs.Prelude.{Err}
 use mathlib.Core.Path.{◌≡◌, sym}
 use mathlib.Core.Bool.{true, false}
 use mathlib.Core.List.{List, [], ◌∷◌}
@@ -9,12 +10,10 @@ use lib.Dec.{leb, ltb}
 use lib.ListN.{length, get_or}
 use borrow.Author.Tests.{le-leb, lt-leb, le-ltb, ltb-true}
 use Rattle.refusals.specs.Refusals.{broken_pool, unknown_node, wrong_values}
-use Rattle.double.specs.declared.Valued.{Valued}
-use Rattle.double.specs.declared.Valued.TheVariants as valued
+use Rattle.double.specs.Double.{Valued}
 use Rattle.pool.specs.Nodes.{all_below}
 use Rattle.residue.specs.Residue.{fixed_modulus}
-use Rattle.residue.specs.declared.Divided.{Divided}
-use Rattle.residue.specs.declared.Divided.TheVariants as divided
+use Rattle.residue.specs.Residue.{Divided}
 use Rattle.pool.specs.Pool.{node_in, each, is_pool}
 use Rattle.constructor_laws.proofs.Rules.{each_at}
 use Rattle.lent.proofs.Each.{each_fails}
@@ -25,17 +24,17 @@ use Rattle.walks.specs.Evaluate.{evaluate}
 use Rattle.engine_values.specs.Values.{most_values, evaluate_call, are_residues, evaluate_residue_call}
 
 module _ (ks ws : List ℕ) (n root : ℕ) (values : List Float) where
-  pub not_a_pool : is_pool ks ws n ≡ false → valued.Refused broken_pool ≡ evaluate_call ks ws n root values
+  pub not_a_pool : is_pool ks ws n ≡ false → Err broken_pool ≡ evaluate_call ks ws n root values
   unfolding evaluate_call
   not_a_pool e = rw e
 
   module _ (p : is_pool ks ws n ≡ true) where
-    pub not_a_node : all_below n (root ∷ []) ≡ false → valued.Refused unknown_node ≡ evaluate_call ks ws n root values
+    pub not_a_node : all_below n (root ∷ []) ≡ false → Err unknown_node ≡ evaluate_call ks ws n root values
     unfolding evaluate_call
     not_a_node e = rw (p, e)
 
     module _ (g : all_below n (root ∷ []) ≡ true) where
-      pub too_many : most_values < length values → valued.Refused wrong_values ≡ evaluate_call ks ws n root values
+      pub too_many : most_values < length values → Err wrong_values ≡ evaluate_call ks ws n root values
       unfolding evaluate_call
       too_many h = rw (p, g, lt-leb (length values) most_values h)
 
@@ -64,17 +63,17 @@ module _ (values : List ℕ) where
       }
 
 module _ (ks ws : List ℕ) (n root : ℕ) (values : List ℕ) where
-  pub no_pool : is_pool ks ws n ≡ false → divided.Refused broken_pool ≡ evaluate_residue_call ks ws n root values
+  pub no_pool : is_pool ks ws n ≡ false → Err broken_pool ≡ evaluate_residue_call ks ws n root values
   unfolding evaluate_residue_call
   no_pool e = rw e
 
   module _ (p : is_pool ks ws n ≡ true) where
-    pub no_node : all_below n (root ∷ []) ≡ false → divided.Refused unknown_node ≡ evaluate_residue_call ks ws n root values
+    pub no_node : all_below n (root ∷ []) ≡ false → Err unknown_node ≡ evaluate_residue_call ks ws n root values
     unfolding evaluate_residue_call
     no_node e = rw (p, e)
 
     module _ (g : all_below n (root ∷ []) ≡ true) where
-      pub no_residues : are_residues values ≡ false → divided.Refused wrong_values ≡ evaluate_residue_call ks ws n root values
+      pub no_residues : are_residues values ≡ false → Err wrong_values ≡ evaluate_residue_call ks ws n root values
       unfolding evaluate_residue_call
       no_residues e = rw (p, g, e)
 

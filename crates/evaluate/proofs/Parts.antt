@@ -1,5 +1,6 @@
 -- The parts of a node: they come first, in their order, and the first refusal among them is the node's.
 -- Assumes nothing.
+use Rattle.std.specs.Prelude.{Ok, Err}
 use mathlib.Core.Path.{◌≡◌, refl}
 use mathlib.Core.Bool.{Bool, true, false, cond}
 use mathlib.Core.List.{List, [], ◌∷◌, Memᴰ}
@@ -11,8 +12,7 @@ use lib.ListN.{length, get_or, take}
 use Rattle.refusals.specs.Refusals.{not_literal, no_value}
 use Rattle.literal.specs.Literal.{is_literal}
 use Rattle.double.specs.Double.{double_of}
-use Rattle.double.specs.declared.Valued.{Valued}
-use Rattle.double.specs.declared.Valued.TheVariants.{Double, Refused}
+use Rattle.double.specs.Double.{Valued}
 use Rattle.pool.specs.Nodes.{parts}
 use Rattle.pool.specs.declared.node.Node.{Node}
 use Rattle.pool.specs.declared.node.Node.TheVariants.{Empty, Variable, Lit, Add, Mul, Div, Exp, Log, Pow, Max}
@@ -25,17 +25,17 @@ in_turn down [] last = last
 in_turn down (a ∷ more) last = one (down a) (λ x. in_turn down more last)
 
 one_again : (v : Valued) (next : Float → Valued) → one v next ≡ one v (λ x. one v next)
-one_again (Double x) next = refl
-one_again (Refused k) next = refl
+one_again (Ok x) next = refl
+one_again (Err k) next = refl
 
 both_again : (v w : Valued) (next : Float → Float → Valued) → both v w next ≡ one v (λ x. one w (λ y. both v w next))
-both_again (Double x) (Double y) next = refl
-both_again (Double x) (Refused k) next = refl
-both_again (Refused k) w next = refl
+both_again (Ok x) (Ok y) next = refl
+both_again (Ok x) (Err k) next = refl
+both_again (Err k) w next = refl
 
 -- the parts before the one that is refused have values
 pub refused_in_turn :
-    {k : ℕ} (down : ℕ → Valued) (last : Valued) (told : List ℕ) (j : ℕ) → j < length told → ((a : ℕ) → Memᴰ a (take j told) → (x : Float) × (down a ≡ Double x)) → down (get_or told j 0) ≡ Refused k → in_turn down told last ≡ Refused k
+    {k : ℕ} (down : ℕ → Valued) (last : Valued) (told : List ℕ) (j : ℕ) → j < length told → ((a : ℕ) → Memᴰ a (take j told) → (x : Float) × (down a ≡ Ok x)) → down (get_or told j 0) ≡ Err k → in_turn down told last ≡ Err k
 refused_in_turn down last [] j h done e = absurd (never j h)
   where
     never : (j : ℕ) → j < 0 → ⊥
@@ -51,10 +51,10 @@ part_below {a = a} is below m = below a (rw is m)
 
 -- a refusal has a number above 0, and so is told from a value
 abbrev pub Numbered : Valued → Type 0
-Numbered (Double x) = Unit
-Numbered (Refused k) = 0 < k
+Numbered (Ok x) = Unit
+Numbered (Err k) = 0 < k
 
-either_numbered : (t : Bool) (x : Float) (k : ℕ) → 0 < k → Numbered (cond t (Double x) (Refused k))
+either_numbered : (t : Bool) (x : Float) (k : ℕ) → 0 < k → Numbered (cond t (Ok x) (Err k))
 either_numbered true x k h = tt
 either_numbered false x k h = h
 

@@ -1,6 +1,7 @@
 -- The walk's loop over the parts of a node: what holds between two turns, and how it ends. A part that is refused ends the walk at the node, and values of
 -- all parts in the table give the node's, which is kept.
 -- Assumes nothing.
+use Rattle.std.specs.Prelude.{Ok, Err}
 use mathlib.Core.Path.{◌≡◌, refl, sym, ap, subst, ◌∙◌}
 use mathlib.Core.List.Memᴰ
 use mathlib.Core.List.{List, Memᴰ}
@@ -11,8 +12,7 @@ use lib.Ieee.{Float, nan}
 use lib.ListN.{length, get_or, set, take}
 use lib.Seq.{take-length, get_or-set_same, get_or-set_other}
 use Rattle.refusals.specs.Refusals.{broken_pool}
-use Rattle.double.specs.declared.Valued.{Valued}
-use Rattle.double.specs.declared.Valued.TheVariants.{Double, Refused}
+use Rattle.double.specs.Double.{Valued}
 use Rattle.pool.specs.Pool.{limit, node_in}
 use Rattle.pool.specs.Nodes.{parts}
 use Rattle.pool.specs.declared.node.Node.{Node}
@@ -59,15 +59,15 @@ module _ (at : ℕ → Node) (values : List Float) where
   -- node n was read at number i
   module _ {i : ℕ} {n : Node} (read : n ≡ at i) where
     visited : evaluate at values i ≡ evaluate_node values (evaluate_below at values i) n
-    visited = visits (Refused broken_pool) (evaluate_node values) at i ∙ ap (evaluate_node values (evaluate_below at values i)) (sym read)
+    visited = visits (Err broken_pool) (evaluate_node values) at i ∙ ap (evaluate_node values (evaluate_below at values i)) (sym read)
 
     module _ {before kept : List Float} {seen : List ℕ} {j part : ℕ} (t : Turned i n before kept seen j part) where
       -- a part that is done has its value under node i
       value_of_part : (a : ℕ) → Memᴰ a (take j (parts n)) → evaluate_below at values i a ≡ in_table kept a
-      value_of_part a m = sym (below (Refused broken_pool) (evaluate at values) i a (t.done a m).0) ∙ (t.done a m).1
+      value_of_part a m = sym (below (Err broken_pool) (evaluate at values) i a (t.done a m).0) ∙ (t.done a m).1
 
       -- a refusal of the part that is next is the node's
-      part_refused : {k : ℕ} → j < length (parts n) → evaluate_below at values i part ≡ Refused k → evaluate at values i ≡ Refused k
+      part_refused : {k : ℕ} → j < length (parts n) → evaluate_below at values i part ≡ Err k → evaluate at values i ≡ Err k
       part_refused h e =
           visited
           ∙ parts_first values (evaluate_below at values i) n
@@ -78,7 +78,7 @@ module _ (at : ℕ → Node) (values : List Float) where
       part_past h l =
           record {
             found = λ (e : broken_pool ≡ 0). absurd (omega arith);
-            refusal = λ _. part_refused h (sym (above (Refused broken_pool) (evaluate at values) i part l));
+            refusal = λ _. part_refused h (sym (above (Err broken_pool) (evaluate at values) i part l));
             keeps = t.keeps;
             stay = t.stay;
           }
@@ -92,7 +92,7 @@ module _ (at : ℕ → Node) (values : List Float) where
         part_stopped refused =
             record {
               found = λ e. absurd (refused e);
-              refusal = λ _. part_refused h (sym (below (Refused broken_pool) (evaluate at values) i part l) ∙ w.refusal refused);
+              refusal = λ _. part_refused h (sym (below (Err broken_pool) (evaluate at values) i part l) ∙ w.refusal refused);
               keeps = w.keeps;
               stay = stays;
             }
@@ -125,26 +125,26 @@ module _ (at : ℕ → Node) (values : List Float) where
             visited ∙ goes_by_parts values (evaluate_below at values i) (in_table kept) n (λ a m. value_of_part a (among a m))
 
         module _ {found : Valued} (joined : found ≡ evaluate_node values (in_table kept) n) where
-          pub value_kept : {x : Float} → i < limit → found ≡ Double x → Walked at values i 0 before (set kept i x) (set seen i 1)
+          pub value_kept : {x : Float} → i < limit → found ≡ Ok x → Walked at values i 0 before (set kept i x) (set seen i 1)
           value_kept {x} h e =
               record {
                 found = λ _. right ∙ sym (put nan);
                 refusal = λ other. absurd (other refl);
-                keeps = one_more_kept (λ a y. evaluate at values a ≡ Double y) i x t.keeps right;
+                keeps = one_more_kept (λ a y. evaluate at values a ≡ Ok y) i x t.keeps right;
                 stay = λ a s. still a (t.stay a s) (ℕ_discrete a i);
               }
             where
-              right : evaluate at values i ≡ Double x
+              right : evaluate at values i ≡ Ok x
               right = value_of_node ∙ sym joined ∙ e
 
-              put : (other : Float) → Double (get_or (set kept i x) i other) ≡ Double x
-              put other = ap Double (get_or-set_same kept i x other (omega (arith, t.keeps.long)))
+              put : (other : Float) → Ok (get_or (set kept i x) i other) ≡ Ok x
+              put other = ap Ok (get_or-set_same kept i x other (omega (arith, t.keeps.long)))
 
               still : (a : ℕ) → evaluate at values a ≡ in_table kept a → Dec (a ≡ i) → evaluate at values a ≡ in_table (set kept i x) a
               still a s (yes is) = rw is (right ∙ sym (put nan))
-              still a s (no other) = s ∙ ap Double (sym (get_or-set_other kept i a x nan other))
+              still a s (no other) = s ∙ ap Ok (sym (get_or-set_other kept i a x nan other))
 
-          pub value_refused : {k : ℕ} → found ≡ Refused k → Walked at values i k before kept seen
+          pub value_refused : {k : ℕ} → found ≡ Err k → Walked at values i k before kept seen
           value_refused e =
               record {
                 found = λ z. absurd (omega (arith, above_0 e));
@@ -153,10 +153,10 @@ module _ (at : ℕ → Node) (values : List Float) where
                 stay = t.stay;
               }
             where
-              above_0 : {k : ℕ} → found ≡ Refused k → 0 < k
+              above_0 : {k : ℕ} → found ≡ Err k → 0 < k
               above_0 e = subst Numbered (sym joined ∙ e) (numbered values kept n)
 
 -- no node at or past the limit
-pub past_the_limit : (ks ws : List ℕ) (values : List Float) (root : ℕ) → limit ≤ root → Refused broken_pool ≡ evaluate (node_in ks ws) values root
+pub past_the_limit : (ks ws : List ℕ) (values : List Float) (root : ℕ) → limit ≤ root → Err broken_pool ≡ evaluate (node_in ks ws) values root
 past_the_limit ks ws values root h =
-    above (Refused broken_pool) (evaluate (node_in ks ws) values) limit root h ∙ limit_is_enough (Refused broken_pool) (evaluate_node values) ks ws (λ down. refl) root
+    above (Err broken_pool) (evaluate (node_in ks ws) values) limit root h ∙ limit_is_enough (Err broken_pool) (evaluate_node values) ks ws (λ down. refl) root

@@ -1,5 +1,6 @@
 -- Every residue that the definition gives is below the modulus: each operation on residues ends below it, whatever its parts.
 -- Assumes nothing.
+use Rattle.std.specs.Prelude.{Ok, Err}
 use mathlib.Core.Path.{◌≡◌, refl, sym, ◌∙◌}
 use mathlib.Core.Bool.{Bool, true, false, cond}
 use mathlib.Core.List.{List}
@@ -11,8 +12,7 @@ use lib.ListN.{length, get_or}
 use borrow.Author.Tests.{ltb-true}
 use Rattle.refusals.specs.Refusals.{broken_pool, no_value}
 use Rattle.residue.specs.Residue.{Modulus, divides_to, provided, quotient_of}
-use Rattle.residue.specs.declared.Divided.{Divided}
-use Rattle.residue.specs.declared.Divided.TheVariants.{Residue, Refused}
+use Rattle.residue.specs.Residue.{Divided}
 use Rattle.residue.proofs.Search.{Sought, sought}
 use Rattle.residue.proofs.Search.Sought.{found, missing}
 use Rattle.residue.proofs.Theorems.{residue_below_lem}
@@ -24,8 +24,8 @@ use Rattle.evaluate_residue.specs.Residues.{Residues, Below}
 
 module _ (m : ℕ) where
   one_below : (r : Divided) (next : ℕ → Divided) → ((x : ℕ) → Below m (next x)) → Below m (one r next)
-  one_below (Residue x) next h = h x
-  one_below (Refused k) next h = tt
+  one_below (Ok x) next h = h x
+  one_below (Err k) next h = tt
 
   both_below : (r s : Divided) (next : ℕ → ℕ → Divided) → ((x y : ℕ) → Below m (next x y)) → Below m (both r s next)
   both_below r s next h = one_below r (λ x. one s (λ y. next x y)) (λ x. one_below s (λ y. next x y) (λ y. h x y))
@@ -35,15 +35,15 @@ module _ (m : ℕ) where
   sought_below (missing f) = tt
 
   provided_below : (r other : Divided) → Below m other → Below m (provided r other)
-  provided_below (Residue q) other h = h
-  provided_below (Refused k) other h = tt
+  provided_below (Ok q) other h = h
+  provided_below (Err k) other h = tt
 
   quotient_below : (x y : ℕ) → Below m (quotient_of m x y)
   unfolding quotient_of
   quotient_below x y = provided_below (divides_to m 1 y) (divides_to m x y) (sought_below (sought m _))
 
   module _ (modulus : Modulus m) (values : List ℕ) (residues : Residues m values) where
-    variable_below : (v : ℕ) (t : Bool) → ltb v (length values) ≡ t → Below m (cond t (Residue (get_or values v 0)) (Refused no_value))
+    variable_below : (v : ℕ) (t : Bool) → ltb v (length values) ≡ t → Below m (cond t (Ok (get_or values v 0)) (Err no_value))
     variable_below v true e = residues.below v (ltb-true v (length values) e)
     variable_below v false e = tt
 
@@ -62,7 +62,7 @@ module _ (m : ℕ) where
     -- an answer of the walk is below the modulus, where it is no refusal
     pub answer_below : {r : Divided} (at : ℕ → Node) (k i : ℕ) → r ≡ residue_below m at values k i → Below m r
     answer_below at k i is =
-        rw is (throughout (Refused broken_pool) (residue_node m values) at (Below m) tt (λ down j. node_below down (at j)) k i)
+        rw is (throughout (Err broken_pool) (residue_node m values) at (Below m) tt (λ down j. node_below down (at j)) k i)
 
-    pub residue_is_below : {r : Divided} {x : ℕ} (at : ℕ → Node) (k i : ℕ) → r ≡ Residue x → r ≡ residue_below m at values k i → x < m
+    pub residue_is_below : {r : Divided} {x : ℕ} (at : ℕ → Node) (k i : ℕ) → r ≡ Ok x → r ≡ residue_below m at values k i → x < m
     residue_is_below at k i e is = answer_below at k i (sym e ∙ is)

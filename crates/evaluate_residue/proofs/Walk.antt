@@ -1,5 +1,6 @@
 -- What the walk's code does at a node is what the definition does: the parts are done one after the other, the first refusal ends the node, and what is kept of all parts is joined.
 -- Assumes nothing.
+use Rattle.std.specs.Prelude.{Ok, Err}
 use mathlib.Core.Path.{◌≡◌, refl, sym, ap, ◌∙◌}
 use mathlib.Core.List.{List, [], ◌∷◌, Memᴰ}
 use Prim.Native.Nat.{ℕ, zero, suc, ◌+◌, ◌<◌, ◌≤◌}
@@ -10,8 +11,7 @@ use lib.ListN.{length, get_or, set, replicate, length-set, length-replicate}
 use lib.Seq.{get_or-set_same, get_or-set_other}
 use Rattle.refusals.specs.Refusals.{broken_pool}
 use Rattle.residue.specs.Residue.{Modulus}
-use Rattle.residue.specs.declared.Divided.{Divided}
-use Rattle.residue.specs.declared.Divided.TheVariants.{Residue, Refused}
+use Rattle.residue.specs.Residue.{Divided}
 use Rattle.pool.specs.Nodes.{parts}
 use Rattle.pool.specs.Pool.{limit, node_in}
 use Rattle.pool.specs.Parts.{Counted}
@@ -43,18 +43,18 @@ ready_at told ready = rw told at ready
 
 -- parts are done left before right: the first that is refused refuses the node
 module _ (m : ℕ) (values : List ℕ) (down : ℕ → Divided) (kept : List ℕ) (k : ℕ) where
-  alone_refused : (a : ℕ) (next : ℕ → Divided) (j : ℕ) → j < 1 → down (get_or (a ∷ []) j 0) ≡ Refused k → one (down a) next ≡ Refused k
+  alone_refused : (a : ℕ) (next : ℕ → Divided) (j : ℕ) → j < 1 → down (get_or (a ∷ []) j 0) ≡ Err k → one (down a) next ≡ Err k
   alone_refused a next zero h e = rw e
   alone_refused a next (suc j) h e = absurd (omega arith)
 
   of_two_refused :
-      (a b : ℕ) (next : ℕ → ℕ → Divided) (j : ℕ) → ((h : ℕ) → h < j → down (get_or (a ∷ b ∷ []) h 0) ≡ kept_of kept (get_or (a ∷ b ∷ []) h 0)) → j < 2 → down (get_or (a ∷ b ∷ []) j 0) ≡ Refused k → both (down a) (down b) next ≡ Refused k
+      (a b : ℕ) (next : ℕ → ℕ → Divided) (j : ℕ) → ((h : ℕ) → h < j → down (get_or (a ∷ b ∷ []) h 0) ≡ kept_of kept (get_or (a ∷ b ∷ []) h 0)) → j < 2 → down (get_or (a ∷ b ∷ []) j 0) ≡ Err k → both (down a) (down b) next ≡ Err k
   of_two_refused a b next zero before h e = rw e
   of_two_refused a b next (suc zero) before h e = rw (before 0 (omega arith), e)
   of_two_refused a b next (suc (suc j)) before h e = absurd (omega arith)
 
   first_refusal_lem :
-      (n : Node) (j : ℕ) → ((h : ℕ) → h < j → down (part_at n h) ≡ kept_of kept (part_at n h)) → j < length (parts n) → down (part_at n j) ≡ Refused k → residue_node m values down n ≡ Refused k
+      (n : Node) (j : ℕ) → ((h : ℕ) → h < j → down (part_at n h) ≡ kept_of kept (part_at n h)) → j < length (parts n) → down (part_at n j) ≡ Err k → residue_node m values down n ≡ Err k
   first_refusal_lem Empty j before h e = absurd (omega arith)
   first_refusal_lem (Variable v) j before h e = absurd (omega arith)
   first_refusal_lem (Lit z) j before h e = absurd (omega arith)
@@ -80,10 +80,10 @@ module _ (seen : List ℕ) (i : ℕ) (within : i < length seen) where
 
 module _ (m : ℕ) (at : ℕ → Node) (values : List ℕ) where
   under_the_bound : {r : Divided} (i a : ℕ) → a < i → evaluate_residue m at values a ≡ r → residue_below m at values i a ≡ r
-  under_the_bound i a h e = sym (below (Refused broken_pool) (evaluate_residue m at values) i a h) ∙ e
+  under_the_bound i a h e = sym (below (Err broken_pool) (evaluate_residue m at values) i a h) ∙ e
 
-  past_the_bound : (i a : ℕ) → i ≤ a → residue_below m at values i a ≡ Refused broken_pool
-  past_the_bound i a h = sym (above (Refused broken_pool) (evaluate_residue m at values) i a h)
+  past_the_bound : (i a : ℕ) → i ≤ a → residue_below m at values i a ≡ Err broken_pool
+  past_the_bound i a h = sym (above (Err broken_pool) (evaluate_residue m at values) i a h)
 
 -- in the loop over the parts of node i, which is n: those before j are done, and `part` is the next one
 pub record Going (m : ℕ) (at : ℕ → Node) (values before : List ℕ) (i : ℕ) (n : Node) (p : CountedParts) (kept seen : List ℕ) (j part : ℕ) : Type 0 where
@@ -144,9 +144,9 @@ module _ {m : ℕ} {at : ℕ → Node} {values before kept seen : List ℕ} {i j
 
     visited : residue_node m values (residue_below m at values i) n ≡ evaluate_residue m at values i
     visited =
-        ap (residue_node m values (residue_below m at values i)) read ∙ sym (visits (Refused broken_pool) (residue_node m values) at i)
+        ap (residue_node m values (residue_below m at values i)) read ∙ sym (visits (Err broken_pool) (residue_node m values) at i)
 
-    part_refused : {k : ℕ} → j < p.count → residue_below m at values i part ≡ Refused k → evaluate_residue m at values i ≡ Refused k
+    part_refused : {k : ℕ} → j < p.count → residue_below m at values i part ≡ Err k → evaluate_residue m at values i ≡ Err k
     part_refused {k} less e =
         sym visited
         ∙ first_refusal_lem m values (residue_below m at values i) kept k n j done_is_kept (omega (arith, number_of_parts)) (rw (going.next less) at e)
@@ -188,7 +188,7 @@ module _ {m : ℕ} {at : ℕ → Node} {values before kept seen : List ℕ} {i j
             (each_entry (λ a. kept_of kept a ≡ residue_below m at values i a) (parts n) (λ h s. sym (done_is_kept h (omega (arith, number_of_parts)))))
             ∙ visited
 
-        pub newly_kept : {x : ℕ} → found ≡ Residue x → Walked m at values before i 0 (set kept i x) (set seen i 1)
+        pub newly_kept : {x : ℕ} → found ≡ Ok x → Walked m at values before i 0 (set kept i x) (set seen i 1)
         newly_kept {x} e =
             let keeps = going.keeps in
             let within : i < length seen = omega (arith, keeps.long) in
@@ -198,12 +198,12 @@ module _ {m : ℕ} {at : ℕ → Node} {values before kept seen : List ℕ} {i j
               stay = λ a mark. marked_still seen i within a (going.stay a mark);
               keeps =
                   record {
-                    right = one_more_kept (λ a y. evaluate_residue m at values a ≡ Residue y) i x keeps.right (sym found_is_the_residue ∙ e);
+                    right = one_more_kept (λ a y. evaluate_residue m at values a ≡ Ok y) i x keeps.right (sym found_is_the_residue ∙ e);
                     long = length-set seen i 1 ∙ keeps.long;
                   };
             }
 
-        pub node_refused : {k : ℕ} → found ≡ Refused k → Walked m at values before i k kept seen
+        pub node_refused : {k : ℕ} → found ≡ Err k → Walked m at values before i k kept seen
         node_refused e =
             record {
               done = λ none. absurd (refused_by_number m values kept n e joined none);
@@ -217,14 +217,14 @@ module _ {m : ℕ} {at : ℕ → Node} {values before kept seen : List ℕ} {i r
   pub answered_kept : i < limit → r ≡ 0 → kept_of kept i ≡ evaluate_residue m at values i
   answered_kept inside e = sym (walked.keeps.right.marked i 0 inside (walked.done e))
 
-  pub answered_refused : (r ≡ 0 → ⊥) → Refused r ≡ evaluate_residue m at values i
+  pub answered_refused : (r ≡ 0 → ⊥) → Err r ≡ evaluate_residue m at values i
   answered_refused other = sym (walked.refused other)
 
 pub nothing_kept : (m : ℕ) (at : ℕ → Node) (values : List ℕ) → Keeps m at values (replicate limit 0) (replicate limit 0)
-nothing_kept m at values = record { right = none_kept (λ j x. evaluate_residue m at values j ≡ Residue x) 0; long = length-replicate {A = ℕ} limit 0 }
+nothing_kept m at values = record { right = none_kept (λ j x. evaluate_residue m at values j ≡ Ok x) 0; long = length-replicate {A = ℕ} limit 0 }
 
 -- past the limit there is no node
-pub past_the_limit : (m : ℕ) (ks ws values : List ℕ) (root : ℕ) → limit ≤ root → Refused broken_pool ≡ evaluate_residue m (node_in ks ws) values root
+pub past_the_limit : (m : ℕ) (ks ws values : List ℕ) (root : ℕ) → limit ≤ root → Err broken_pool ≡ evaluate_residue m (node_in ks ws) values root
 past_the_limit m ks ws values root h =
     sym (past_the_bound m (node_in ks ws) values limit root h)
-    ∙ limit_is_enough (Refused broken_pool) (residue_node m values) ks ws (λ down. refl) root
+    ∙ limit_is_enough (Err broken_pool) (residue_node m values) ks ws (λ down. refl) root

@@ -1,8 +1,7 @@
 -- How the code walks: the tables that it keeps, and what a walk leaves. No public contract cites these.
 -- Assumes nothing.
-use Rattle.std.specs.Prelude.{◌≡◌, List, ℕ, ◌<◌, length, get_or}
-use Rattle.residue.specs.declared.Divided.{Divided}
-use Rattle.residue.specs.declared.Divided.TheVariants.{Residue, Refused}
+use Rattle.std.specs.Prelude.{◌≡◌, List, ℕ, ◌<◌, length, get_or, Ok, Err}
+use Rattle.residue.specs.Residue.{Divided}
 use Rattle.pool.specs.Nodes.{parts}
 use Rattle.pool.specs.Pool.{limit}
 use Rattle.pool.specs.declared.node.Node.{Node}
@@ -11,7 +10,7 @@ use Rattle.walks.specs.EvaluateResidue.{evaluate_residue}
 
 -- the residues of the nodes that are marked, and a place for the mark of each node
 pub record Keeps (m : ℕ) (at : ℕ → Node) (values kept seen : List ℕ) : Type 0 where
-  pub right : Kept (λ j x. evaluate_residue m at values j ≡ Residue x) kept seen
+  pub right : Kept (λ j x. evaluate_residue m at values j ≡ Ok x) kept seen
   pub long : length seen ≡ limit
 
 abbrev pub Marked : List ℕ → ℕ → Type 0
@@ -19,7 +18,7 @@ Marked seen j = get_or seen j 0 ≡ 0 → ⊥
 
 -- the table of residues, read as answers
 abbrev pub kept_of : List ℕ → ℕ → Divided
-kept_of kept a = Residue (get_or kept a 0)
+kept_of kept a = Ok (get_or kept a 0)
 
 abbrev pub part_at : Node → ℕ → ℕ
 part_at n h = get_or (parts n) h 0
@@ -32,6 +31,6 @@ pub record Ready (m : ℕ) (n : Node) (kept : List ℕ) : Type 0 where
 -- a walk from node i that answered r, from the marks before to the tables after: 0 says that the residue is kept, another number is the refusal
 pub record Walked (m : ℕ) (at : ℕ → Node) (values before : List ℕ) (i r : ℕ) (kept seen : List ℕ) : Type 0 where
   pub done : r ≡ 0 → Marked seen i
-  pub refused : (r ≡ 0 → ⊥) → evaluate_residue m at values i ≡ Refused r
+  pub refused : (r ≡ 0 → ⊥) → evaluate_residue m at values i ≡ Err r
   pub stay : (j : ℕ) → Marked before j → Marked seen j
   pub keeps : Keeps m at values kept seen

@@ -1,8 +1,7 @@
 -- Residues below the modulus: the values that are given, and the answers.
 -- Assumes nothing.
-use Rattle.std.specs.Prelude.{List, ℕ, ◌<◌, length, get_or}
-use Rattle.residue.specs.declared.Divided.{Divided}
-use Rattle.residue.specs.declared.Divided.TheVariants.{Residue, Refused}
+use Rattle.std.specs.Prelude.{List, ℕ, ◌<◌, length, get_or, Ok, Err}
+use Rattle.residue.specs.Residue.{Divided}
 
 -- every value of the table is a residue
 pub record Residues (m : ℕ) (values : List ℕ) : Type 0 where
@@ -10,5 +9,5 @@ pub record Residues (m : ℕ) (values : List ℕ) : Type 0 where
 
 -- an answer that is a residue, or a refusal
 abbrev pub Below : ℕ → Divided → Type 0
-Below m (Residue x) = x < m
-Below m (Refused k) = Unit
+Below m (Ok x) = x < m
+Below m (Err k) = Unit

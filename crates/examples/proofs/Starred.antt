@@ -1,12 +1,12 @@
 -- The starred examples of document 01 hold: each is computed from the definitions, the residue by the law of quotients.
 -- Assumes nothing.
+use Rattle.std.specs.Prelude.{Ok}
 use mathlib.Core.Path.{◌≡◌, refl}
 use mathlib.Core.List.{[], ◌∷◌}
 use lib.IntN.{pos}
 use Rattle.refusals.specs.Refusals.{no_exp_or_log}
 use Rattle.literal.specs.Literal.{folded, exp_of, log_of}
 use Rattle.residue.specs.Residue.{residue}
-use Rattle.residue.specs.declared.Divided.TheVariants.{Residue}
 use Rattle.residue.proofs.Examples.{one_half}
 use Rattle.text.specs.Text.{digits_within, decimal, signed_decimal, display}
 use Rattle.pool.specs.Nodes.{decode}
@@ -67,7 +67,7 @@ is_exp_of_one : shown (with_variables exp_of_one) ≡ refusal no_exp_or_log
 unfolding exp_of_one with_variables empty append calls build mul_lits mul_exps mul_left mul_pows mul_last pow_table add_arms div_table exp_arms log_arms folded exp_of log_of node_in decode fold_nodes fold_nodes_within under display signed_decimal decimal digits_within
 is_exp_of_one = refl
 
-is_half_by_residues : residue_in (with_variables half) ≡ Residue 1073741824
+is_half_by_residues : residue_in (with_variables half) ≡ Ok 1073741824
 unfolding half with_variables empty append calls build mul_lits mul_exps mul_left mul_pows mul_last pow_table add_arms div_table exp_arms log_arms folded exp_of log_of node_in decode fold_nodes fold_nodes_within under display signed_decimal decimal digits_within residue
 is_half_by_residues = one_half
 

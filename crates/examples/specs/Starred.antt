@@ -1,10 +1,9 @@
 -- The examples that document 01 marks with *, all of them, as one statement about the definitions: on the left the definitions at work, on the right the paper's text.
 -- Assumes nothing.
-use Rattle.std.specs.Prelude.{◌≡◌, [], ◌∷◌, ℕ, ℤ, pos}
+use Rattle.std.specs.Prelude.{◌≡◌, [], ◌∷◌, ℕ, ℤ, pos, Ok, Err}
 use Rattle.refusals.specs.Refusals.{no_exp_or_log}
 use Rattle.residue.specs.Residue.{fixed_modulus}
-use Rattle.residue.specs.declared.Divided.{Divided}
-use Rattle.residue.specs.declared.Divided.TheVariants.{Residue, Refused}
+use Rattle.residue.specs.Residue.{Divided}
 use Rattle.pool.specs.declared.node.Node.TheVariants as node
 use Rattle.pool.specs.Pool.{Out, done, refused, Run, append, node_at, ◌>>=◌}
 use Rattle.constructors.specs.Build.{calls, depth}
@@ -34,7 +33,7 @@ expanded_at z (refused k) = refusal k
 -- an expression's residue, with no values
 abbrev pub residue_in : Out → Divided
 residue_in (done i P) = evaluate_residue fixed_modulus (node_at P) [] i
-residue_in (refused k) = Refused k
+residue_in (refused k) = Err k
 
 -- 2 + (x0 + 1)
 unfoldable pub literal_left : Run
@@ -118,4 +117,4 @@ pub record Starred : Type 0 where
   pub exp_at_0 : expanded_at (pos 0) (with_variables exponential) ≡ texts (bytes "1" ∷ bytes "1" ∷ bytes "1/2" ∷ [])
   pub zero_to_the_zeroth_lem : shown (with_variables zero_to_the_zeroth) ≡ text (bytes "1")
   pub exp_of_one_lem : shown (with_variables exp_of_one) ≡ refusal no_exp_or_log
-  pub half_by_residues : residue_in (with_variables half) ≡ Residue 1073741824
+  pub half_by_residues : residue_in (with_variables half) ≡ Ok 1073741824

@@ -1,5 +1,6 @@
 -- The machine's run of a node's strip, whatever stands in the places and whatever follows: it puts the node's value on top, or ends with its refusal, because a key does to places what the node does to its parts.
 -- Assumes nothing.
+use Rattle.std.specs.Prelude.{Ok, Err}
 use mathlib.Core.Path.{◌≡◌, refl, sym, ap, ◌∙◌, fun_ext}
 use mathlib.Core.Bool.{true, true≢false}
 use mathlib.Core.List.{List, [], ◌∷◌, ◌++◌, append_assoc, append-nil}
@@ -7,8 +8,7 @@ use Prim.Native.Nat.{ℕ}
 use native.Mathlib.Omega.{arith}
 use lib.Ieee.{Float, binary64, add, mul, div}
 use Rattle.double.specs.Double.{pow_of, max_of}
-use Rattle.double.specs.declared.Valued.{Valued}
-use Rattle.double.specs.declared.Valued.TheVariants.{Double, Refused}
+use Rattle.double.specs.Double.{Valued}
 use Rattle.pool.specs.Nodes.{decode, parts}
 use Rattle.pool.specs.declared.node.Node.{Node}
 use Rattle.pool.specs.declared.node.Node.TheVariants.{Empty, Variable, Lit, Add, Mul, Div, Exp, Log, Pow, Max}
@@ -21,13 +21,13 @@ use Rattle.key_strip.proofs.ByParts.{HasCode}
 
 -- what is done after a node is done after its parts
 one_more : (u : Valued) (f : Float → Valued) (next : Float → Valued) → one u (λ x. one (f x) next) ≡ one (one u f) next
-one_more (Double x) f next = refl
-one_more (Refused k) f next = refl
+one_more (Ok x) f next = refl
+one_more (Err k) f next = refl
 
 two_more : (u v : Valued) (f : Float → Float → Valued) (next : Float → Valued) → one u (λ x. one v (λ y. one (f x y) next)) ≡ one (both u v f) next
-two_more (Double x) (Double y) f next = refl
-two_more (Double x) (Refused k) f next = refl
-two_more (Refused k) v f next = refl
+two_more (Ok x) (Ok y) f next = refl
+two_more (Ok x) (Err k) f next = refl
+two_more (Err k) v f next = refl
 
 module _ (values : List Float) where
   -- these bytes leave the value v on top
@@ -85,14 +85,14 @@ module _ (values : List Float) where
     node_runs Empty c part = absurd c.0
     node_runs (Variable v) c part = leaf_runs (variable_taken v c.0) (λ places more. refl)
     node_runs (Lit z) c part = leaf_runs (literal_taken z c.0) (λ places more. refl)
-    node_runs (Add a b) c part = two_run 3 a b refl (λ x y. Double (add binary64 x y)) (λ x y places more. refl) part
-    node_runs (Mul a b) c part = two_run 4 a b refl (λ x y. Double (mul binary64 x y)) (λ x y places more. refl) part
-    node_runs (Div a b) c part = two_run 5 a b refl (λ x y. Double (div binary64 x y)) (λ x y places more. refl) part
+    node_runs (Add a b) c part = two_run 3 a b refl (λ x y. Ok (add binary64 x y)) (λ x y places more. refl) part
+    node_runs (Mul a b) c part = two_run 4 a b refl (λ x y. Ok (mul binary64 x y)) (λ x y places more. refl) part
+    node_runs (Div a b) c part = two_run 5 a b refl (λ x y. Ok (div binary64 x y)) (λ x y places more. refl) part
     node_runs (Exp a) c part = absurd (true≢false c.1)
     node_runs (Log a) c part = absurd (true≢false c.1)
     node_runs (Pow a e) c part =
-        raised_runs (exponent_taken e c.0.2 (omega arith)) (λ x. Double (pow_of x e)) (λ x places more. refl) (part a (here a []))
-    node_runs (Max a b) c part = two_run 9 a b refl (λ x y. Double (max_of x y)) (λ x y places more. refl) part
+        raised_runs (exponent_taken e c.0.2 (omega arith)) (λ x. Ok (pow_of x e)) (λ x places more. refl) (part a (here a []))
+    node_runs (Max a b) c part = two_run 9 a b refl (λ x y. Ok (max_of x y)) (λ x y places more. refl) part
 
   -- the value on top is the answer
   pub run_ends : {v : Valued} {bs : List ℕ} → Runs v bs → run_strip values bs ≡ v
@@ -100,5 +100,5 @@ module _ (values : List Float) where
   run_ends {v} {bs} part = ap (run_strip values) (sym (append-nil bs)) ∙ part.runs [] [] ∙ last v
     where
       last : (v : Valued) → one v (λ x. run_from values (x ∷ []) []) ≡ v
-      last (Double x) = refl
-      last (Refused k) = refl
+      last (Ok x) = refl
+      last (Err k) = refl

@@ -1,14 +1,13 @@
 -- C-20: the "small machine with 128 places", which "answers any bytes". A strip is taken apart into keys, these are tested, and then they run.
 -- A key is a node by document 01's table whose parts are places, 0 the topmost: so the machine's arithmetic is that of evaluation.
 -- Assumes nothing.
-use Rattle.std.specs.Prelude.{Bool, ◌&&◌, cond, List, [], ◌∷◌, ℕ, zero, suc, ◌+◌, ◌-◌, leb, eqb, length, get_or, drop, Float}
+use Rattle.std.specs.Prelude.{Bool, ◌&&◌, cond, List, [], ◌∷◌, ℕ, zero, suc, ◌+◌, ◌-◌, leb, eqb, length, get_or, drop, Float, Ok}
 use Rattle.std.specs.Float.{nan}
 use Rattle.low_bytes.specs.LowBytes.{number_at}
 use Rattle.pool.specs.Nodes.{decode, parts, is_node, pair}
 use Rattle.pool.specs.declared.node.Node.{Node}
 use Rattle.pool.specs.declared.node.Node.TheVariants.{Empty}
-use Rattle.double.specs.declared.Valued.{Valued}
-use Rattle.double.specs.declared.Valued.TheVariants.{Double}
+use Rattle.double.specs.Double.{Valued}
 use Rattle.walks.specs.Evaluate.{one, evaluate_node}
 use Rattle.key_strip.specs.Strip.{most_places, combines}
 
@@ -49,7 +48,7 @@ is_strip bs = accepts 0 (keys_of bs)
 
 -- the value in a place, of those in use, the topmost first
 abbrev pub in_place : List Float → ℕ → Valued
-in_place places j = Double (get_or places j nan)
+in_place places j = Ok (get_or places j nan)
 
 -- a key is evaluated as the node that it is, its parts being in places; 15. What it gives stands where its parts stood
 unfoldable pub run_from : List Float → List Float → List Node → Valued

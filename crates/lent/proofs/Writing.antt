@@ -1,5 +1,6 @@
 -- A call that fills an output: one that is accepted has passed each demand, and its bytes stand at the output's front.
 -- Assumes nothing.
+use Rattle.std.specs.Prelude.{Ok, Err}
 use mathlib.Core.Path.{◌≡◌, refl, subst⁻¹}
 use mathlib.Core.Bool.{Bool, true, false}
 use mathlib.Core.List.{List}
@@ -8,12 +9,11 @@ use lib.ListN.{length, drop}
 use lib.Seq.{take-append_seam}
 use Rattle.lent.specs.Call.{demand}
 use Rattle.lent.specs.Writing.{Put, unwritten, writes, Accepted, bytes_written}
-use Rattle.lent.specs.declared.Written.{Written}
-use Rattle.lent.specs.declared.Written.TheVariants.{Length, Refused}
+use Rattle.lent.specs.Answer.{Written}
 
 IsLength : Written → Type 0
-IsLength (Length n) = Unit {0}
-IsLength (Refused k) = ⊥
+IsLength (Ok n) = Unit {0}
+IsLength (Err k) = ⊥
 
 -- an accepted call has passed each test
 pub passed : (old : List ℕ) (t : Bool) (k : ℕ) (then : Put) → Accepted (demand (unwritten old) t k then) → (t ≡ true) × (demand (unwritten old) t k then ≡ then) × Accepted then

@@ -1,28 +1,28 @@
 -- The end of a call that gives an expansion: the entries are put back as for a node, and the outcome is the expansion or the refusal. The other ways in which a call ends are in lent.
 -- Assumes nothing.
+use Rattle.std.specs.Prelude.{Ok, Err}
 use mathlib.Core.Path.{◌≡◌, refl, sym, ap, ◌∙◌}
 use mathlib.Core.List.{List}
 use Prim.Native.Nat.{ℕ}
 use native.Mathlib.Omega.{arith}
 use Rattle.pool.specs.Made.{next_of, made}
 use Rattle.lent.specs.Call.{Returned, returned, leaves, Appended}
-use Rattle.lent.specs.declared.Answer.{Answer}
-use Rattle.lent.specs.declared.Answer.TheVariants.{Node, Refused}
+use Rattle.lent.specs.Answer.{Answer}
 use Rattle.taylor.specs.Expansion.{Expansion}
 use Rattle.taylor_base.specs.Answers.{status_of}
 use Rattle.taylor_base.specs.declared.answer.Status.{Status}
 use Rattle.taylor_base.specs.declared.answer.Status.TheVariants as status
 use Rattle.lent_series.specs.Call.{accepted, refused_outcome, status_made}
 
-different : {A : Type 0} {i k : ℕ} → Node i ≡ Refused k → A
+different : {A : Type 0} {i k : ℕ} → Ok i ≡ Err k → A
 different {A} {i} {k} e = absurd (never i k e)
   where
-    never : (i k : ℕ) → Node i ≡ Refused k → ⊥
+    never : (i k : ℕ) → Ok i ≡ Err k → ⊥
     never i k e = let z : ◌≡◌ {A = ℕ} 0 1 = cc in omega arith
 
 abbrev number_of : Answer → ℕ
-number_of (Node i) = 0
-number_of (Refused m) = m
+number_of (Ok i) = 0
+number_of (Err m) = m
 
 module _ (ks ws : List ℕ) (n : ℕ) (k w : List ℕ) (e : Expansion) where
   pub appended_made : (s : Status) → Appended ks ws n (status_of s k w e) → Appended ks ws n (made (status_made s) k w)
@@ -30,7 +30,7 @@ module _ (ks ws : List ℕ) (n : ℕ) (k w : List ℕ) (e : Expansion) where
   appended_made (status.Refused m) a = record { end = a.end; grows = tt }
 
   module _ {a : Answer} {ks' ws' : List ℕ} {n' : ℕ} where
-    pub accepted_returned : (s : Status) {i : ℕ} → returned a ks' ws' n' ≡ leaves Node Refused ks ws n (made (status_made s) k w) → a ≡ Node i → returned (accepted e) ks' ws' n' ≡ leaves accepted refused_outcome ks ws n (status_of s k w e)
+    pub accepted_returned : (s : Status) {i : ℕ} → returned a ks' ws' n' ≡ leaves Ok Err ks ws n (made (status_made s) k w) → a ≡ Ok i → returned (accepted e) ks' ws' n' ≡ leaves accepted refused_outcome ks ws n (status_of s k w e)
     accepted_returned (status.Done room) h d =
         let k_is : ks' ≡ k = ap (λ (L : Returned Answer). L.kinds) h in
         let w_is : ws' ≡ w = ap (λ (L : Returned Answer). L.words) h in
@@ -38,7 +38,7 @@ module _ (ks ws : List ℕ) (n : ℕ) (k w : List ℕ) (e : Expansion) where
         rw (k_is, w_is, n_is) refl
     accepted_returned (status.Refused m) h d = different (sym d ∙ ap (λ (L : Returned Answer). L.answer) h)
 
-    pub refused_returned : (s : Status) {m : ℕ} → returned a ks' ws' n' ≡ leaves Node Refused ks ws n (made (status_made s) k w) → a ≡ Refused m → returned (refused_outcome m) ks' ws' n' ≡ leaves accepted refused_outcome ks ws n (status_of s k w e)
+    pub refused_returned : (s : Status) {m : ℕ} → returned a ks' ws' n' ≡ leaves Ok Err ks ws n (made (status_made s) k w) → a ≡ Err m → returned (refused_outcome m) ks' ws' n' ≡ leaves accepted refused_outcome ks ws n (status_of s k w e)
     refused_returned (status.Done room) h d = different (sym (ap (λ (L : Returned Answer). L.answer) h) ∙ d)
     refused_returned (status.Refused l) {m} h d =
         let k_is : ks' ≡ ks = ap (λ (L : Returned Answer). L.kinds) h in

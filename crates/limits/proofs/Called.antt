@@ -1,5 +1,6 @@
 -- What a call answers on a pool that keeps the rules: what its work gives, since 1 is passed.
 -- Assumes nothing.
+use Rattle.std.specs.Prelude.{Ok, Err}
 use mathlib.Core.Path.{◌≡◌, ◌∙◌}
 use mathlib.Core.Bool.{true, false, not}
 use mathlib.Core.List.{List, [], ◌∷◌}
@@ -9,8 +10,6 @@ use lib.Ieee.{Float}
 use lib.ListN.{length}
 use Rattle.refusals.specs.Refusals.{unknown_node, wrong_order, wrong_values, max_reached, no_room}
 use Rattle.residue.specs.Residue.{fixed_modulus}
-use Rattle.double.specs.declared.Valued.TheVariants as valued
-use Rattle.residue.specs.declared.Divided.TheVariants as divided
 use Rattle.pool.specs.Nodes.{all_below}
 use Rattle.pool.specs.Pool.{Run, node_in, is_pool}
 use Rattle.walks.specs.Evaluate.{evaluate}
@@ -20,7 +19,6 @@ use Rattle.taylor.specs.Work.{Work}
 use Rattle.taylor.specs.Expansion.{Expansion}
 use Rattle.shape.specs.File.{written_file}
 use Rattle.lent.specs.Call.{leaves, lent_pool, demand}
-use Rattle.lent.specs.declared.Answer.TheVariants as answered
 use Rattle.lent_series.specs.declared.series.Series.{Series}
 use Rattle.lent_series.specs.Series.{nodes_of, length_ok, given}
 use Rattle.lent_series.specs.Call.{accepted, refused_outcome}
@@ -35,7 +33,7 @@ use Rattle.limits.proofs.Pools.{Passes, fits, by_rules}
 
 -- each call with 1 passed, on two tables and a count
 abbrev pub worked : Run → List ℕ → List ℕ → ℕ → Answer
-worked work ks ws n = node_given (leaves answered.Node answered.Refused ks ws n (work (lent_pool ks ws n))).answer
+worked work ks ws n = node_given (leaves Ok Err ks ws n (work (lent_pool ks ws n))).answer
 
 abbrev pub expansion_worked : Work Expansion → List ℕ → List ℕ → ℕ → Answer
 expansion_worked work ks ws n = order_given (leaves accepted refused_outcome ks ws n (work (lent_pool ks ws n))).answer
@@ -45,11 +43,11 @@ list_worked s n = order_given (demand refused_outcome (all_below n (nodes_of s))
 
 abbrev pub value_worked : List Float → ℕ → List ℕ → List ℕ → ℕ → Answer
 value_worked values root ks ws n =
-    bits_given (demand valued.Refused (all_below n (root ∷ [])) unknown_node (demand valued.Refused (leb (length values) most_values) wrong_values (evaluate (node_in ks ws) values root)))
+    bits_given (demand Err (all_below n (root ∷ [])) unknown_node (demand Err (leb (length values) most_values) wrong_values (evaluate (node_in ks ws) values root)))
 
 abbrev pub residue_worked : List ℕ → ℕ → List ℕ → List ℕ → ℕ → Answer
 residue_worked values root ks ws n =
-    residue_given (demand divided.Refused (all_below n (root ∷ [])) unknown_node (demand divided.Refused (are_residues values) wrong_values (evaluate_residue fixed_modulus (node_in ks ws) values root)))
+    residue_given (demand Err (all_below n (root ∷ [])) unknown_node (demand Err (are_residues values) wrong_values (evaluate_residue fixed_modulus (node_in ks ws) values root)))
 
 abbrev pub print_worked : ℕ → List ℕ → List ℕ → List ℕ → ℕ → Put
 print_worked root out ks ws n =
@@ -137,7 +135,7 @@ module _ (es : List Entry) (ok : fits es ≡ true) where
 
   pub residue_with : (values : List ℕ) (root : ℕ) → are_residues values ≡ true
       → evaluated_by_residues values root (lent es)
-      ≡ residue_given (demand divided.Refused (all_below (length es) (root ∷ [])) unknown_node (evaluate_residue fixed_modulus (node_in (kinds_of es) (words_of es)) values root))
+      ≡ residue_given (demand Err (all_below (length es) (root ∷ [])) unknown_node (evaluate_residue fixed_modulus (node_in (kinds_of es) (words_of es)) values root))
   residue_with values root all = residue_on values root ∙ rw all
 
   pub printed_on : (room root : ℕ) → printed room root (lent es) ≡ length_written (print_worked root (output room) (kinds_of es) (words_of es) (length es)).answer

@@ -1,25 +1,21 @@
 -- What a call answers, for the statement on the papers' numbers: a number, or the refusal number.
 -- Assumes nothing.
-use Rattle.std.specs.Prelude.{Bool, true, false, List, [], ℕ, eqb, Float, replicate, take}
+use Rattle.std.specs.Prelude.{Bool, true, false, List, [], ℕ, eqb, Float, replicate, take, Ok, Err}
 use Rattle.std.specs.Float.{binary64}
 use Rattle.std.specs.Float.Ieee.{to_bits}
-use Rattle.double.specs.declared.Valued.{Valued}
-use Rattle.double.specs.declared.Valued.TheVariants as valued
-use Rattle.residue.specs.declared.Divided.{Divided}
-use Rattle.residue.specs.declared.Divided.TheVariants as divided
+use Rattle.double.specs.Double.{Valued}
+use Rattle.residue.specs.Residue.{Divided}
 use Rattle.pool.specs.Pool.{Run}
 use Rattle.taylor.specs.Work.{Work}
 use Rattle.taylor.specs.Expansion.{Expansion}
 use Rattle.lent.specs.Call.{on_pool}
 use Rattle.lent.specs.declared.Answer as lent_answer
-use Rattle.lent.specs.declared.Answer.TheVariants as answered
 use Rattle.lent_series.specs.declared.series.Series.{Series}
 use Rattle.lent_series.specs.declared.call.Outcome.{Outcome}
 use Rattle.lent_series.specs.Call.{series_on_pool}
 use Rattle.engine_given.specs.Read.{coefficients_of}
 use Rattle.engine_values.specs.Values.{evaluate_call, evaluate_residue_call}
-use Rattle.lent.specs.declared.Written.{Written}
-use Rattle.lent.specs.declared.Written.TheVariants as written_as
+use Rattle.lent.specs.Answer.{Written}
 use Rattle.engine_print.specs.Printing.{print_call}
 use Rattle.engine_file.specs.Write.{write_call}
 use Rattle.limits.specs.Lent.{Lent}
@@ -31,8 +27,8 @@ pub data Answer : Type 0 where
 
 -- ---- calls that give a node
 abbrev pub node_given : lent_answer.Answer → Answer
-node_given (answered.Node i) = gives i
-node_given (answered.Refused k) = refuses k
+node_given (Ok i) = gives i
+node_given (Err k) = refuses k
 
 unfoldable pub called : Run → Lent → Answer
 called work P = node_given (on_pool work P.kinds P.words P.count).answer
@@ -58,23 +54,23 @@ listed s P = order_given (coefficients_of P.kinds P.words P.count s)
 
 -- ---- evaluation: the double's bits, the residue
 abbrev pub bits_given : Valued → Answer
-bits_given (valued.Double x) = gives (to_bits binary64 x)
-bits_given (valued.Refused k) = refuses k
+bits_given (Ok x) = gives (to_bits binary64 x)
+bits_given (Err k) = refuses k
 
 unfoldable pub evaluated : List Float → ℕ → Lent → Answer
 evaluated values root P = bits_given (evaluate_call P.kinds P.words P.count root values)
 
 abbrev pub residue_given : Divided → Answer
-residue_given (divided.Residue x) = gives x
-residue_given (divided.Refused k) = refuses k
+residue_given (Ok x) = gives x
+residue_given (Err k) = refuses k
 
 unfoldable pub evaluated_by_residues : List ℕ → ℕ → Lent → Answer
 evaluated_by_residues values root P = residue_given (evaluate_residue_call P.kinds P.words P.count root values)
 
 -- ---- printing and writing into an output of so many bytes: how many were written
 abbrev pub length_written : Written → Answer
-length_written (written_as.Length n) = gives n
-length_written (written_as.Refused k) = refuses k
+length_written (Ok n) = gives n
+length_written (Err k) = refuses k
 
 abbrev pub output : ℕ → List ℕ
 output n = replicate n 0

@@ -1,5 +1,6 @@
 -- The facts on making strips: short ones are computed, and of long ones the length.
 -- Assumes nothing.
+use Rattle.std.specs.Prelude.{Ok}
 use mathlib.Core.Path.{◌≡◌, refl, ◌∙◌}
 use mathlib.Core.Bool.{Bool, true, false, not, ◌&&◌, cond}
 use mathlib.Core.List.{List, ◌++◌}
@@ -17,7 +18,6 @@ use Rattle.pool.specs.Pool.{node_in, each}
 use Rattle.key_strip.specs.Strip.{strip_of, places_of, most_places, has_exp_or_log}
 use Rattle.lent.specs.Call.{demand}
 use Rattle.lent.specs.Writing.{put, unwritten, writes}
-use Rattle.lent.specs.declared.Written.TheVariants.{Length}
 use Rattle.limits.specs.Lent.{lent, kinds_of, words_of}
 use Rattle.limits.specs.Calls.{Answer, gives, refuses, output, length_written}
 use Rattle.limits_strips.specs.Calls.{stripped, strip65535, strip65536}
@@ -52,7 +52,7 @@ module _ (room : ℕ) (at : ℕ → Node) (root : ℕ) where
   unfolding answered
   goes_by_length n x few = rw (x.no_exp_or_log_lem, x.places, few, x.bytes, length-replicate {A = ℕ} room 0) (chosen (leb n longest_text && leb n room))
     where
-      chosen : (t : Bool) → length_written (demand (unwritten (output room)) t no_room (put (Length n) (strip_of at root ++ drop n (output room)))).answer ≡ cond t (gives n) (refuses no_room)
+      chosen : (t : Bool) → length_written (demand (unwritten (output room)) t no_room (put (Ok n) (strip_of at root ++ drop n (output room)))).answer ≡ cond t (gives n) (refuses no_room)
       chosen true = refl
       chosen false = refl
 

@@ -1,5 +1,6 @@
 -- The longest file: that of a chain of 4,096 nodes. Its length goes by the number of nodes that the walk numbers, and that it is read back by demand 3.
 -- Assumes nothing.
+use Rattle.std.specs.Prelude.{Ok, Err}
 use mathlib.Core.Path.{◌≡◌, refl, ap, ◌∙◌}
 use mathlib.Core.Bool.{true}
 use mathlib.Core.List.{List, [], ◌∷◌}
@@ -21,7 +22,6 @@ use Rattle.shape.proofs.Pools.{empty_keeps_rules}
 use Rattle.shape.proofs.Demand3.{length_of_a_file, size_of_a_file, reads_back, reads_into_no_full_pool}
 use Rattle.engine_file.specs.Write.{file_over}
 use Rattle.lent.specs.Call.{leaves}
-use Rattle.lent.specs.declared.Answer.TheVariants as answered
 use Rattle.limits.specs.Lent.{lent, chain, variable, kinds_of, words_of}
 use Rattle.limits.specs.Calls.{gives, refuses, called, node_given, output, length_written, written, file}
 use Rattle.limits_texts.specs.Outputs.{Longest}
@@ -100,7 +100,7 @@ file_is : file 36868 4095 chain ≡ file_from chain_pool 4095
 unfolding chain chain_pool
 file_is = file_by chain chain_by_rules 36868 4095 ∙ taken_whole (file_from chain_pool 4095) chain_length
 
-into_empty : node_given (leaves answered.Node answered.Refused empty.kinds empty.words 0 (read_file (file_from chain_pool 4095) empty)).answer ≡ gives 4095
+into_empty : node_given (leaves Ok Err empty.kinds empty.words 0 (read_file (file_from chain_pool 4095) empty)).answer ≡ gives 4095
 unfolding empty
 into_empty =
     let (s, R, e, shape, after) = reads_back chain_pool empty chain_keeps empty_keeps_rules 4095 last_there (room, room) in
@@ -129,7 +129,7 @@ after_one = reads_into_no_full_pool chain_pool one_node chain_keeps 4095 last_th
 longest_read_after_one : called (read_file (file 36868 4095 chain)) (lent (variable 0 ∷ [])) ≡ refuses 18
 unfolding one_node may_stand_at decode each
 longest_read_after_one =
-    rw file_is (called_on (variable 0 ∷ []) refl (read_file (file_from chain_pool 4095)) ∙ ap (λ (o : Out). node_given (leaves answered.Node answered.Refused (kinds_of (variable 0 ∷ [])) (words_of (variable 0 ∷ [])) 1 o).answer) after_one)
+    rw file_is (called_on (variable 0 ∷ []) refl (read_file (file_from chain_pool 4095)) ∙ ap (λ (o : Out). node_given (leaves Ok Err (kinds_of (variable 0 ∷ [])) (words_of (variable 0 ∷ [])) 1 o).answer) after_one)
 
 pub longest : Longest
 longest = record { file_in_36868 = longest_file_lem; file_in_36867 = longest_file_in_36867; read_into_nothing = longest_read; read_after_one = longest_read_after_one }

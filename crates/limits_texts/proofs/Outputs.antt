@@ -1,5 +1,6 @@
 -- The facts on 19: short texts and files are computed, and of long texts the length.
 -- Assumes nothing.
+use Rattle.std.specs.Prelude.{Ok}
 use mathlib.Core.Path.{◌≡◌, refl, ◌∙◌}
 use mathlib.Core.Bool.{Bool, true, false, not, ◌&&◌, cond}
 use mathlib.Core.List.{List, ◌++◌}
@@ -20,7 +21,6 @@ use Rattle.shape.specs.File.{file_of, written_file}
 use Rattle.refusals.specs.Refusals.{max_reached, no_room}
 use Rattle.walks.specs.Print.{text_of}
 use Rattle.lent.specs.Call.{demand}
-use Rattle.lent.specs.declared.Written.TheVariants.{Length}
 use Rattle.lent.specs.Writing.{put, unwritten, writes}
 use Rattle.low_bytes.specs.Output.{text_fits}
 use Rattle.limits.specs.Lent.{lent, kinds_of, words_of, text65535, text65536}
@@ -39,7 +39,7 @@ module _ (room : ℕ) (max : Bool) (text : List ℕ) (m : max ≡ false) where
   unfolding answered
   goes_by_length n e = rw (m, e, length-replicate {A = ℕ} room 0) (chosen (leb n longest_text && leb n room))
     where
-      chosen : (t : Bool) → length_written (demand (unwritten (output room)) t no_room (put (Length n) (text ++ drop n (output room)))).answer ≡ cond t (gives n) (refuses no_room)
+      chosen : (t : Bool) → length_written (demand (unwritten (output room)) t no_room (put (Ok n) (text ++ drop n (output room)))).answer ≡ cond t (gives n) (refuses no_room)
       chosen true = refl
       chosen false = refl
 

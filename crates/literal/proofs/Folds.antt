@@ -1,5 +1,6 @@
 -- Folding: in the range the number itself, outside of it the refusal; and what the tests of `sum` and `product` say of the folded number.
 -- Assumes nothing.
+use Rattle.std.specs.Prelude.{Ok, Err}
 use mathlib.Core.Path.{◌≡◌}
 use mathlib.Core.Logic.{◌≢◌}
 use Prim.Native.Nat.{ℕ, ◌*◌, ◌/◌, ◌<◌, ◌≤◌}
@@ -11,14 +12,13 @@ use mir.Syntax.{w64}
 use mir.Val.{SFits}
 use Rattle.refusals.specs.Refusals.{out_of_range}
 use Rattle.literal.specs.Literal.{greatest, folded}
-use Rattle.literal.specs.declared.Folded.TheVariants.{Value, Refused}
 use Rattle.literal.proofs.Sizes.{fits_of_size}
 
-pub folds : (z : ℤ) → nat_abs z ≤ greatest → Value z ≡ folded z
+pub folds : (z : ℤ) → nat_abs z ≤ greatest → Ok z ≡ folded z
 unfolding folded
 folds z h = rw (le-leb (nat_abs z) greatest h)
 
-pub refuses : (z : ℤ) → greatest < nat_abs z → Refused out_of_range ≡ folded z
+pub refuses : (z : ℤ) → greatest < nat_abs z → Err out_of_range ≡ folded z
 unfolding folded
 refuses z h = rw (lt-leb (nat_abs z) greatest h)
 

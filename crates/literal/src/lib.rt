@@ -2,17 +2,13 @@
 #![tactic(auto)]
 
 ghost use Rattle.std.specs.Prelude.{◌≡◌, ◌+◌, nat_abs, neg_ℤ, ◌+ℤ◌, ◌*ℤ◌};
+ghost use Rattle.refusals.specs.Numbers.{numbered};
 ghost use Rattle.literal.specs.Literal.{is_literal, is_zero, is_one, folded, exp_of, log_of, signed, word};
+
+use refusals::Refusal;
 
 // The greatest literal; the least is its negative.
 pub const LITERAL_MAX: u64 = 9_007_199_254_740_991;
-
-// A folded literal, or the refusal number of document 01.
-#[derive(Clone, Copy)]
-pub enum Folded {
-    Value(i64),
-    Refused(u32),
-}
 
 // How far a number is from 0.
 pub fn size(z: i64) -> u64
@@ -46,33 +42,33 @@ pub fn is_one(z: i64) -> bool
 }
 
 // The number itself, where it is a literal.
-pub fn fold(z: i64) -> Folded
-    ensures { result ≡ folded z }
+pub fn fold(z: i64) -> Result<i64, Refusal>
+    ensures { numbered result ≡ folded z }
 {
     if size(z) <= LITERAL_MAX {
-        return Folded::Value(z);
+        return Ok(z);
     }
-    Folded::Refused(refusals::OUT_OF_RANGE)
+    Err(Refusal::OutOfRange)
 }
 
 // Two numbers of one sign: their sizes add up, and the sum is made only where it is a literal.
-fn sum_alike(a: i64, b: i64) -> Folded
+fn sum_alike(a: i64, b: i64) -> Result<i64, Refusal>
     requires { nat_abs (a +ℤ b) ≡ nat_abs a + nat_abs b }
-    ensures { result ≡ folded (a +ℤ b) }
+    ensures { numbered result ≡ folded (a +ℤ b) }
 {
     let x = size(a);
     if LITERAL_MAX < x {
-        return Folded::Refused(refusals::OUT_OF_RANGE);
+        return Err(Refusal::OutOfRange);
     }
     if LITERAL_MAX - x < size(b) {
-        return Folded::Refused(refusals::OUT_OF_RANGE);
+        return Err(Refusal::OutOfRange);
     }
-    Folded::Value(a + b)
+    Ok(a + b)
 }
 
 // The sum, for any two numbers: where the signs differ it fits an i64 by itself.
-pub fn sum(a: i64, b: i64) -> Folded
-    ensures { result ≡ folded (a +ℤ b) }
+pub fn sum(a: i64, b: i64) -> Result<i64, Refusal>
+    ensures { numbered result ≡ folded (a +ℤ b) }
 {
     if a < 0 {
         if b < 0 {
@@ -87,46 +83,46 @@ pub fn sum(a: i64, b: i64) -> Folded
 }
 
 // The product, for any two numbers: the sizes are compared by a division, so that no product is made that does not fit.
-pub fn product(a: i64, b: i64) -> Folded
-    ensures { result ≡ folded (a *ℤ b) }
+pub fn product(a: i64, b: i64) -> Result<i64, Refusal>
+    ensures { numbered result ≡ folded (a *ℤ b) }
 {
     let x = size(a);
     if x == 0 {
-        return Folded::Value(0);
+        return Ok(0);
     }
     if LITERAL_MAX / x < size(b) {
-        return Folded::Refused(refusals::OUT_OF_RANGE);
+        return Err(Refusal::OutOfRange);
     }
-    Folded::Value(a * b)
+    Ok(a * b)
 }
 
-pub fn negation(z: i64) -> Folded
-    ensures { result ≡ folded (neg_ℤ z) }
+pub fn negation(z: i64) -> Result<i64, Refusal>
+    ensures { numbered result ≡ folded (neg_ℤ z) }
 {
     if size(z) <= LITERAL_MAX {
-        return Folded::Value(0 - z);
+        return Ok(0 - z);
     }
-    Folded::Refused(refusals::OUT_OF_RANGE)
+    Err(Refusal::OutOfRange)
 }
 
 // `exp` of a literal: of 0 alone.
-pub fn exp_literal(z: i64) -> Folded
-    ensures { result ≡ exp_of z }
+pub fn exp_literal(z: i64) -> Result<i64, Refusal>
+    ensures { numbered result ≡ exp_of z }
 {
     if is_zero(z) {
-        return Folded::Value(1);
+        return Ok(1);
     }
-    Folded::Refused(refusals::NO_EXP_OR_LOG)
+    Err(Refusal::NoExpOrLog)
 }
 
 // `log` of a literal: of 1 alone.
-pub fn log_literal(z: i64) -> Folded
-    ensures { result ≡ log_of z }
+pub fn log_literal(z: i64) -> Result<i64, Refusal>
+    ensures { numbered result ≡ log_of z }
 {
     if is_one(z) {
-        return Folded::Value(0);
+        return Ok(0);
     }
-    Folded::Refused(refusals::NO_EXP_OR_LOG)
+    Err(Refusal::NoExpOrLog)
 }
 
 // A word read in two's complement.

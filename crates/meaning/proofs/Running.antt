@@ -1,5 +1,6 @@
 -- Running a term gives its value: appending a node does, so by induction on the depth every constructor gives the value of its operation.
 -- Assumes nothing.
+use Rattle.std.specs.Prelude.{Ok, Err}
 use mathlib.Core.Path.{◌≡◌, refl, sym, ap, ◌∙◌}
 use mathlib.Core.Bool.{Bool, true, false, cond}
 use Prim.Native.Nat.{ℕ, zero, suc, ◌<◌}
@@ -8,7 +9,6 @@ use lib.Dec.{leb}
 use lib.IntN.{ℤ, pos, negsuc}
 use Rattle.refusals.specs.Refusals.{no_exp_or_log, out_of_range}
 use Rattle.literal.specs.Literal.{is_literal, is_zero, is_one, folded, exp_of, log_of}
-use Rattle.literal.specs.declared.Folded.TheVariants.{Value, Refused}
 use Rattle.pool.specs.declared.node.Node.{Node}
 use Rattle.pool.specs.declared.node.Node.TheVariants as node
 use Rattle.pool.specs.Nodes.{parts, greatest_exponent}
@@ -74,7 +74,7 @@ module _ (A : Algebra) (env : Values A) where
   -- ---- literals
 
   picked_gives :
-      {P : Pool} → Keeps P → (t : Bool) (z : ℤ) (k : ℕ) → (t ≡ true → is_literal z ≡ true) → Gives P (λ Q i. (t ≡ true) × Is A env (A.int z) Q i) (literal (cond t (Value z) (Refused k)) P)
+      {P : Pool} → Keeps P → (t : Bool) (z : ℤ) (k : ℕ) → (t ≡ true → is_literal z ≡ true) → Gives P (λ Q i. (t ≡ true) × Is A env (A.int z) Q i) (literal (cond t (Ok z) (Err k)) P)
   unfolding value_node
   picked_gives {P} k_p true z k fits = gives_weaker (λ Q i g h. (refl, h)) (node_gives {x = node.Lit z} k_p (record { below = tt; range = fits refl }))
   picked_gives k_p false z k fits = ended

@@ -2,5 +2,4 @@ pub mod KindTable
 mod RowTests
 pub mod PartsTold
 pub mod WordHalves
-pub mod Rooms
 pub mod Folds

@@ -4,6 +4,7 @@ use Rattle.std.specs.Prelude.{ℕ, zero, suc, ◌+◌, Bool, true, cond, ◌&&�
 use Rattle.refusals.specs.Refusals.{pool_full}
 use Rattle.pool.specs.Nodes.{decode, kind_of, word_of, may_stand_at}
 pub use Rattle.pool.specs.Work.{Result, done, refused, WorkOn, bind, ◌>>=◌, yield, refuse}
+use Rattle.pool.specs.declared.table.Pool as coded
 use Rattle.pool.specs.declared.node.Node.{Node}
 use Rattle.pool.specs.declared.node.Node.TheVariants.{Empty}
 
@@ -11,12 +12,9 @@ use Rattle.pool.specs.declared.node.Node.TheVariants.{Empty}
 abbrev pub limit : ℕ
 limit = 4096
 
--- both tables, the count, and the number at which the pool is full: the limit
-pub record Pool : Type 0 where
-  pub kinds : List ℕ
-  pub words : List ℕ
-  pub count : ℕ
-  pub end : ℕ
+-- both tables, the count, and the number at which the pool is full: the limit. The code holds it as it is
+abbrev pub Pool : Type 0
+Pool = coded.Pool
 
 abbrev pub pool : List ℕ → List ℕ → ℕ → ℕ → Pool
 pool ks ws n m = record { kinds = ks; words = ws; count = n; end = m }

@@ -1,43 +1,60 @@
-// The two tables: reading a node, appending one.
+// The pool: the two tables with the count, and what is done with them: reading a node, appending one.
 ghost use Rattle.std.specs.Prelude.{◌≡◌};
-ghost use Rattle.pool.specs.Pool.{node_in, append};
-ghost use Rattle.pool.specs.Made.{next_of, end_of, made, pool_of};
+ghost use Rattle.pool.specs.Pool.{node_in, node_at, empty, append};
+ghost use Rattle.pool.specs.Made.{made};
 
-use crate::node::{HALF, Node};
+use crate::node::Node;
+use refusals::Refusal;
 
 // How many nodes a pool holds at most.
 pub const LIMIT: usize = 4096;
 
-// The room in a pool: the number of the next node in the low half of a word, and the number at which there is no room in the high half. It is one word
-// since it is handed on with every node: two numbers, stored one by one and then read as one, take a processor longer.
-#[derive(Clone, Copy)]
-pub struct Room {
-    pub word: u64,
+// Both tables, the number of the next node, and the number at which there is no room.
+#[derive(Drop)]
+pub struct Pool {
+    pub kinds: [u8; LIMIT],
+    pub words: [u64; LIMIT],
+    pub count: u32,
+    pub end: u32,
 }
 
-// The room from the next number up to the number at which there is none.
-pub fn room_between(next: u32, end: u32) -> Room
-    ensures { (next_of result ≡ next) × (end_of result ≡ end) }
-{
-    Room {
-        word: next as u64 + HALF * end as u64,
+impl Pool {
+    // A pool of no nodes, with room for as many as there can be.
+    pub fn empty() -> Pool
+        ensures { result ≡ empty }
+    {
+        Pool {
+            kinds: [0; LIMIT],
+            words: [0; LIMIT],
+            count: 0,
+            end: LIMIT as u32,
+        }
+    }
+
+    // The node at a number.
+    pub fn node(&self, i: u32) -> Node
+        ensures { result ≡ node_at self.now i }
+    {
+        node_at(&self.kinds, &self.words, i)
+    }
+
+    // One node more: its number.
+    pub fn append(&mut self, node: Node) -> Result<u32, Refusal>
+        ensures { made result self.new ≡ append node self.old }
+    {
+        let count = self.count;
+        let at = count as usize;
+        if self.end <= count || LIMIT <= at {
+            return Err(Refusal::PoolFull);
+        }
+        self.kinds[at] = crate::node::kind_of(node);
+        self.words[at] = crate::node::word_of(node);
+        self.count = count + 1;
+        Ok(count)
     }
 }
 
-// The number of the next node.
-pub fn next_of(room: Room) -> u32
-    ensures { result ≡ next_of room }
-{
-    (room.word % HALF) as u32
-}
-
-// What a constructor gives: a node and the room left, or the refusal number.
-#[derive(Clone, Copy)]
-pub enum Made {
-    Node { node: u32, room: Room },
-    Refused(u32),
-}
-
+// The node at a number of two tables that are only read.
 pub fn node_at(kinds: &[u8; LIMIT], words: &[u64; LIMIT], i: u32) -> Node
     ensures { result ≡ node_in kinds.now words.now i }
 {
@@ -46,24 +63,4 @@ pub fn node_at(kinds: &[u8; LIMIT], words: &[u64; LIMIT], i: u32) -> Node
         return crate::node::decode(kinds[at], words[at]);
     }
     Node::Empty
-}
-
-pub fn append(kinds: &mut [u8; LIMIT], words: &mut [u64; LIMIT], room: Room, node: Node) -> Made
-    ensures { made result kinds.new words.new ≡ append node (pool_of kinds.old words.old room) }
-{
-    let word = room.word;
-    let count = (word % HALF) as u32;
-    let end = (word / HALF) as u32;
-    let at = count as usize;
-    if count < end {
-        if at < LIMIT {
-            kinds[at] = crate::node::kind_of(node);
-            words[at] = crate::node::word_of(node);
-            return Made::Node {
-                node: count,
-                room: Room { word: word + 1 },
-            };
-        }
-    }
-    Made::Refused(refusals::POOL_FULL)
 }

@@ -1,44 +1,78 @@
-// The refusal numbers of document 01, and those that document 02 adds, by name. specs/Refusals.antt has the same names and the papers' words for each.
+// The refusals, by the names that specs/Refusals.antt has, with the words of the papers for each, and their numbers.
 #![tactic(auto)]
 
-pub const BROKEN_POOL: u32 = 1;
+ghost use Rattle.std.specs.Prelude.{◌≡◌};
+ghost use Rattle.refusals.specs.Numbers.{number};
 
-pub const UNKNOWN_NODE: u32 = 2;
+use std::fmt;
 
-pub const UNKNOWN_VARIABLE: u32 = 3;
+// Why a call is refused, in the order of the numbers.
+#[derive(Clone, Copy, Debug, PartialEq, Eq)]
+pub enum Refusal {
+    BrokenPool,
+    UnknownNode,
+    UnknownVariable,
+    NotLiteral,
+    WrongOrder,
+    WrongValues,
+    WrongLength,
+    WrongEntry,
+    WrongSequence,
+    MaxReached,
+    NoExpOrLog,
+    OutOfRange,
+    ExponentTooLarge,
+    TooDeep,
+    NoValue,
+    NotEvaluated,
+    NoInverse,
+    PoolFull,
+    NoRoom,
+    TooManyPlaces,
+    WrongStrip,
+}
 
-pub const NOT_LITERAL: u32 = 4;
+impl Refusal {
+    // The number that callers get.
+    pub fn number(self) -> u32
+        ensures { result ≡ number self }
+    {
+        match self {
+            Refusal::BrokenPool => 1,
+            Refusal::UnknownNode => 2,
+            Refusal::UnknownVariable => 3,
+            Refusal::NotLiteral => 4,
+            Refusal::WrongOrder => 5,
+            Refusal::WrongValues => 6,
+            Refusal::WrongLength => 7,
+            Refusal::WrongEntry => 8,
+            Refusal::WrongSequence => 9,
+            Refusal::MaxReached => 10,
+            Refusal::NoExpOrLog => 11,
+            Refusal::OutOfRange => 12,
+            Refusal::ExponentTooLarge => 13,
+            Refusal::TooDeep => 14,
+            Refusal::NoValue => 15,
+            Refusal::NotEvaluated => 16,
+            Refusal::NoInverse => 17,
+            Refusal::PoolFull => 18,
+            Refusal::NoRoom => 19,
+            Refusal::TooManyPlaces => 27,
+            Refusal::WrongStrip => 28,
+        }
+    }
+}
 
-pub const WRONG_ORDER: u32 = 5;
+impl From<Refusal> for u32 {
+    ghost from_gives = { λ refusal k. k ≡ number refusal };
 
-pub const WRONG_VALUES: u32 = 6;
+    fn from(refusal: Refusal) -> u32 {
+        refusal.number()
+    }
+}
 
-pub const WRONG_LENGTH: u32 = 7;
-
-pub const WRONG_ENTRY: u32 = 8;
-
-pub const WRONG_SEQUENCE: u32 = 9;
-
-pub const MAX_REACHED: u32 = 10;
-
-pub const NO_EXP_OR_LOG: u32 = 11;
-
-pub const OUT_OF_RANGE: u32 = 12;
-
-pub const EXPONENT_TOO_LARGE: u32 = 13;
-
-pub const TOO_DEEP: u32 = 14;
-
-pub const NO_VALUE: u32 = 15;
-
-pub const NOT_EVALUATED: u32 = 16;
-
-pub const NO_INVERSE: u32 = 17;
-
-pub const POOL_FULL: u32 = 18;
-
-pub const NO_ROOM: u32 = 19;
-
-pub const TOO_MANY_PLACES: u32 = 27;
-
-pub const WRONG_STRIP: u32 = 28;
+impl fmt::Display for Refusal {
+    fn fmt<W: fmt::Write>(&self, f: &mut fmt::Formatter<W>) -> fmt::Result {
+        write!(f, "refusal {}", self.number())
+    }
+}

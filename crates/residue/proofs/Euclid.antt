@@ -1,12 +1,12 @@
 -- Euclid's algorithm with a factor kept beside each remainder: a turn keeps the invariant, and at its end the first factor is the inverse, or there is none.
 -- A remainder is its factor times the divisor, modulo m, and what divides both remainders divides the modulus and the divisor. Assumes nothing.
+use Rattle.std.specs.Prelude.{Ok, Err}
 use mathlib.Core.Path.{◌≡◌, sym, ap, ◌∙◌}
 use Prim.Native.Nat.{ℕ, ◌+◌, ◌-◌, ◌*◌, ◌/◌, ◌%◌, ◌≤◌, ◌<◌, ◌∣◌}
 use native.Mathlib.Nat.{mod-lt, mod-le, mod_self, zero-mod, zero-mul, one-mul, mod-eq_of_lt, mod-add-div', mul_assoc, add-mod-mod, add-mul-mod_self_left, dvd_refl, dvd-zero, dvd-mod_iff, dvd-mul_left_of_dvd, eq-one_of_dvd-one, le_trans, le_of_lt, sub-add_cancel}
 use native.Mathlib.Omega.{arith}
 use Rattle.refusals.specs.Refusals.{no_inverse}
 use Rattle.residue.specs.Residue.{quotient_of}
-use Rattle.residue.specs.declared.Divided.TheVariants.{Residue, Refused}
 use Rattle.residue.proofs.Congruence.{factor_first, factor_second, summand_cancels}
 use Rattle.residue.proofs.Theorems.{quotient_is, quotient_none}
 
@@ -68,14 +68,14 @@ euclid_turns m d r0 r1 t0 t1 h now =
       common = λ g d1 d2. now.common g ((dvd-mod_iff g d1).0 d2) d1;
     }
 
-pub euclid_inverts : (m d r0 r1 t0 t1 : ℕ) → 2 ≤ m → r1 ≡ 0 → r0 ≡ 1 → Euclid m d r0 r1 t0 t1 → Residue t0 ≡ quotient_of m 1 d
+pub euclid_inverts : (m d r0 r1 t0 t1 : ℕ) → 2 ≤ m → r1 ≡ 0 → r0 ≡ 1 → Euclid m d r0 r1 t0 t1 → Ok t0 ≡ quotient_of m 1 d
 euclid_inverts m d r0 r1 t0 t1 h none one last =
     sym
     (quotient_is m 1 d t0 (last.first ∙ ap (λ n. n % m) one ∙ mod-eq_of_lt h) h
-    ∙ ap Residue (ap (λ n. n % m) (one-mul t0) ∙ mod-eq_of_lt last.first_factor))
+    ∙ ap Ok (ap (λ n. n % m) (one-mul t0) ∙ mod-eq_of_lt last.first_factor))
 
 -- the last remainder divides m and d, so it divides what any multiple of d leaves
-pub euclid_refuses : (m d r0 r1 t0 t1 : ℕ) → r1 ≡ 0 → (r0 ≡ 1 → ⊥) → Euclid m d r0 r1 t0 t1 → Refused no_inverse ≡ quotient_of m 1 d
+pub euclid_refuses : (m d r0 r1 t0 t1 : ℕ) → r1 ≡ 0 → (r0 ≡ 1 → ⊥) → Euclid m d r0 r1 t0 t1 → Err no_inverse ≡ quotient_of m 1 d
 euclid_refuses m d r0 r1 t0 t1 none more last =
     let both = last.common r0 (dvd_refl r0) (rw none (dvd-zero r0)) in
     sym (quotient_none m 1 d (λ x inverse. more (eq-one_of_dvd-one (rw inverse at ((dvd-mod_iff r0 both.0).1 (dvd-mul_left_of_dvd r0 both.1 x))))))

@@ -1,5 +1,6 @@
 -- What the definitions of residues say, for every modulus: a residue is below the modulus and differs by a multiple of it, and a quotient is the one
 -- residue whose product with the divisor is the dividend, and exists exactly if the divisor has an inverse. Assumes nothing.
+use Rattle.std.specs.Prelude.{Ok, Err}
 use mathlib.Core.Path.{◌≡◌, refl, sym, ap, ◌∙◌}
 use mathlib.Core.Logic.{◌↔◌}
 use Prim.Native.Nat.{ℕ, suc, ◌-◌, ◌*◌, ◌/◌, ◌%◌, ◌≤◌, ◌<◌}
@@ -10,8 +11,7 @@ use lib.IntN.{ℤ, pos, negsuc, ◌+ℤ◌, ◌*ℤ◌}
 use borrow.Author.Tests.{eqb-true, eqb-false}
 use Rattle.refusals.specs.Refusals.{no_inverse}
 use Rattle.residue.specs.Residue.{residue, product_of, divides_to, provided, quotient_of}
-use Rattle.residue.specs.declared.Divided.{Divided}
-use Rattle.residue.specs.declared.Divided.TheVariants.{Residue, Refused}
+use Rattle.residue.specs.Residue.{Divided}
 use Rattle.residue.proofs.Congruence.{factor_first, factor_second}
 use Rattle.residue.proofs.Remainder.{below_zero}
 use Rattle.residue.proofs.Search.{Sought, sought}
@@ -52,16 +52,16 @@ module _ (m d x : ℕ) (inverse : x * d % m ≡ 1) where
       ∙ sym (factor_first m (q * d) x)
       ∙ ap (λ n. n * x % m) e
 
-  the_one_is_sought : (a : ℕ) → a < m → {r : Divided} → Sought m (λ q. eqb (product_of m q d) a) r → r ≡ Residue (a * x % m)
-  the_one_is_sought a h (found q below e) = ap Residue (only_one_has_the_product a q below (eqb-true _ _ e))
+  the_one_is_sought : (a : ℕ) → a < m → {r : Divided} → Sought m (λ q. eqb (product_of m q d) a) r → r ≡ Ok (a * x % m)
+  the_one_is_sought a h (found q below e) = ap Ok (only_one_has_the_product a q below (eqb-true _ _ e))
   the_one_is_sought a h (missing f) =
       absurd (eqb-false _ _ (f (a * x % m) (mod-lt (a * x) (omega arith))) (has_the_product a h))
 
-  divides_to_the_one : (a : ℕ) → a < m → divides_to m a d ≡ Residue (a * x % m)
+  divides_to_the_one : (a : ℕ) → a < m → divides_to m a d ≡ Ok (a * x % m)
   divides_to_the_one a h = the_one_is_sought a h (sought m (λ q. eqb (product_of m q d) a))
 
 -- the law by which a closed quotient is shown at a large modulus, where no search gets to the end
-pub quotient_is : (m a d x : ℕ) → x * d % m ≡ 1 → a < m → quotient_of m a d ≡ Residue (a * x % m)
+pub quotient_is : (m a d x : ℕ) → x * d % m ≡ 1 → a < m → quotient_of m a d ≡ Ok (a * x % m)
 unfolding quotient_of
 quotient_is m a d x inverse h =
     let below : x * d % m < m = mod-lt (x * d) (omega arith) in
@@ -70,30 +70,30 @@ quotient_is m a d x inverse h =
 
 -- ---- where there is a quotient
 
-refused_is_no_residue : {k q : ℕ} → Refused k ≡ Residue q → ⊥
+refused_is_no_residue : {k q : ℕ} → Err k ≡ Ok q → ⊥
 refused_is_no_residue e = let clash : ◌≡◌ {A = ℕ} 0 1 = cc in omega arith
 
 module _ (m d : ℕ) where
-  none_sought : ((x : ℕ) → x * d % m ≡ 1 → ⊥) → {r : Divided} → Sought m (λ q. eqb (product_of m q d) 1) r → r ≡ Refused no_inverse
+  none_sought : ((x : ℕ) → x * d % m ≡ 1 → ⊥) → {r : Divided} → Sought m (λ q. eqb (product_of m q d) 1) r → r ≡ Err no_inverse
   none_sought none (found x h e) = absurd (none x (eqb-true _ _ e))
   none_sought none (missing f) = refl
 
-  inverse_sought : (other : Divided) {q : ℕ} {r : Divided} → Sought m (λ q. eqb (product_of m q d) 1) r → provided r other ≡ Residue q → (x : ℕ) × (x * d % m ≡ 1)
+  inverse_sought : (other : Divided) {q : ℕ} {r : Divided} → Sought m (λ q. eqb (product_of m q d) 1) r → provided r other ≡ Ok q → (x : ℕ) × (x * d % m ≡ 1)
   inverse_sought other (found x h e) given = (x, eqb-true _ _ e)
   inverse_sought other (missing f) given = absurd (refused_is_no_residue given)
 
 -- C-17: else 17
-pub quotient_none : (m a d : ℕ) → ((x : ℕ) → x * d % m ≡ 1 → ⊥) → quotient_of m a d ≡ Refused no_inverse
+pub quotient_none : (m a d : ℕ) → ((x : ℕ) → x * d % m ≡ 1 → ⊥) → quotient_of m a d ≡ Err no_inverse
 unfolding quotient_of
 quotient_none m a d none =
     ap (λ r. provided r (divides_to m a d)) (none_sought m d none (sought m (λ q. eqb (product_of m q d) 1)))
 
-pub quotient_inverts : (m a d q : ℕ) → quotient_of m a d ≡ Residue q → (x : ℕ) × (x * d % m ≡ 1)
+pub quotient_inverts : (m a d q : ℕ) → quotient_of m a d ≡ Ok q → (x : ℕ) × (x * d % m ≡ 1)
 unfolding quotient_of
 quotient_inverts m a d q given = inverse_sought m d (divides_to m a d) (sought m (λ q. eqb (product_of m q d) 1)) given
 
 -- C-17: "a quotient exists exactly if the divisor has an inverse"
-pub quotient_exists : (m a d : ℕ) → a < m → ((q : ℕ) × (quotient_of m a d ≡ Residue q)) ↔ ((x : ℕ) × (x * d % m ≡ 1))
+pub quotient_exists : (m a d : ℕ) → a < m → ((q : ℕ) × (quotient_of m a d ≡ Ok q)) ↔ ((x : ℕ) × (x * d % m ≡ 1))
 quotient_exists m a d h =
     (λ given. quotient_inverts m a d given.0 given.1, λ inverse. (a * inverse.0 % m, quotient_is m a d inverse.0 inverse.1 h))
 
@@ -111,21 +111,21 @@ the_one m a d x q inverse h e =
       only = λ p below product. only_one_has_the_product m d x inverse a p below product ∙ e;
     }
 
-pub quotient_exact : (m a d q : ℕ) → a < m → quotient_of m a d ≡ Residue q → TheOne m a d q
+pub quotient_exact : (m a d q : ℕ) → a < m → quotient_of m a d ≡ Ok q → TheOne m a d q
 quotient_exact m a d q h given =
     let inverse = quotient_inverts m a d q given in
-    let same : Residue (a * inverse.0 % m) ≡ Residue q = sym (quotient_is m a d inverse.0 inverse.1 h) ∙ given in
+    let same : Ok (a * inverse.0 % m) ≡ Ok q = sym (quotient_is m a d inverse.0 inverse.1 h) ∙ given in
     the_one m a d inverse.0 q inverse.1 h (cc)
 
 -- ---- a quotient from the inverse, as the code makes it
 
-refused_again : {k : ℕ} (r other : Divided) → provided r r ≡ Refused k → provided r other ≡ Refused k
-refused_again (Residue x) other e = absurd (refused_is_no_residue (sym e))
-refused_again (Refused j) other e = e
+refused_again : {k : ℕ} (r other : Divided) → provided r r ≡ Err k → provided r other ≡ Err k
+refused_again (Ok x) other e = absurd (refused_is_no_residue (sym e))
+refused_again (Err j) other e = e
 
-pub no_inverse_no_quotient : (m a d k : ℕ) → quotient_of m 1 d ≡ Refused k → quotient_of m a d ≡ Refused k
+pub no_inverse_no_quotient : (m a d k : ℕ) → quotient_of m 1 d ≡ Err k → quotient_of m a d ≡ Err k
 unfolding quotient_of
 no_inverse_no_quotient m a d k e = refused_again (divides_to m 1 d) (divides_to m a d) e
 
-pub quotient_by_inverse : (m a d x : ℕ) → 2 ≤ m → a < m → quotient_of m 1 d ≡ Residue x → quotient_of m a d ≡ Residue (a * x % m)
+pub quotient_by_inverse : (m a d x : ℕ) → 2 ≤ m → a < m → quotient_of m 1 d ≡ Ok x → quotient_of m a d ≡ Ok (a * x % m)
 quotient_by_inverse m a d x h below e = quotient_is m a d x (quotient_exact m 1 d x h e).product below

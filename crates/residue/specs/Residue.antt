@@ -1,9 +1,11 @@
 -- Residues, from document 01's "By residues .." and document 02's C-17: the modulus is a parameter, and need not be prime.
 -- Assumes nothing.
-use Rattle.std.specs.Prelude.{Bool, cond, ℕ, zero, suc, ◌+◌, ◌-◌, ◌*◌, ◌%◌, ◌^◌, ◌≤◌, eqb, ℤ, pos, negsuc}
+use Rattle.std.specs.Prelude.{Bool, cond, ℕ, zero, suc, ◌+◌, ◌-◌, ◌*◌, ◌%◌, ◌^◌, ◌≤◌, eqb, ℤ, pos, negsuc, Result, Ok, Err}
 use Rattle.refusals.specs.Refusals.{no_inverse}
-use Rattle.residue.specs.declared.Divided.{Divided}
-use Rattle.residue.specs.declared.Divided.TheVariants.{Residue, Refused}
+
+-- a residue, or the refusal number
+abbrev pub Divided : Type 0
+Divided = Result ℕ ℕ
 
 -- "By residues the modulus is 2,147,483,647."
 abbrev pub fixed_modulus : ℕ
@@ -29,21 +31,21 @@ abbrev pub power_of : ℕ → ℕ → ℕ → ℕ
 power_of m a e = a ^ e % m
 
 abbrev pub or_else : Divided → Divided → Divided
-or_else (Residue q) other = Residue q
-or_else (Refused k) other = other
+or_else (Ok q) other = Ok q
+or_else (Err k) other = other
 
 -- the first of 0, .., n - 1 that passes, and 17 where none does
 unfoldable pub first_below : ℕ → (ℕ → Bool) → Divided
-first_below zero passes = Refused no_inverse
-first_below (suc n) passes = or_else (first_below n passes) (cond (passes n) (Residue n) (Refused no_inverse))
+first_below zero passes = Err no_inverse
+first_below (suc n) passes = or_else (first_below n passes) (cond (passes n) (Ok n) (Err no_inverse))
 
 -- the residue whose product with the divisor is the dividend
 abbrev pub divides_to : ℕ → ℕ → ℕ → Divided
 divides_to m a d = first_below m (λ q. eqb (product_of m q d) a)
 
 abbrev pub provided : Divided → Divided → Divided
-provided (Residue q) other = other
-provided (Refused k) other = Refused k
+provided (Ok q) other = other
+provided (Err k) other = Err k
 
 -- "A quotient is the one residue whose product with the divisor is the dividend"; C-17: it "exists exactly if the divisor has an inverse", else 17
 unfoldable pub quotient_of : ℕ → ℕ → ℕ → Divided

@@ -1,5 +1,6 @@
 -- Evaluation by residues, where it is accepted, gives the value in the algebra of residues.
 -- Assumes nothing.
+use Rattle.std.specs.Prelude.{Ok, Err}
 use mathlib.Core.Path.{◌≡◌, refl, sym, ap, ◌∙◌}
 use mathlib.Core.Bool.{Bool, true, false, cond}
 use mathlib.Core.List.{List}
@@ -11,8 +12,7 @@ use lib.ListN.{length, get_or}
 use borrow.Author.Tests.{ltb-true}
 use Rattle.refusals.specs.Refusals.{broken_pool, no_value, not_evaluated}
 use Rattle.residue.specs.Residue.{residue, sum_of, product_of, power_of, quotient_of}
-use Rattle.residue.specs.declared.Divided.{Divided}
-use Rattle.residue.specs.declared.Divided.TheVariants.{Residue, Refused}
+use Rattle.residue.specs.Residue.{Divided}
 use Rattle.residue.proofs.Congruence.{factor_first}
 use Rattle.residue.proofs.Theorems.{residue_below_lem, quotient_exact}
 use Rattle.pool.specs.declared.node.Node.{Node}
@@ -34,32 +34,32 @@ use Rattle.residue_meaning.proofs.Model.{number}
 record Came (x y : Divided) (next : ℕ → ℕ → Divided) (r : ℕ) : Type 0 where
   left : ℕ
   right : ℕ
-  left_came : x ≡ Residue left
-  right_came : y ≡ Residue right
-  last : next left right ≡ Residue r
+  left_came : x ≡ Ok left
+  right_came : y ≡ Ok right
+  last : next left right ≡ Ok r
 
-not_refused : {B : Type 0} {k r : ℕ} → Refused k ≡ Residue r → B
+not_refused : {B : Type 0} {k r : ℕ} → Err k ≡ Ok r → B
 not_refused e = absurd (never e)
   where
-    never : {k r : ℕ} → Refused k ≡ Residue r → ⊥
+    never : {k r : ℕ} → Err k ≡ Ok r → ⊥
     never e = let clash : ◌≡◌ {A = ℕ} 0 1 = cc in omega arith
 
-both_came : (x y : Divided) (next : ℕ → ℕ → Divided) (r : ℕ) → both x y next ≡ Residue r → Came x y next r
-both_came (Residue a) (Residue b) next r e = record { left = a; right = b; left_came = refl; right_came = refl; last = e }
-both_came (Residue a) (Refused k) next r e = not_refused e
-both_came (Refused k) y next r e = not_refused e
+both_came : (x y : Divided) (next : ℕ → ℕ → Divided) (r : ℕ) → both x y next ≡ Ok r → Came x y next r
+both_came (Ok a) (Ok b) next r e = record { left = a; right = b; left_came = refl; right_came = refl; last = e }
+both_came (Ok a) (Err k) next r e = not_refused e
+both_came (Err k) y next r e = not_refused e
 
 -- one residue that came
 record CameOne (x : Divided) (next : ℕ → Divided) (r : ℕ) : Type 0 where
   only : ℕ
-  came : x ≡ Residue only
-  last : next only ≡ Residue r
+  came : x ≡ Ok only
+  last : next only ≡ Ok r
 
-one_came : (x : Divided) (next : ℕ → Divided) (r : ℕ) → one x next ≡ Residue r → CameOne x next r
-one_came (Residue a) next r e = record { only = a; came = refl; last = e }
-one_came (Refused k) next r e = not_refused e
+one_came : (x : Divided) (next : ℕ → Divided) (r : ℕ) → one x next ≡ Ok r → CameOne x next r
+one_came (Ok a) next r e = record { only = a; came = refl; last = e }
+one_came (Err k) next r e = not_refused e
 
-residue_inside : {a b : ℕ} → Residue a ≡ Residue b → a ≡ b
+residue_inside : {a b : ℕ} → Ok a ≡ Ok b → a ≡ b
 residue_inside e = cc
 
 module _ (m : ℕ) (some : 2 ≤ m) (values : List ℕ) (small : (v : ℕ) → get_or values v 0 < m) where
@@ -68,7 +68,7 @@ module _ (m : ℕ) (some : 2 ≤ m) (values : List ℕ) (small : (v : ℕ) → g
 
   -- whatever residue came for a part is its value
   abbrev Agree : (ℕ → Divided) → (ℕ → Residues m) → ℕ → Type 0
-  Agree down f a = (r : ℕ) → down a ≡ Residue r → (f a).0 ≡ r
+  Agree down f a = (r : ℕ) → down a ≡ Ok r → (f a).0 ≡ r
 
   power_number : (a : Residues m) (e : ℕ) → (power (residues m some) a e).0 ≡ power_of m a.0 e
   unfolding power residue
@@ -79,23 +79,23 @@ module _ (m : ℕ) (some : 2 ≤ m) (values : List ℕ) (small : (v : ℕ) → g
       ∙ factor_first m (a.0 ^ e) a.0
       ∙ ap (λ n. n % m) (sym (pow-suc a.0 e))
 
-  variable_agrees : (v r : ℕ) → value_of_variable values v ≡ Residue r → (env v).0 ≡ r
+  variable_agrees : (v r : ℕ) → value_of_variable values v ≡ Ok r → (env v).0 ≡ r
   variable_agrees v r e = go (ltb v (length values)) e
     where
-      go : (t : Bool) → cond t (Residue (get_or values v 0)) (Refused no_value) ≡ Residue r → (env v).0 ≡ r
+      go : (t : Bool) → cond t (Ok (get_or values v 0)) (Err no_value) ≡ Ok r → (env v).0 ≡ r
       go true e = number m some (get_or values v 0) ∙ mod-eq_of_lt (small v) ∙ residue_inside e
       go false e = not_refused e
 
-  node_agrees : (down : ℕ → Divided) (f : ℕ → Residues m) (x : Node) → Each (Agree down f) (parts x) → (r : ℕ) → residue_node m values down x ≡ Residue r → (value_node (residues m some) env f x).0 ≡ r
+  node_agrees : (down : ℕ → Divided) (f : ℕ → Residues m) (x : Node) → Each (Agree down f) (parts x) → (r : ℕ) → residue_node m values down x ≡ Ok r → (value_node (residues m some) env f x).0 ≡ r
   unfolding value_node
   node_agrees down f Empty h r e = not_refused e
   node_agrees down f (Variable v) h r e = variable_agrees v r e
   node_agrees down f (Lit z) h r e = number m some (residue m z) ∙ mod-eq_of_lt (residue_below_lem m z some) ∙ residue_inside e
   node_agrees down f (Add a b) h r e =
-      let c = both_came (down a) (down b) (λ x y. Residue (sum_of m x y)) r e in
+      let c = both_came (down a) (down b) (λ x y. Ok (sum_of m x y)) r e in
       number m some ((f a).0 + (f b).0) ∙ ap (λ n. (n + (f b).0) % m) (h.0 c.left c.left_came) ∙ ap (λ n. (c.left + n) % m) (h.1.0 c.right c.right_came) ∙ residue_inside c.last
   node_agrees down f (Mul a b) h r e =
-      let c = both_came (down a) (down b) (λ x y. Residue (product_of m x y)) r e in
+      let c = both_came (down a) (down b) (λ x y. Ok (product_of m x y)) r e in
       number m some ((f a).0 * (f b).0) ∙ ap (λ n. n * (f b).0 % m) (h.0 c.left c.left_came) ∙ ap (λ n. c.left * n % m) (h.1.0 c.right c.right_came) ∙ residue_inside c.last
   node_agrees down f (Div a b) h r e =
       let c = both_came (down a) (down b) (λ x y. quotient_of m x y) r e in
@@ -107,14 +107,14 @@ module _ (m : ℕ) (some : 2 ≤ m) (values : List ℕ) (small : (v : ℕ) → g
       ∙ ap (λ n. or_zero m some (quotient_of m c.left n) % m) at_b
       ∙ ap (λ q. or_zero m some q % m) c.last
       ∙ mod-eq_of_lt exact.below
-  node_agrees down f (Exp a) h r e = not_refused (one_came (down a) (λ x. Refused not_evaluated) r e).last
-  node_agrees down f (Log a) h r e = not_refused (one_came (down a) (λ x. Refused not_evaluated) r e).last
+  node_agrees down f (Exp a) h r e = not_refused (one_came (down a) (λ x. Err not_evaluated) r e).last
+  node_agrees down f (Log a) h r e = not_refused (one_came (down a) (λ x. Err not_evaluated) r e).last
   node_agrees down f (Pow a n) h r e =
-      let c = one_came (down a) (λ x. Residue (power_of m x n)) r e in
+      let c = one_came (down a) (λ x. Ok (power_of m x n)) r e in
       power_number (f a) n ∙ ap (λ k. power_of m k n) (h.0 c.only c.came) ∙ residue_inside c.last
-  node_agrees down f (Max a b) h r e = not_refused (both_came (down a) (down b) (λ x y. Refused not_evaluated) r e).last
+  node_agrees down f (Max a b) h r e = not_refused (both_came (down a) (down b) (λ x y. Err not_evaluated) r e).last
 
-  agrees_below : (at : ℕ → Node) → Falling at → (k i : ℕ) → i < k → (r : ℕ) → evaluate_residue m at values i ≡ Residue r → (value (residues m some) env at i).0 ≡ r
+  agrees_below : (at : ℕ → Node) → Falling at → (k i : ℕ) → i < k → (r : ℕ) → evaluate_residue m at values i ≡ Ok r → (value (residues m some) env at i).0 ≡ r
   agrees_below at falls zero i h r e = absurd (never i h)
     where
       never : (i : ℕ) → i < 0 → ⊥
@@ -122,10 +122,10 @@ module _ (m : ℕ) (some : 2 ≤ m) (values : List ℕ) (small : (v : ℕ) → g
   agrees_below at falls (suc k) i h r e =
       ap (λ (a : Residues m). a.0) (value_law (residues m some) env at falls i)
       ∙ node_agrees (residue_below m at values i) (value (residues m some) env at) (at i)
-      (each_below (parts (at i)) (falls i) (λ a l s q. agrees_below at falls k a (omega arith) s (below (Refused broken_pool) (evaluate_residue m at values) i a l ∙ q)))
+      (each_below (parts (at i)) (falls i) (λ a l s q. agrees_below at falls k a (omega arith) s (below (Err broken_pool) (evaluate_residue m at values) i a l ∙ q)))
       r
-      (sym (visits (Refused broken_pool) (residue_node m values) at i) ∙ e)
+      (sym (visits (Err broken_pool) (residue_node m values) at i) ∙ e)
 
   -- an accepted evaluation by residues gives the value in the algebra of residues
-  pub residue_is_value : {P : Pool} → Keeps P → (root r : ℕ) → evaluate_residue m (node_at P) values root ≡ Residue r → (value (residues m some) (from_table m some values) (node_at P) root).0 ≡ r
+  pub residue_is_value : {P : Pool} → Keeps P → (root r : ℕ) → evaluate_residue m (node_at P) values root ≡ Ok r → (value (residues m some) (from_table m some values) (node_at P) root).0 ≡ r
   residue_is_value {P} k root r e = agrees_below (node_at P) (falling k) (suc root) root (omega arith) r e

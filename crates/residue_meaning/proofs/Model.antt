@@ -1,5 +1,6 @@
 -- The residues of every modulus from 2 on are a model, a ring, and have fractions. Division is exact by every residue that has an inverse.
 -- Assumes nothing.
+use Rattle.std.specs.Prelude.{Ok, Err}
 use mathlib.Core.Path.{◌≡◌, refl, sym, ap, ◌∙◌}
 use mathlib.Core.Bool.{true, Bool-set}
 use mathlib.Core.HLevel.{Σ_prop_path}
@@ -10,8 +11,7 @@ use lib.Dec.{ltb}
 use lib.IntN.{pos}
 use borrow.Author.Tests.{ltb-true}
 use Rattle.residue.specs.Residue.{residue, quotient_of}
-use Rattle.residue.specs.declared.Divided.{Divided}
-use Rattle.residue.specs.declared.Divided.TheVariants.{Residue, Refused}
+use Rattle.residue.specs.Residue.{Divided}
 use Rattle.residue.proofs.Congruence.{factor_first, factor_second}
 use Rattle.residue.proofs.Theorems.{quotient_is, quotient_exact, no_inverse_no_quotient, quotient_by_inverse}
 use Rattle.meaning.specs.Model.{Model, Distributive}
@@ -61,8 +61,8 @@ module _ (m : ℕ) (some : 2 ≤ m) where
   over_product a d h = go (quotient_of m 1 d) refl
     where
       go : (r : Divided) → quotient_of m 1 d ≡ r → over a d ≡ or_zero m some r * a % m
-      go (Residue x) e = ap (or_zero m some) (quotient_by_inverse m a d x some h e) ∙ ap (λ n. n % m) (mul_comm a x)
-      go (Refused k) e = ap (or_zero m some) (no_inverse_no_quotient m a d k e) ∙ sym (ap (λ n. n % m) (zero-mul a) ∙ zero-mod m)
+      go (Ok x) e = ap (or_zero m some) (quotient_by_inverse m a d x some h e) ∙ ap (λ n. n % m) (mul_comm a x)
+      go (Err k) e = ap (or_zero m some) (no_inverse_no_quotient m a d k e) ∙ sym (ap (λ n. n % m) (zero-mul a) ∙ zero-mod m)
 
   zero_divided : (d : ℕ) → over 0 d ≡ 0
   zero_divided d = over_product 0 d (omega arith) ∙ ap (λ n. n % m) (nothing (over 1 d)) ∙ zero-mod m
@@ -145,7 +145,7 @@ module _ (m : ℕ) (some : 2 ≤ m) where
       }
 
   -- division by a residue with an inverse is exact
-  pub inverse_divides : (d : Residues m) (x : ℕ) → quotient_of m 1 d.0 ≡ Residue x → Divides (residues m some) d
+  pub inverse_divides : (d : Residues m) (x : ℕ) → quotient_of m 1 d.0 ≡ Ok x → Divides (residues m some) d
   inverse_divides d x e a =
       let given = quotient_by_inverse m a.0 d.0 x some (small a) e in
       let exact = quotient_exact m a.0 d.0 (a.0 * x % m) (small a) given in

@@ -1,5 +1,6 @@
 -- By residues of every modulus from 2 on: a substituted expression has the value of the first one with the variable set to the second one's value, and of a plain expression `derive` and coefficient 1 of the expansion have equal values. So wherever the evaluations are accepted.
 -- Assumes nothing.
+use Rattle.std.specs.Prelude.{Ok}
 use mathlib.Core.Path.{◌≡◌, refl, sym, ap, ◌∙◌, fun_ext}
 use mathlib.Core.Bool.{Bool, true, false, cond}
 use mathlib.Core.List.{List}
@@ -10,7 +11,6 @@ use lib.Dec.{eqb}
 use lib.ListN.{length, get_or, set}
 use lib.Seq.{get_or-set_same, get_or-set_other}
 use borrow.Author.Tests.{eqb-true, eqb-false, ltb-true}
-use Rattle.residue.specs.declared.Divided.TheVariants.{Residue}
 use Rattle.pool.specs.Nodes.{greatest_variable}
 use Rattle.pool.specs.Pool.{Pool, done, node_at}
 use Rattle.constructor_laws.specs.Keeps.{Keeps}
@@ -61,9 +61,9 @@ module _ (m : ℕ) (some : 2 ≤ m) (values : List ℕ) (small : (v : ℕ) → g
       (root var given : ℕ) → root < P.count → given < P.count → var < length values
       → {i : ℕ} {Q : Pool} → substitute_var root var given P ≡ done i Q
       → (g r s : ℕ)
-      → evaluate_residue m (node_at P) values given ≡ Residue g
-      → evaluate_residue m (node_at Q) values i ≡ Residue r
-      → evaluate_residue m (node_at P) (set values var g) root ≡ Residue s
+      → evaluate_residue m (node_at P) values given ≡ Ok g
+      → evaluate_residue m (node_at Q) values i ≡ Ok r
+      → evaluate_residue m (node_at P) (set values var g) root ≡ Ok s
       → r ≡ s
   substitution_by_residues root var given h l k {i} {Q} accepted g r s eg er es =
       let keeps_Q = (accepted_kept (substitute_kept var given root keeps h l) accepted).keeps in
@@ -82,8 +82,8 @@ module _ (m : ℕ) (some : 2 ≤ m) (values : List ℕ) (small : (v : ℕ) → g
       → {i : ℕ} {Q : Pool} → derive root var P ≡ done i Q
       → {cs : List ℕ} {R : Pool} → expand root var none order P ≡ done (Polynomial cs) R
       → (r s : ℕ)
-      → evaluate_residue m (node_at Q) values i ≡ Residue r
-      → evaluate_residue m (node_at R) values (at cs 1) ≡ Residue s
+      → evaluate_residue m (node_at Q) values i ≡ Ok r
+      → evaluate_residue m (node_at R) values (at cs 1) ≡ Ok s
       → r ≡ s
   unfolding coefficient
   derivation_by_residues words root var order h known more p {i} {Q} derived {cs} {R} expanded r s er es =

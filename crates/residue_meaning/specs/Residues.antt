@@ -1,10 +1,9 @@
 -- The residues of a modulus as an algebra, with document 01's sums, products and quotients. Where there is no quotient it is 0; every exponential is 1, every logarithm 0 and every maximum the first argument: evaluation by residues refuses all of these.
 -- Assumes nothing.
-use Rattle.std.specs.Prelude.{◌≡◌, true, List, ℕ, ◌+◌, ◌*◌, ◌%◌, ◌≤◌, ltb, get_or}
+use Rattle.std.specs.Prelude.{◌≡◌, true, List, ℕ, ◌+◌, ◌*◌, ◌%◌, ◌≤◌, ltb, get_or, Ok, Err}
 use Rattle.std.proofs.Common.{mod-lt, lt_of_lt_of_le, zero-lt-suc, lt-ltb}
 use Rattle.residue.specs.Residue.{residue, quotient_of}
-use Rattle.residue.specs.declared.Divided.{Divided}
-use Rattle.residue.specs.declared.Divided.TheVariants.{Residue, Refused}
+use Rattle.residue.specs.Residue.{Divided}
 use Rattle.meaning.specs.Model.{Algebra}
 use Rattle.meaning.specs.Value.{Values}
 
@@ -18,8 +17,8 @@ module _ (m : ℕ) (some : 2 ≤ m) where
 
   -- a quotient, or 0 where there is none
   abbrev pub or_zero : Divided → ℕ
-  or_zero (Residue q) = q
-  or_zero (Refused k) = 0
+  or_zero (Ok q) = q
+  or_zero (Err k) = 0
 
   abbrev pub residues : Algebra
   residues =

@@ -1,13 +1,12 @@
 -- Evaluation and printing unfold: what is given at a node is what is done there with what is given at its parts, with no bound, on tables whose parts fall.
 -- Assumes nothing.
+use Rattle.std.specs.Prelude.{Err}
 use mathlib.Core.Path.{◌≡◌, refl, sym, ap, ◌∙◌}
 use mathlib.Core.List.{List, []}
 use Prim.Native.Nat.{ℕ}
 use lib.Dec.{ltb}
 use lib.Ieee.{Float}
 use Rattle.refusals.specs.Refusals.{broken_pool}
-use Rattle.double.specs.declared.Valued.TheVariants as valued
-use Rattle.residue.specs.declared.Divided.TheVariants as divided
 use Rattle.pool.specs.declared.node.Node.{Node}
 use Rattle.pool.specs.Reaches.{reaches_at, is_max}
 use Rattle.pool.specs.Fold.{under, fold_nodes}
@@ -31,10 +30,10 @@ unfolds none {node} p goes falls i =
 
 module _ (at : ℕ → Node) (falls : Falls at) (i : ℕ) where
   pub value_unfolds : (values : List Float) → evaluate at values i ≡ evaluate_node values (evaluate at values) (at i)
-  value_unfolds values = unfolds (valued.Refused broken_pool) at (value_by_shape values) falls i
+  value_unfolds values = unfolds (Err broken_pool) at (value_by_shape values) falls i
 
   pub residue_unfolds : (m : ℕ) (values : List ℕ) → evaluate_residue m at values i ≡ residue_node m values (evaluate_residue m at values) (at i)
-  residue_unfolds m values = unfolds (divided.Refused broken_pool) at (residue_by_shape m values) falls i
+  residue_unfolds m values = unfolds (Err broken_pool) at (residue_by_shape m values) falls i
 
   pub text_unfolds : (parent : ℕ) → text_under at parent i ≡ bracketed (ltb (precedence (at i)) parent) (node_text (text_under at) (at i))
   text_unfolds parent = ap (λ text. text parent) (unfolds (λ around. []) at text_by_shape falls i)

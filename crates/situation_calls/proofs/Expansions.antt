@@ -1,5 +1,6 @@
 -- The calls on expansions: checks in their order, then the work, whose numbers the crate situations has; and the number 0 stands beside an expansion only.
 -- Assumes nothing.
+use Rattle.std.specs.Prelude.{Ok, Err}
 use mathlib.Core.Path.{◌≡◌, refl}
 use mathlib.Core.Bool.{Bool, true, false, ◌&&◌}
 use mathlib.Core.List.{List, [], ◌∷◌, ◌++◌}
@@ -24,7 +25,6 @@ use Rattle.lent_series.specs.Call.{accepted, refused_outcome, series_on_pool, gi
 use Rattle.engine_index.specs.Indices.{has_index, given_index}
 use Rattle.engine_given.specs.Variable.{var_call}
 use Rattle.engine_given.specs.Read.{count_of, coefficients_of}
-use Rattle.engine_given.specs.declared.read.Counted.TheVariants as counted
 use Rattle.engine_pairs.specs.Pairs.{agree}
 use Rattle.engine_expand.specs.Expressions.{expand_work}
 use Rattle.situations.specs.Refusal.{Among, of_result}
@@ -78,7 +78,7 @@ module _ (ks ws : List ℕ) (n : ℕ) (fit : (i : ℕ) → get_or ws i 0 < 2 ^ 6
   order_answers : (s : Series) → ByTable table.of_order (one_tested ks ws n s (length_ok s)) (of_counted (count_of ks ws n s))
   order_answers s = go (is_pool ks ws n) (all_below n (nodes_of s)) (length_ok s)
     where
-      go : (p b l : Bool) → ByTable table.of_order (p ∷ b ∷ l ∷ []) (of_counted (demand counted.Refused p broken_pool (demand counted.Refused b unknown_node (demand counted.Refused l wrong_order (counted.Count (order (given s)))))))
+      go : (p b l : Bool) → ByTable table.of_order (p ∷ b ∷ l ∷ []) (of_counted (demand Err p broken_pool (demand Err b unknown_node (demand Err l wrong_order (Ok (order (given s)))))))
       go true true true = passing 1 (passing 2 (passing 5 (working tt)))
       go true true false = passing 1 (passing 2 (failing 5))
       go true false l = passing 1 (failing 2)

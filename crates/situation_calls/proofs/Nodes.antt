@@ -1,5 +1,6 @@
 -- The calls on expressions: checks in their order, then the work, whose numbers the crate situations has.
 -- Assumes nothing.
+use Rattle.std.specs.Prelude.{Ok, Err}
 use mathlib.Core.Path.{◌≡◌, refl}
 use mathlib.Core.Logic.{inl, inr}
 use mathlib.Core.Bool.{Bool, true, false, not}
@@ -10,11 +11,9 @@ use lib.Ieee.{Float}
 use lib.ListN.{length, get_or}
 use Rattle.refusals.specs.Refusals.{broken_pool, unknown_node, unknown_variable, not_literal, wrong_values, wrong_length, wrong_entry, wrong_sequence, max_reached, not_evaluated, no_room, too_many_places, wrong_strip}
 use Rattle.literal.specs.Literal.{is_literal}
-use Rattle.double.specs.declared.Valued.{Valued}
-use Rattle.double.specs.declared.Valued.TheVariants as Valued_as
+use Rattle.double.specs.Double.{Valued}
 use Rattle.residue.specs.Residue.{fixed_modulus}
-use Rattle.residue.specs.declared.Divided.{Divided}
-use Rattle.residue.specs.declared.Divided.TheVariants as divided_as
+use Rattle.residue.specs.Residue.{Divided}
 use Rattle.pool.specs.declared.node.Node.{Node}
 use Rattle.pool.specs.declared.node.Node.TheVariants as node
 use Rattle.pool.specs.Nodes.{all_below, greatest_variable}
@@ -30,7 +29,6 @@ use Rattle.shape.specs.Demand.{KeepsRules}
 use Rattle.shape.specs.Shape.{rename}
 use Rattle.shape.specs.File.{size_of, entry_of, is_sized, are_nodes, is_in_order, passes, append_first, append_shifted, written_file, read_file}
 use Rattle.lent.specs.Call.{demand, leaves, lent_pool, on_pool, given_nodes, given_variable}
-use Rattle.lent.specs.declared.Answer.TheVariants as answer
 use Rattle.engine_values.specs.Values.{most_values, are_residues, evaluate_call, evaluate_residue_call}
 use Rattle.lent.specs.Writing.{Put, unwritten, writes}
 use Rattle.low_bytes.specs.Output.{text_fits}
@@ -58,7 +56,7 @@ module _ {checks meets : List ℕ} {tests : List Bool} where
   passed true k next P h = passing k (h refl)
   passed false k next P h = failing k
 
-  answered : (ks ws : List ℕ) (n : ℕ) (o : Out) → Situated checks meets tests (of_out o) → Situated checks meets tests (of_answer (leaves answer.Node answer.Refused ks ws n o).answer)
+  answered : (ks ws : List ℕ) (n : ℕ) (o : Out) → Situated checks meets tests (of_out o) → Situated checks meets tests (of_answer (leaves Ok Err ks ws n o).answer)
   answered ks ws n (done i P) s = s
   answered ks ws n (refused k) s = s
 
@@ -97,8 +95,8 @@ module _ (ks ws : List ℕ) (n : ℕ) (fit : (i : ℕ) → get_or ws i 0 < 2 ^ 6
       asked (leb v greatest_variable) unknown_variable (run P) (λ f. working (h r e))))
 
   -- a call that gives a double
-  valued : {checks meets : List ℕ} {tests : List Bool} (t : Bool) (k : ℕ) (v : Valued) → (t ≡ true → Situated checks meets tests (of_valued v)) → Situated (k ∷ checks) meets (t ∷ tests) (of_valued (demand Valued_as.Refused t k v))
-  valued = demanded of_valued Valued_as.Refused (λ k. refl)
+  valued : {checks meets : List ℕ} {tests : List Bool} (t : Bool) (k : ℕ) (v : Valued) → (t ≡ true → Situated checks meets tests (of_valued v)) → Situated (k ∷ checks) meets (t ∷ tests) (of_valued (demand Err t k v))
+  valued = demanded of_valued Err (λ k. refl)
 
   evaluate_answers : (root : ℕ) (values : List Float) → ByTable table.evaluate (is_pool ks ws n ∷ all_below n (root ∷ []) ∷ leb (length values) most_values ∷ []) (of_valued (evaluate_call ks ws n root values))
   unfolding evaluate_call
@@ -116,8 +114,8 @@ module _ (ks ws : List ℕ) (n : ℕ) (fit : (i : ℕ) → get_or ws i 0 < 2 ^ 6
       divided (all_below n (root ∷ [])) unknown_node _ (λ e.
       divided (are_residues values) wrong_values value (λ f. working ((of_walks P (rules r) root (root_below root [] e)).residues fixed_modulus values))))
     where
-      divided : {checks meets : List ℕ} {tests : List Bool} (t : Bool) (k : ℕ) (v : Divided) → (t ≡ true → Situated checks meets tests (of_divided v)) → Situated (k ∷ checks) meets (t ∷ tests) (of_divided (demand divided_as.Refused t k v))
-      divided = demanded of_divided divided_as.Refused (λ k. refl)
+      divided : {checks meets : List ℕ} {tests : List Bool} (t : Bool) (k : ℕ) (v : Divided) → (t ≡ true → Situated checks meets tests (of_divided v)) → Situated (k ∷ checks) meets (t ∷ tests) (of_divided (demand Err t k v))
+      divided = demanded of_divided Err (λ k. refl)
 
   -- a call that fills an output
   written_to : {checks meets : List ℕ} {tests : List Bool} (out : List ℕ) (t : Bool) (k : ℕ) (p : Put) → (t ≡ true → Situated checks meets tests (of_written p.answer)) → Situated (k ∷ checks) meets (t ∷ tests) (of_written (demand (unwritten out) t k p).answer)

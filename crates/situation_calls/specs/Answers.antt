@@ -1,6 +1,6 @@
 -- What is said of every call: it refuses by the table, and in the table's order.
 -- Assumes nothing.
-use Rattle.std.specs.Prelude.{◌≡◌, Bool, true, false, ◌&&◌, List, [], ◌∷◌, ℕ, zero, suc, leb, ltb, ℤ, length, Float}
+use Rattle.std.specs.Prelude.{◌≡◌, Bool, true, false, ◌&&◌, List, [], ◌∷◌, ℕ, zero, suc, leb, ltb, ℤ, length, Float, Ok, Err}
 use Rattle.literal.specs.Literal.{is_literal}
 use Rattle.pool.specs.Nodes.{all_below, greatest_variable}
 use Rattle.pool.specs.Pool.{Run, is_pool}
@@ -9,10 +9,8 @@ use Rattle.shape.specs.File.{is_sized, are_nodes, is_in_order, read_file}
 use Rattle.taylor.specs.Expansion.{Expansion, coeff, derivative, negate, exponential, logarithm, power, add_to, sub_from, times, quotient, maximum, subst}
 use Rattle.taylor.specs.Expand.{none, point}
 use Rattle.taylor_base.specs.Answers.{terms}
-use Rattle.lent.specs.declared.Answer.{Answer}
-use Rattle.lent.specs.declared.Answer.TheVariants as answer
-use Rattle.lent.specs.declared.Written.{Written}
-use Rattle.lent.specs.declared.Written.TheVariants as written
+use Rattle.lent.specs.Answer.{Answer}
+use Rattle.lent.specs.Answer.{Written}
 use Rattle.lent.specs.Call.{on_pool, given_nodes}
 use Rattle.engine.specs.Build.{lit_work, var_work}
 use Rattle.engine_walk.specs.Walks.{substitute_work, derive_work}
@@ -26,8 +24,7 @@ use Rattle.lent_series.specs.declared.call.Outcome.{Outcome}
 use Rattle.lent_series.specs.Series.{nodes_of, length_ok, given}
 use Rattle.lent_series.specs.Call.{accepted, series_on_pool, given_series, given_two}
 use Rattle.engine_index.specs.Indices.{has_index, given_index}
-use Rattle.engine_given.specs.declared.read.Counted.{Counted}
-use Rattle.engine_given.specs.declared.read.Counted.TheVariants as counted
+use Rattle.engine_given.specs.Read.{Counted}
 use Rattle.engine_given.specs.Variable.{var_call}
 use Rattle.engine_given.specs.Read.{count_of, coefficients_of}
 use Rattle.engine_pairs.specs.Pairs.{agree}
@@ -39,16 +36,16 @@ use Rattle.situation_calls.specs.Table.{Call, checked, met}
 
 -- ---- how an answer of each kind refuses
 abbrev pub of_answer : Answer → Refusal
-of_answer (answer.Node i) = refusal.none
-of_answer (answer.Refused k) = by k
+of_answer (Ok i) = refusal.none
+of_answer (Err k) = by k
 
 abbrev pub of_written : Written → Refusal
-of_written (written.Length m) = refusal.none
-of_written (written.Refused k) = by k
+of_written (Ok m) = refusal.none
+of_written (Err k) = by k
 
 abbrev pub of_counted : Counted → Refusal
-of_counted (counted.Count m) = refusal.none
-of_counted (counted.Refused k) = by k
+of_counted (Ok m) = refusal.none
+of_counted (Err k) = by k
 
 -- beside an expansion stands a number, 0 where there is no refusal
 abbrev pub of_number : ℕ → Refusal

@@ -1,5 +1,6 @@
 -- `derivative` of an expansion meets 12 and 18 alone: the factorial is a literal, made by folding, and so is every product before it; the last product has it on its left.
 -- Assumes nothing.
+use Rattle.std.specs.Prelude.{Ok, Err}
 use mathlib.Core.Path.{◌≡◌, refl, ◌∙◌}
 use mathlib.Core.Logic.{inl, inr}
 use mathlib.Core.Bool.{Bool, true, false, cond}
@@ -8,7 +9,6 @@ use native.Mathlib.Omega.{arith}
 use lib.IntN.{ℤ, pos, ◌*ℤ◌}
 use Rattle.refusals.specs.Refusals.{out_of_range, pool_full}
 use Rattle.literal.specs.Literal.{is_literal, folded}
-use Rattle.literal.specs.declared.Folded.TheVariants.{Value, Refused}
 use Rattle.pool.specs.declared.node.Node.TheVariants.{Lit}
 use Rattle.pool.specs.Pool.{Pool, Out, done, refused, node_at}
 use Rattle.constructors.specs.Build.{literal, build, calls, depth}
@@ -53,7 +53,7 @@ literal_lands : (z : ℤ) (P : Pool) → Long P → LandsOut (literal (folded z)
 unfolding folded
 literal_lands z P l = go (is_literal z) refl
   where
-    go : (t : Bool) → is_literal z ≡ t → LandsOut (literal (cond t (Value z) (Refused out_of_range)) P)
+    go : (t : Bool) → is_literal z ≡ t → LandsOut (literal (cond t (Ok z) (Err out_of_range)) P)
     go true e =
         append_comes_to LandsOut (Lit z) P
         (λ room below. record { long = long_grown (appended_grown (Lit z) P below) l; there = omega arith; number = z; is = appended_there P l below z e })

@@ -1,5 +1,6 @@
 -- Each constructor by itself: `add` meets 12, 14 and 18, `exp` and `log` meet 11, 14 and 18, and `neg`, `div`, `max` and `pow` meet 18 alone.
 -- Assumes nothing.
+use Rattle.std.specs.Prelude.{Ok, Err}
 use mathlib.Core.Path.{◌≡◌, refl, ◌∙◌}
 use mathlib.Core.Logic.{inl, inr}
 use mathlib.Core.Bool.{Bool, true, false, cond}
@@ -11,7 +12,6 @@ use lib.IntN.{ℤ, pos, negsuc, nat_abs, ◌*ℤ◌}
 use borrow.Author.Tests.{leb-true, le-leb}
 use Rattle.refusals.specs.Refusals.{no_exp_or_log, too_deep, pool_full}
 use Rattle.literal.specs.Literal.{greatest, is_literal, is_zero, is_one, folded, exp_of, log_of}
-use Rattle.literal.specs.declared.Folded.TheVariants.{Value, Refused}
 use Rattle.literal.proofs.Sizes.{size_product}
 use Rattle.pool.specs.declared.node.Node.{Node}
 use Rattle.pool.specs.declared.node.Node.TheVariants as node
@@ -174,7 +174,7 @@ exp_of_sum left less P l b a = record { on = go (is_zero b) }
     after Q i m there (done j R) g h = one_times left R i j (earlier_same g i m ∙ there)
     after Q i m there (refused k) g h = h
 
-    go : (t : Bool) → Among of_exp_log (of_out (bind (literal (cond t (Value (pos 1)) (Refused no_exp_or_log)) P) (λ i Q. bind ((calls left).exp_at a Q) (λ j. (calls left).mul_at i j))))
+    go : (t : Bool) → Among of_exp_log (of_out (bind (literal (cond t (Ok (pos 1)) (Err no_exp_or_log)) P) (λ i Q. bind ((calls left).exp_at a Q) (λ j. (calls left).mul_at i j))))
     go true =
         append_comes_to (λ o. Among of_exp_log (of_out (bind o (λ i Q. bind ((calls left).exp_at a Q) (λ j. (calls left).mul_at i j))))) (node.Lit (pos 1)) P
         (λ room below.
@@ -188,7 +188,7 @@ log_of_product : (left : ℕ) → ByExpLog (calls left).log_at → (P : Pool) �
 unfolding build log_of
 log_of_product left less P l b a = record { on = after ((calls left).log_at b P) (((calls_grow left).log_at b).grows P) (less b P l) }
   where
-    go : (i : ℕ) (Q : Pool) → Long Q → (t : Bool) → Among of_exp_log (of_out (bind (literal (cond t (Value (pos 0)) (Refused no_exp_or_log)) Q) (λ j. (calls left).add_at i j)))
+    go : (i : ℕ) (Q : Pool) → Long Q → (t : Bool) → Among of_exp_log (of_out (bind (literal (cond t (Ok (pos 0)) (Err no_exp_or_log)) Q) (λ j. (calls left).add_at i j)))
     go i Q m true =
         append_comes_to (λ o. Among of_exp_log (of_out (bind o (λ j. (calls left).add_at i j)))) (node.Lit (pos 0)) Q
         (λ room below. plus_zero left (appended (node.Lit (pos 0)) Q) i Q.count (appended_there Q m below (pos 0) refl))

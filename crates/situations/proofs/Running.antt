@@ -1,5 +1,6 @@
 -- The machine refuses a strip that it accepts by 15 alone: each key is a node of the table, a literal is in the range, and none is Exp or Log.
 -- Assumes nothing.
+use Rattle.std.specs.Prelude.{Ok, Err}
 use mathlib.Core.Path.{◌≡◌, refl, subst⁻¹}
 use mathlib.Core.Logic.{inl}
 use mathlib.Core.Bool.{Bool, true, false, ◌&&◌, cond, false≢true}
@@ -13,8 +14,7 @@ use borrow.Author.Tests.{ne_eqb}
 use Rattle.refusals.specs.Refusals.{no_value}
 use Rattle.literal.specs.Literal.{is_literal, signed}
 use Rattle.double.specs.Double.{double_of}
-use Rattle.double.specs.declared.Valued.{Valued}
-use Rattle.double.specs.declared.Valued.TheVariants.{Double, Refused}
+use Rattle.double.specs.Double.{Valued}
 use Rattle.low_bytes.specs.LowBytes.{number_at}
 use Rattle.pool.specs.declared.node.Node.{Node}
 use Rattle.pool.specs.declared.node.Node.TheVariants.{Empty, Variable, Lit, Add, Mul, Div, Exp, Log, Pow, Max}
@@ -100,7 +100,7 @@ unfolding double_of
 key_answers values places Empty is may = absurd (false≢true is)
 key_answers values places (Variable v) is may = go (ltb v (length values)) (get_or values v nan)
   where
-    go : (t : Bool) (x : Float) → Among (of_running) (of_valued (cond t (Double x) (Refused no_value)))
+    go : (t : Bool) (x : Float) → Among (of_running) (of_valued (cond t (Ok x) (Err no_value)))
     go true x = tt
     go false x = inl refl
 key_answers values places (Lit z) is may = rw may tt
@@ -128,8 +128,8 @@ keys_answer values places d (key ∷ more) is (may, rest) =
   where
     go : (v : Valued) → Among (of_running) (of_valued v) → ((x : Float) → Among (of_running) (of_valued (run_from values (x ∷ drop (taken key) places) more)))
         → Among (of_running) (of_valued (one v (λ x. run_from values (x ∷ drop (taken key) places) more)))
-    go (Double x) h then = then x
-    go (Refused k) h then = h
+    go (Ok x) h then = then x
+    go (Err k) h then = h
 
 pub of_strips : (bs : List ℕ) → is_strip bs ≡ true → OfStrips bs
 of_strips bs is = record { running = λ values. keys_answer values [] 0 (keys_of bs) is (keys_may_run (length bs) bs) }

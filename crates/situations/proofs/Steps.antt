@@ -1,5 +1,6 @@
 -- Pieces of work and the numbers by which they refuse: appending by 18, folding by 12, `exp` and `log` of a literal by 11, and one piece after another by those of both.
 -- Assumes nothing.
+use Rattle.std.specs.Prelude.{Ok, Err}
 use mathlib.Core.Path.{◌≡◌}
 use mathlib.Core.Bool.{Bool, true, false, cond}
 use mathlib.Core.List.{List}
@@ -7,7 +8,6 @@ use Prim.Native.Nat.{ℕ}
 use lib.IntN.{ℤ}
 use Rattle.refusals.specs.Refusals.{no_exp_or_log, out_of_range, exponent_too_large, pool_full}
 use Rattle.literal.specs.Literal.{is_literal, is_zero, is_one, folded, exp_of, log_of}
-use Rattle.literal.specs.declared.Folded.TheVariants.{Value, Refused}
 use Rattle.pool.specs.declared.node.Node.{Node}
 use Rattle.pool.specs.declared.node.Node.TheVariants as node
 use Rattle.pool.specs.Pool.{Pool, Out, done, refused, Run, bind, yield, refuse, append}
@@ -45,7 +45,7 @@ module _ {ks : List ℕ} where
     append_refuses n = record { refuses = λ P. append_comes_to (λ o. Among ks (of_out o)) n P (λ room below. tt) full }
 
     -- a literal that is folded, or taken from the table of `exp` or `log`
-    picked : (k : ℕ) → OneOf ks k → (t : Bool) (z : ℤ) → Refusing ks (literal (cond t (Value z) (Refused k)))
+    picked : (k : ℕ) → OneOf ks k → (t : Bool) (z : ℤ) → Refusing ks (literal (cond t (Ok z) (Err k)))
     picked k h true z = append_refuses (node.Lit z)
     picked k h false z = refuse_refuses k h
 

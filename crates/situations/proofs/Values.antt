@@ -1,5 +1,6 @@
 -- Evaluation of a node that stands in a pool by the rules refuses by 15 and 16 only, by residues by 17 too: so it is at each kind of node.
 -- Assumes nothing.
+use Rattle.std.specs.Prelude.{Ok, Err}
 use mathlib.Core.Path.{◌≡◌, refl, sym, ◌∙◌, subst⁻¹}
 use mathlib.Core.Logic.{inl, inr}
 use mathlib.Core.Bool.{Bool, true, false, cond}
@@ -14,12 +15,10 @@ use lib.IntN.{ℤ}
 use Rattle.refusals.specs.Refusals.{broken_pool}
 use Rattle.literal.specs.Literal.{is_literal}
 use Rattle.double.specs.Double.{double_of}
-use Rattle.double.specs.declared.Valued.{Valued}
-use Rattle.double.specs.declared.Valued.TheVariants as valued
+use Rattle.double.specs.Double.{Valued}
 use Rattle.residue.specs.Residue.{first_below, divides_to, provided, quotient_of, product_of}
 use Rattle.residue.specs.Residue as residues
-use Rattle.residue.specs.declared.Divided.{Divided}
-use Rattle.residue.specs.declared.Divided.TheVariants as divided
+use Rattle.residue.specs.Residue.{Divided}
 use Rattle.pool.specs.Nodes.{parts}
 use Rattle.pool.specs.Pool.{Pool, node_at}
 use Rattle.pool.specs.declared.node.Node.{Node}
@@ -71,13 +70,13 @@ record Fine (x : Valued) : Type 0 where
   only : Among of_evaluation (of_valued x)
 
 one_fine : (x : Valued) {next : Float → Valued} → Fine x → ((a : Float) → Fine (next a)) → Fine (doubles.one x next)
-one_fine (valued.Double a) f g = g a
-one_fine (valued.Refused k) f g = f
+one_fine (Ok a) f g = g a
+one_fine (Err k) f g = f
 
 both_fine : (x y : Valued) {next : Float → Float → Valued} → Fine x → Fine y → ((a b : Float) → Fine (next a b)) → Fine (doubles.both x y next)
 both_fine x y f g h = one_fine x f (λ a. one_fine y g (λ b. h a b))
 
-variable_fine : (t : Bool) (a : Float) → Fine (cond t (valued.Double a) (valued.Refused 15))
+variable_fine : (t : Bool) (a : Float) → Fine (cond t (Ok a) (Err 15))
 variable_fine true a = record { only = tt }
 variable_fine false a = record { only = inl refl }
 
@@ -99,20 +98,20 @@ module _ (values : List Float) (down : ℕ → Valued) where
   double_fine (Max a b) v h = both_fine (down a) (down b) (left a (b ∷ []) h) (right a b h) (λ x y. record { only = tt })
 
 pub evaluation_refuses : (P : Pool) → KeepsRules P → (root : ℕ) → root < P.count → (values : List Float) → Among of_evaluation (of_valued (evaluate (node_at P) values root))
-evaluation_refuses P k root l values = (everywhere (valued.Refused broken_pool) (evaluate_node values) Fine (λ down i. double_fine values down) k root l).only
+evaluation_refuses P k root l values = (everywhere (Err broken_pool) (evaluate_node values) Fine (λ down i. double_fine values down) k root l).only
 
 -- ---- residues
 record Whole (x : Divided) : Type 0 where
   only : Among of_residues (of_divided x)
 
 one_whole : (x : Divided) {next : ℕ → Divided} → Whole x → ((a : ℕ) → Whole (next a)) → Whole (whole.one x next)
-one_whole (divided.Residue a) f g = g a
-one_whole (divided.Refused k) f g = f
+one_whole (Ok a) f g = g a
+one_whole (Err k) f g = f
 
 both_whole : (x y : Divided) {next : ℕ → ℕ → Divided} → Whole x → Whole y → ((a b : ℕ) → Whole (next a b)) → Whole (whole.both x y next)
 both_whole x y f g h = one_whole x f (λ a. one_whole y g (λ b. h a b))
 
-variable_whole : (t : Bool) (a : ℕ) → Whole (cond t (divided.Residue a) (divided.Refused 15))
+variable_whole : (t : Bool) (a : ℕ) → Whole (cond t (Ok a) (Err 15))
 variable_whole true a = record { only = tt }
 variable_whole false a = record { only = inl refl }
 
@@ -122,18 +121,18 @@ unfolding first_below
 first_whole zero passes = record { only = inr (inr (inl refl)) }
 first_whole (suc n) passes = go (first_below n passes) (passes n)
   where
-    go : (x : Divided) (t : Bool) → Whole (residues.or_else x (cond t (divided.Residue n) (divided.Refused 17)))
-    go (divided.Residue q) t = record { only = tt }
-    go (divided.Refused k) true = record { only = tt }
-    go (divided.Refused k) false = record { only = inr (inr (inl refl)) }
+    go : (x : Divided) (t : Bool) → Whole (residues.or_else x (cond t (Ok n) (Err 17)))
+    go (Ok q) t = record { only = tt }
+    go (Err k) true = record { only = tt }
+    go (Err k) false = record { only = inr (inr (inl refl)) }
 
 quotient_whole : (m a d : ℕ) → Whole (quotient_of m a d)
 unfolding quotient_of
 quotient_whole m a d = go (divides_to m 1 d) (divides_to m a d) (first_whole m (λ q. eqb (product_of m q d) 1)) (first_whole m (λ q. eqb (product_of m q d) a))
   where
     go : (x y : Divided) → Whole x → Whole y → Whole (provided x y)
-    go (divided.Residue q) y f g = g
-    go (divided.Refused k) y f g = f
+    go (Ok q) y f g = g
+    go (Err k) y f g = f
 
 module _ (m : ℕ) (values : List ℕ) (down : ℕ → Divided) where
   residue_whole : (n : Node) → Valid n → All (λ a. Whole (down a)) (parts n) → Whole (residue_node m values down n)
@@ -149,4 +148,4 @@ module _ (m : ℕ) (values : List ℕ) (down : ℕ → Divided) where
   residue_whole (Max a b) v h = both_whole (down a) (down b) (left a (b ∷ []) h) (right a b h) (λ x y. record { only = inr (inl refl) })
 
 pub residues_refuse : (P : Pool) → KeepsRules P → (root : ℕ) → root < P.count → (m : ℕ) (values : List ℕ) → Among of_residues (of_divided (evaluate_residue m (node_at P) values root))
-residues_refuse P k root l m values = (everywhere (divided.Refused broken_pool) (residue_node m values) Whole (λ down i. residue_whole m values down) k root l).only
+residues_refuse P k root l m values = (everywhere (Err broken_pool) (residue_node m values) Whole (λ down i. residue_whole m values down) k root l).only

@@ -1,10 +1,8 @@
 -- By which numbers an answer refuses, the same for all kinds of answers.
 -- Assumes nothing.
-use Rattle.std.specs.Prelude.{◌≡◌, ◌⊎◌, List, [], ◌∷◌, ℕ}
-use Rattle.double.specs.declared.Valued.{Valued}
-use Rattle.double.specs.declared.Valued.TheVariants as valued
-use Rattle.residue.specs.declared.Divided.{Divided}
-use Rattle.residue.specs.declared.Divided.TheVariants as divided
+use Rattle.std.specs.Prelude.{◌≡◌, ◌⊎◌, List, [], ◌∷◌, ℕ, Ok, Err}
+use Rattle.double.specs.Double.{Valued}
+use Rattle.residue.specs.Residue.{Divided}
 use Rattle.pool.specs.Pool.{Out, done, refused}
 use Rattle.taylor.specs.Work.{Result}
 
@@ -32,9 +30,9 @@ of_result (done x P) = none
 of_result (refused k) = by k
 
 abbrev pub of_valued : Valued → Refusal
-of_valued (valued.Double x) = none
-of_valued (valued.Refused k) = by k
+of_valued (Ok x) = none
+of_valued (Err k) = by k
 
 abbrev pub of_divided : Divided → Refusal
-of_divided (divided.Residue x) = none
-of_divided (divided.Refused k) = by k
+of_divided (Ok x) = none
+of_divided (Err k) = by k

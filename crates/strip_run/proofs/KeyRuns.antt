@@ -1,5 +1,6 @@
 -- The run of one key in the code gives what the definition gives: the value of the key as a node, put where its parts stood.
 -- Assumes nothing.
+use Rattle.std.specs.Prelude.{Ok, Err}
 use mathlib.Core.Path.{◌≡◌, refl, sym, ap, ap₂, ◌∙◌}
 use mathlib.Core.Bool.{Bool, true, false, false≢true}
 use mathlib.Core.List.{List, ◌∷◌}
@@ -12,8 +13,7 @@ use borrow.Author.Tests.{leb-true, leb-false, ltb-true, ltb-false, eqb-true, eqb
 use Rattle.low_bytes.specs.LowBytes.{number_at, AreBytes}
 use Rattle.literal.specs.Literal.{is_literal, signed}
 use Rattle.double.specs.Double.{double_of, pow_of}
-use Rattle.double.specs.declared.Valued.{Valued}
-use Rattle.double.specs.declared.Valued.TheVariants.{Double, Refused}
+use Rattle.double.specs.Double.{Valued}
 use Rattle.pool.specs.Nodes.{decode, is_node, least_exponent}
 use Rattle.pool.specs.declared.node.Node.{Node}
 use Rattle.pool.specs.declared.node.Node.TheVariants.{Empty, Variable, Lit, Add, Mul, Div, Pow, Max}
@@ -86,7 +86,7 @@ module _ {s : List ℕ} {values held : List Float} {at d : ℕ} {top below : Flo
     ran : at < next → next ≤ length s → (found : Valued) → found ≡ evaluate_node values (in_place (in_use top below held d)) key
         → (held' : List Float) (below' : Float) (d' : ℕ) → length held' ≡ most_places → d' ≡ d - taken key + 1 → ((x : Float) → in_use x below' held' d' ≡ x ∷ drop (taken key) (in_use top below held d))
         → RanWith s values at held' below' next d' found
-    ran later within (Double x) e held' below' d' long after put = (
+    ran later within (Ok x) e held' below' d' long after put = (
       later,
       record {
         within = within;
@@ -99,7 +99,7 @@ module _ {s : List ℕ} {values held : List Float} {at d : ℕ} {top below : Flo
             ∙ ap (λ ps. run_from values ps (keys_of (drop next s))) (sym (put x));
       },
     )
-    ran later within (Refused k) e held' below' d' long after put =
+    ran later within (Err k) e held' below' d' long after put =
         key_runs ∙ ap (λ v. one v (λ y. run_from values (y ∷ drop (taken key) (in_use top below held d)) (keys_of (drop next s)))) (sym e)
 
     no_key_runs : is_node key ≡ false → ⊥
@@ -195,11 +195,11 @@ module _ {s : List ℕ} {values held : List Float} {at d : ℕ} {top below : Flo
           go true e = absurd (no_key_runs Empty (at + 1 + 4) (raised_as Empty (no_power_key (number_at 4 s (at + 1)) (ltb-true (number_at 4 s (at + 1)) least_exponent e))) refl)
           go false e = raised_as (Pow 0 (number_at 4 s (at + 1))) (power_key (number_at 4 s (at + 1)) (ltb-false (number_at 4 s (at + 1)) least_exponent e))
 
-      pub power_ran : {x : ℕ} → x ≡ number_at 4 s (at + 1) → {y : Float} → y ≡ pow_of top x → RanWith s values at held below (at + 1 + 4) d (Double y)
+      pub power_ran : {x : ℕ} → x ≡ number_at 4 s (at + 1) → {y : Float} → y ≡ pow_of top x → RanWith s values at held below (at + 1 + 4) d (Ok y)
       power_ran {x} read {y} e =
           let some : 1 ≤ d = enough_there d (Pow 0 (number_at 4 s (at + 1))) (keys_of (drop (at + 1 + 4) s)) (tested (Pow 0 (number_at 4 s (at + 1))) (at + 1 + 4) power_first) in
-          ran (Pow 0 (number_at 4 s (at + 1))) (at + 1 + 4) power_first (omega arith) exponent_there (Double y)
-          (ap Double (e ∙ ap₂ pow_of (sym (topmost top below held d some)) read))
+          ran (Pow 0 (number_at 4 s (at + 1))) (at + 1 + 4) power_first (omega arith) exponent_there (Ok y)
+          (ap Ok (e ∙ ap₂ pow_of (sym (topmost top below held d some)) read))
           held below d t.long (omega arith) (one_replaced top below held d some)
 
     unknown_ran : (get_or s at 0 ≡ 1 → ⊥) → (get_or s at 0 ≡ 2 → ⊥) → (get_or s at 0 ≡ 8 → ⊥) → (get_or s at 0 ≡ 3 → ⊥) → (get_or s at 0 ≡ 4 → ⊥) → (get_or s at 0 ≡ 5 → ⊥) → (get_or s at 0 ≡ 9 → ⊥) → ⊥
@@ -225,15 +225,15 @@ pub ran_as : (s : List ℕ) (values : List Float) (at : ℕ) {held held' : List 
     → Gives r found below next d → held' ≡ held → RanWith s values at held below next d found → RanTo s values at held' r
 ran_as s values at g h ran = rw (g.finds, g.leaves, g.goes_to, g.uses, h) ran
 
-pub went_on : (s : List ℕ) (values : List Float) (at : ℕ) {held : List Float} {r : Moved} {x : Float} → RanTo s values at held r → r.found ≡ Double x
+pub went_on : (s : List ℕ) (values : List Float) (at : ℕ) {held : List Float} {r : Moved} {x : Float} → RanTo s values at held r → r.found ≡ Ok x
     → (at < r.next) × Running s values held r.next r.depth x r.below
 went_on s values at h e = rw e at h
 
-pub stopped_at : (s : List ℕ) (values : List Float) (at : ℕ) (held : List Float) (r : Moved) {k : ℕ} → RanTo s values at held r → r.found ≡ Refused k → r.found ≡ run_strip values s
+pub stopped_at : (s : List ℕ) (values : List Float) (at : ℕ) (held : List Float) (r : Moved) {k : ℕ} → RanTo s values at held r → r.found ≡ Err k → r.found ≡ run_strip values s
 stopped_at s values at held r h e = e ∙ sym (rw e at h)
 
-pub all_run : {s : List ℕ} {values held : List Float} {at d : ℕ} {top below : Float} → Running s values held at d top below → length s ≤ at → Double top ≡ run_strip values s
+pub all_run : {s : List ℕ} {values held : List Float} {at d : ℕ} {top below : Float} → Running s values held at d top below → length s ≤ at → Ok top ≡ run_strip values s
 unfolding accepts run_from keys_within
 all_run {s} {values} {held} {at} {d} {top} {below} t l =
     let one_left : d ≡ 1 = eqb-true d 1 (sym (ap (λ bs. accepts d (keys_of bs)) (drop_of_length-le s l)) ∙ t.takes) in
-    ap Double (sym (topmost top below held d (omega arith))) ∙ sym (t.so_far ∙ ap (λ bs. run_from values (in_use top below held d) (keys_of bs)) (drop_of_length-le s l))
+    ap Ok (sym (topmost top below held d (omega arith))) ∙ sym (t.so_far ∙ ap (λ bs. run_from values (in_use top below held d) (keys_of bs)) (drop_of_length-le s l))

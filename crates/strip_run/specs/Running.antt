@@ -1,8 +1,7 @@
 -- How far the run of a strip has come: what is left, with the values in places, gives what the whole strip gives.
 -- Assumes nothing.
-use Rattle.std.specs.Prelude.{◌≡◌, true, List, ℕ, ◌<◌, ◌≤◌, Float, length, drop}
-use Rattle.double.specs.declared.Valued.{Valued}
-use Rattle.double.specs.declared.Valued.TheVariants.{Double, Refused}
+use Rattle.std.specs.Prelude.{◌≡◌, true, List, ℕ, ◌<◌, ◌≤◌, Float, length, drop, Ok, Err}
+use Rattle.double.specs.Double.{Valued}
 use Rattle.key_strip.specs.Strip.{most_places}
 use Rattle.key_strip.specs.Machine.{keys_of, accepts, run_from, run_strip}
 use Rattle.strip_run.specs.Held.{in_use}
@@ -17,8 +16,8 @@ pub record Running (s : List ℕ) (values held : List Float) (at d : ℕ) (top b
 
 -- a key gave this: the run goes on after it, or ends with the refusal
 abbrev pub RanWith : List ℕ → List Float → ℕ → List Float → Float → ℕ → ℕ → Valued → Type 0
-RanWith s values at held below next d (Double x) = (at < next) × Running s values held next d x below
-RanWith s values at held below next d (Refused k) = run_strip values s ≡ Refused k
+RanWith s values at held below next d (Ok x) = (at < next) × Running s values held next d x below
+RanWith s values at held below next d (Err k) = run_strip values s ≡ Err k
 
 abbrev pub RanTo : List ℕ → List Float → ℕ → List Float → Moved → Type 0
 RanTo s values at held r = RanWith s values at held r.below r.next r.depth r.found

@@ -1,5 +1,6 @@
 -- The source's fold makes the literals of the factorials: i - 1 factors are multiplied up to the literal (i - 1)!, so the product with i is i!.
 -- Assumes nothing.
+use Rattle.std.specs.Prelude.{Ok, Err}
 use mathlib.Core.Bool.{Bool, true, false, cond}
 use mathlib.Core.Path.{◌≡◌, refl, sym, ap, ◌∙◌}
 use mathlib.Core.Logic.{◌≢◌}
@@ -14,7 +15,6 @@ use lib.Seq.{get_or-set_same}
 use borrow.Author.Tests.{lt-ltb, le-leb, lt-leb, ne_eqb}
 use Rattle.factorial.specs.Factorial.{factorial_of}
 use Rattle.literal.specs.Literal.{is_literal, folded}
-use Rattle.literal.specs.declared.Folded.TheVariants as as_folded
 use Rattle.refusals.specs.Refusals.{out_of_range}
 use Rattle.pool.specs.declared.node.Node.{Node}
 use Rattle.pool.specs.declared.node.Node.TheVariants.{Lit}
@@ -101,7 +101,7 @@ module _ (z : ℤ) (P : Pool) (long : Long P) where
   unfolding folded
   lit_made = go (is_literal z) refl
     where
-      go : (t : Bool) → is_literal z ≡ t → After (Made_after P z) (literal (cond t (as_folded.Value z) (as_folded.Refused out_of_range)) P)
+      go : (t : Bool) → is_literal z ≡ t → After (Made_after P z) (literal (cond t (Ok z) (Err out_of_range)) P)
       go true e = append_comes_to (λ (o : Out). After (Made_after P z) o) (Lit z) P (λ room below. is_made e below) tt
       go false e = tt
 

@@ -2,10 +2,10 @@
 #![tactic(auto)]
 
 ghost use Rattle.std.specs.Prelude.{◌≡◌};
-ghost use Rattle.pool.specs.Pool.{node_in};
+ghost use Rattle.pool.specs.Pool.{node_at};
 ghost use Rattle.views.specs.Shapes.{shape_of};
 
-use pool::{LIMIT, Node};
+use pool::{Node, Pool};
 
 // A node as the rules see it: five kinds matter to them.
 #[derive(Clone, Copy)]
@@ -35,8 +35,8 @@ pub fn shape_of(node: Node) -> Shape
     }
 }
 
-pub fn shape_at(kinds: &[u8; LIMIT], words: &[u64; LIMIT], i: u32) -> Shape
-    ensures { result ≡ shape_of (node_in kinds.now words.now i) }
+pub fn shape_at(pool: &Pool, i: u32) -> Shape
+    ensures { result ≡ shape_of (node_at pool.now i) }
 {
-    shape_of(pool::node_at(kinds, words, i))
+    shape_of(pool.node(i))
 }

@@ -1,16 +1,16 @@
 -- `engine_file::read` meets its contract: the pool is looked at first, then the file is read into the copies.
 -- Assumes nothing.
+use Rattle.std.specs.Prelude.{Ok, Err}
 use native.Mathlib.Omega.{arith}
 use Rattle.pool.specs.Pool.{limit}
 use Rattle.shape.specs.File.{read_file}
-use Rattle.lent.specs.declared.Answer.TheVariants.{Node, Refused}
 use Rattle.lent.proofs.Calling.{broken, sizes, on_lent, may_finish, worked}
 use Rattle.engine_file.proofs.Growing.{reading_grows}
 use Rattle.engine_file.proofs.read.Goals as goal
 
 pub returns-then-not-take_in : goal.returns-then-not-take_in
 returns-then-not-take_in c =
-    broken c.take_in.ensures Node Refused limit (read_file c.args.file.now) (c.if-not-take_in.true)
+    broken c.take_in.ensures Ok Err limit (read_file c.args.file.now) (c.if-not-take_in.true)
 
 pub overflow_cast-n : goal.overflow_cast-n
 overflow_cast-n c = record { fits = omega (arith, (sizes c.take_in.ensures (c.if-not-take_in.false)).small) }
@@ -32,5 +32,5 @@ returns c =
     let taken = c.take_in.ensures in
     let pool_taken = c.if-not-take_in.false in
     let file = c.args.file.now in
-    worked taken pool_taken Node Refused limit (read_file file) c.finish.ensures
+    worked taken pool_taken Ok Err limit (read_file file) c.finish.ensures
     (on_lent taken pool_taken (read_file file) c.room_between-room.ensures c.read_file-made.ensures)

@@ -1,5 +1,6 @@
 -- `engine_index::on_index` meets its contract: the pool, the numbers, the length and the index are looked at first, then the work is done on the copies.
 -- Assumes nothing.
+use Rattle.std.specs.Prelude.{Ok, Err}
 use borrow.Author.Rules.{rules}
 use mathlib.Core.Path.{◌≡◌, ap, ◌∙◌}
 use native.Mathlib.Omega.{arith}
@@ -8,7 +9,6 @@ use Rattle.refusals.specs.Refusals.{unknown_node, wrong_order}
 use Rattle.pool.specs.Pool.{limit}
 use Rattle.taylor_base.specs.Answers.{terms}
 use Rattle.taylor_base.proofs.Lists.{tidy_given}
-use Rattle.lent.specs.declared.Answer.TheVariants.{Node, Refused}
 use Rattle.lent.proofs.Calling.{test_fails, test_holds, met, broken, demanded, sizes, on_lent, may_finish, worked}
 use Rattle.lent_series.specs.Series.{given}
 use Rattle.lent_series.proofs.Numbers.{usable}
@@ -23,17 +23,17 @@ long c = search rules
 
 pub returns-then-not-take_in : goal.returns-then-not-take_in
 returns-then-not-take_in c =
-    broken c.take_in.ensures Node Refused limit (on_index c.args.op c.args.s c.args.index) (c.if-not-take_in.true)
+    broken c.take_in.ensures Ok Err limit (on_index c.args.op c.args.s c.args.index) (c.if-not-take_in.true)
 
 pub returns-then-not-nodes_below : goal.returns-then-not-nodes_below
 returns-then-not-nodes_below c =
-    demanded c.take_in.ensures (c.if-not-take_in.false) Node Refused limit (on_index c.args.op c.args.s c.args.index)
+    demanded c.take_in.ensures (c.if-not-take_in.false) Ok Err limit (on_index c.args.op c.args.s c.args.index)
     (rw (test_fails c.nodes_below.ensures c.if-not-nodes_below.true))
 
 pub returns-then-not-index_fits : goal.returns-then-not-index_fits
 returns-then-not-index_fits c =
     let below = test_holds c.nodes_below.ensures c.if-not-nodes_below.false in
-    demanded c.take_in.ensures (c.if-not-take_in.false) Node Refused limit (on_index c.args.op c.args.s c.args.index)
+    demanded c.take_in.ensures (c.if-not-take_in.false) Ok Err limit (on_index c.args.op c.args.s c.args.index)
     (rw (below, test_fails c.index_fits.ensures c.if-not-index_fits.true))
 
 pub overflow_cast-n : goal.overflow_cast-n
@@ -71,5 +71,5 @@ returns c =
     let has_index_lem = test_holds c.index_fits.ensures c.if-not-index_fits.false in
     let is = on_lent taken pool_taken (indexed_work c.args.op (given c.args.s) c.args.index) c.room_between-room.ensures
     (rw c.expansion_of-e.ensures.is at c.indexed_in-made.ensures) in
-    worked taken pool_taken Node Refused limit (on_index c.args.op c.args.s c.args.index) c.finish.ensures
+    worked taken pool_taken Ok Err limit (on_index c.args.op c.args.s c.args.index) c.finish.ensures
     (is ∙ met wrong_order has_index_lem ∙ met unknown_node below)

@@ -1,5 +1,6 @@
 -- `engine_walk::derive` meets its contract: the pool, the numbers and the variable are looked at first, then the walk works on the copies.
 -- Assumes nothing.
+use Rattle.std.specs.Prelude.{Ok, Err}
 use mathlib.Core.Path.{◌∙◌}
 use native.Mathlib.Omega.{arith}
 use borrow.Author.Tests.{leb-true}
@@ -7,7 +8,6 @@ use Rattle.refusals.specs.Refusals.{unknown_node, unknown_variable}
 use Rattle.pool.specs.Nodes.{greatest_variable}
 use Rattle.pool.specs.Pool.{limit}
 use Rattle.walk_laws.proofs.Derivation.{derive_grows}
-use Rattle.lent.specs.declared.Answer.TheVariants.{Node, Refused}
 use Rattle.lent.proofs.Calling.{test_fails, test_holds, met, broken, demanded, sizes, one_fits, on_lent, may_finish, worked}
 use Rattle.walks.specs.Derive.{derive}
 use Rattle.engine_walk.specs.Walks.{derive_work}
@@ -15,17 +15,17 @@ use Rattle.engine_walk.proofs.derive.Goals as goal
 
 pub returns-then-not-take_in : goal.returns-then-not-take_in
 returns-then-not-take_in c =
-    broken c.take_in.ensures Node Refused limit (derive_work c.args.root c.args.var) (c.if-not-take_in.true)
+    broken c.take_in.ensures Ok Err limit (derive_work c.args.root c.args.var) (c.if-not-take_in.true)
 
 pub returns-then-not-one_given : goal.returns-then-not-one_given
 returns-then-not-one_given c =
-    demanded c.take_in.ensures (c.if-not-take_in.false) Node Refused limit (derive_work c.args.root c.args.var)
+    demanded c.take_in.ensures (c.if-not-take_in.false) Ok Err limit (derive_work c.args.root c.args.var)
     (rw (test_fails c.one_given.ensures c.if-not-one_given.true))
 
 pub returns-then-not-is_variable : goal.returns-then-not-is_variable
 returns-then-not-is_variable c =
     let below = test_holds c.one_given.ensures c.if-not-one_given.false in
-    demanded c.take_in.ensures (c.if-not-take_in.false) Node Refused limit (derive_work c.args.root c.args.var)
+    demanded c.take_in.ensures (c.if-not-take_in.false) Ok Err limit (derive_work c.args.root c.args.var)
     (rw (below, test_fails c.is_variable.ensures c.if-not-is_variable.true))
 
 pub overflow_cast-n : goal.overflow_cast-n
@@ -54,6 +54,6 @@ returns c =
     let pool_taken = c.if-not-take_in.false in
     let below = test_holds c.one_given.ensures c.if-not-one_given.false in
     let variable = test_holds c.is_variable.ensures c.if-not-is_variable.false in
-    worked taken pool_taken Node Refused limit (derive_work c.args.root c.args.var) c.finish.ensures
+    worked taken pool_taken Ok Err limit (derive_work c.args.root c.args.var) c.finish.ensures
     (on_lent taken pool_taken (derive c.args.root c.args.var) c.room_between-room.ensures c.derive_in-made.ensures ∙ met unknown_variable variable
     ∙ met unknown_node below)

@@ -1,5 +1,6 @@
 -- `engine_walk::substitute_var` meets its contract: the pool, the numbers and the variable are looked at first, then the walk works on the copies.
 -- Assumes nothing.
+use Rattle.std.specs.Prelude.{Ok, Err}
 use mathlib.Core.Path.{◌∙◌}
 use native.Mathlib.Omega.{arith}
 use borrow.Author.Tests.{leb-true}
@@ -7,7 +8,6 @@ use Rattle.refusals.specs.Refusals.{unknown_node, unknown_variable}
 use Rattle.pool.specs.Nodes.{greatest_variable}
 use Rattle.pool.specs.Pool.{limit}
 use Rattle.walk_laws.proofs.Substitution.{substitute_grows}
-use Rattle.lent.specs.declared.Answer.TheVariants.{Node, Refused}
 use Rattle.lent.proofs.Calling.{test_fails, test_holds, met, broken, demanded, sizes, both_fit, on_lent, may_finish, worked}
 use Rattle.walks.specs.Substitute.{substitute_var}
 use Rattle.engine_walk.specs.Walks.{substitute_work}
@@ -15,17 +15,17 @@ use Rattle.engine_walk.proofs.substitute_var.Goals as goal
 
 pub returns-then-not-take_in : goal.returns-then-not-take_in
 returns-then-not-take_in c =
-    broken c.take_in.ensures Node Refused limit (substitute_work c.args.root c.args.var c.args.value) (c.if-not-take_in.true)
+    broken c.take_in.ensures Ok Err limit (substitute_work c.args.root c.args.var c.args.value) (c.if-not-take_in.true)
 
 pub returns-then-not-both_given : goal.returns-then-not-both_given
 returns-then-not-both_given c =
-    demanded c.take_in.ensures (c.if-not-take_in.false) Node Refused limit (substitute_work c.args.root c.args.var c.args.value)
+    demanded c.take_in.ensures (c.if-not-take_in.false) Ok Err limit (substitute_work c.args.root c.args.var c.args.value)
     (rw (test_fails c.both_given.ensures c.if-not-both_given.true))
 
 pub returns-then-not-is_variable : goal.returns-then-not-is_variable
 returns-then-not-is_variable c =
     let below = test_holds c.both_given.ensures c.if-not-both_given.false in
-    demanded c.take_in.ensures (c.if-not-take_in.false) Node Refused limit (substitute_work c.args.root c.args.var c.args.value)
+    demanded c.take_in.ensures (c.if-not-take_in.false) Ok Err limit (substitute_work c.args.root c.args.var c.args.value)
     (rw (below, test_fails c.is_variable.ensures c.if-not-is_variable.true))
 
 pub overflow_cast-n : goal.overflow_cast-n
@@ -59,6 +59,6 @@ returns c =
     let pool_taken = c.if-not-take_in.false in
     let below = test_holds c.both_given.ensures c.if-not-both_given.false in
     let variable = test_holds c.is_variable.ensures c.if-not-is_variable.false in
-    worked taken pool_taken Node Refused limit (substitute_work c.args.root c.args.var c.args.value) c.finish.ensures
+    worked taken pool_taken Ok Err limit (substitute_work c.args.root c.args.var c.args.value) c.finish.ensures
     (on_lent taken pool_taken (substitute_var c.args.root c.args.var c.args.value) c.room_between-room.ensures c.substitute_in-made.ensures ∙ met
     unknown_variable variable ∙ met unknown_node below)

@@ -1,12 +1,12 @@
 -- `evaluate::joined` meets its contract: arm by arm, what is done with the doubles in the table is what the definition does.
 -- Assumes nothing.
+use Rattle.std.specs.Prelude.{Ok}
 use borrow.Author.Rules.{rules}
 use mathlib.Core.Path.{refl, ap, ◌∙◌}
 use mathlib.Core.List.Memᴰ
 use mir.Syntax.{w64}
 use mir.ValLaws.{to_z-of_z}
 use Rattle.double.specs.Double.{double_of}
-use Rattle.double.specs.declared.Valued.TheVariants.{Double}
 use Rattle.evaluate.proofs.Parts.{part_below}
 use Rattle.evaluate.proofs.joined.Goals as goal
 
@@ -64,7 +64,7 @@ pub returns-in-Log : goal.returns-in-Log
 returns-in-Log c = rw c.in-Log.is
 
 pub returns-in-Pow : goal.returns-in-Pow
-returns-in-Pow c = rw c.in-Pow.is (ap Double c.pow.ensures)
+returns-in-Pow c = rw c.in-Pow.is (ap Ok c.pow.ensures)
 
 pub returns-in-Max : goal.returns-in-Max
 returns-in-Max c = rw c.in-Max.is c.apply_kept-in-Max.ensures

@@ -1,12 +1,12 @@
 -- `evaluate_residue::joined` meets its contract: the parts that an arm reads are kept, and each arm is the definition's of the node that it names.
 -- Assumes nothing.
+use Rattle.std.specs.Prelude.{Ok}
 use borrow.Author.Rules.{rules}
 use mathlib.Core.Path.{refl, ap, ◌∙◌}
 use native.Mathlib.Omega.{arith}
 use mir.Syntax.{w64}
 use mir.ValLaws.{to_z-of_z}
 use Rattle.residue.specs.Residue.{residue}
-use Rattle.residue.specs.declared.Divided.TheVariants.{Residue}
 use Rattle.evaluate_residue.specs.Keeps.{kept_of}
 use Rattle.evaluate_residue.proofs.Walk.{of_the_arm, ready_at}
 use Rattle.evaluate_residue.proofs.joined.Goals as goal
@@ -60,10 +60,10 @@ returns-in-Variable c = of_the_arm _ _ (kept_of c.args.kept.now) c.in-Variable.i
 pub returns-in-Lit : goal.returns-in-Lit
 returns-in-Lit c =
     let same = to_z-of_z w64 _ (search rules) in
-    of_the_arm _ _ (kept_of c.args.kept.now) c.in-Lit.is (ap Residue (c.residue_of.ensures ∙ ap (residue c.args.m) same))
+    of_the_arm _ _ (kept_of c.args.kept.now) c.in-Lit.is (ap Ok (c.residue_of.ensures ∙ ap (residue c.args.m) same))
 
 pub returns-in-Add : goal.returns-in-Add
-returns-in-Add c = of_the_arm _ _ (kept_of c.args.kept.now) c.in-Add.is (ap Residue c.sum.ensures)
+returns-in-Add c = of_the_arm _ _ (kept_of c.args.kept.now) c.in-Add.is (ap Ok c.sum.ensures)
 
 pub returns-in-Mul : goal.returns-in-Mul
 returns-in-Mul c = of_the_arm _ _ (kept_of c.args.kept.now) c.in-Mul.is (search rules)
@@ -78,7 +78,7 @@ pub returns-in-Log : goal.returns-in-Log
 returns-in-Log c = of_the_arm _ _ (kept_of c.args.kept.now) c.in-Log.is refl
 
 pub returns-in-Pow : goal.returns-in-Pow
-returns-in-Pow c = of_the_arm _ _ (kept_of c.args.kept.now) c.in-Pow.is (ap Residue c.power.ensures)
+returns-in-Pow c = of_the_arm _ _ (kept_of c.args.kept.now) c.in-Pow.is (ap Ok c.power.ensures)
 
 pub returns-in-Max : goal.returns-in-Max
 returns-in-Max c = of_the_arm _ _ (kept_of c.args.kept.now) c.in-Max.is refl

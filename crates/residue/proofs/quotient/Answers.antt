@@ -1,16 +1,16 @@
 -- `residue::quotient` meets its contract: the dividend times the divisor's inverse is the quotient, and a divisor without one refuses each dividend.
 -- Assumes nothing.
+use Rattle.std.specs.Prelude.{Ok}
 use mathlib.Core.Path.{◌≡◌, sym, ◌∙◌}
 use native.Mathlib.Nat.{le_of_lt}
 use Rattle.residue.specs.Residue.{quotient_of}
-use Rattle.residue.specs.declared.Divided.TheVariants.{Residue}
 use Rattle.residue.proofs.Congruence.{product_fits}
 use Rattle.residue.proofs.Theorems.{quotient_exact, quotient_by_inverse, no_inverse_no_quotient}
 use Rattle.residue.proofs.quotient.Goals as goal
 use Rattle.residue.proofs.quotient.Goals.{In-Residue}
 
 -- the divisor's inverse is the number that the pattern binds
-inverse_is : (c : In-Residue) → quotient_of c.args.m 1 c.args.d ≡ Residue c.in-Residue.x
+inverse_is : (c : In-Residue) → quotient_of c.args.m 1 c.args.d ≡ Ok c.in-Residue.x
 inverse_is c = sym c.inverse-found.ensures ∙ c.in-Residue.is
 
 pub returns-in_default : goal.returns-in_default

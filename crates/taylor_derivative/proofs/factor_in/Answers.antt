@@ -1,7 +1,7 @@
 -- `taylor_derivative::factor_in` meets its contract: the number, and the product from the table unless it is the number itself.
 -- Assumes nothing.
 use mathlib.Core.Path.{ap, ◌∙◌}
-use Rattle.literal.specs.declared.Folded.{Folded}
+use Rattle.literal.specs.Literal.{Folded}
 use Rattle.pool.specs.Made.{pool_of}
 use Rattle.constructors.specs.Build.{literal}
 use Rattle.taylor_base.proofs.Steps.{onward, handed_on}

@@ -5,4 +5,4 @@ use Rattle.views.specs.Shapes.{shape_of}
 use Rattle.views.proofs.shape_at.Goals as goal
 
 pub returns : goal.returns
-returns c = c.shape_of.ensures ∙ ap shape_of c.node_at.ensures
+returns c = c.shape_of.ensures ∙ ap shape_of c.node.ensures

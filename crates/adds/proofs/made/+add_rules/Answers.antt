@@ -13,19 +13,6 @@ use Rattle.adds.proofs.Runs.{none_left, ruled, renumbered, same_sum, literal_mad
 use Rattle.std.proofs.Common.{rules}
 use Rattle.adds.proofs.made.+add_rules.Goals as goal
 
-pub add_chain-returns-in_default : goal.add_chain-returns-in_default
-unfolding build
-add_chain-returns-in_default t c =
-    stopped c.add_in-first.new.kinds c.add_in-first.new.words _ _ _ c.in_default.is
-    c.add_in-first.ensures
-
-pub add_chain-returns : goal.add_chain-returns
-unfolding build
-add_chain-returns t c =
-    onward c.add_in-first.new.kinds c.add_in-first.new.words _ c.in-Node.is
-    c.add_in-first.ensures
-    c.add_in.ensures
-
 pub add_in-returns-then-left-eq0 : goal.add_in-returns-then-left-eq0
 add_in-returns-then-left-eq0 t c = rw (none_left c.args.left c.if-left-eq0.true)
 
@@ -75,44 +62,3 @@ add_in-returns-in-Chain t c =
     (ruled (calls (c.args.left - 1)) _ add_term c.add_rule-rule.ensures c.in-Chain.is
     c.add_chain.ensures)
 
-pub add_onto-returns-in_default : goal.add_onto-returns-in_default
-unfolding build
-add_onto-returns-in_default t c =
-    stopped c.lit_in-sum.new.kinds c.lit_in-sum.new.words _ _ _ c.in_default.is
-    (literal_made _
-    (c.sum.ensures ∙ ap folded
-    (same_sum (to_z-of_z w64 c.args.x c.ranges.x) (to_z-of_z w64 c.args.y c.ranges.y))) c.lit_in-sum.ensures)
-
-pub add_onto-returns : goal.add_onto-returns
-unfolding build
-add_onto-returns t c =
-    onward c.lit_in-sum.new.kinds c.lit_in-sum.new.words _ c.in-Node.is
-    (literal_made _
-    (c.sum.ensures ∙ ap folded
-    (same_sum (to_z-of_z w64 c.args.x c.ranges.x) (to_z-of_z w64 c.args.y c.ranges.y))) c.lit_in-sum.ensures)
-    c.add_in.ensures
-
-pub add_sums-returns-in_default : goal.add_sums-returns-in_default
-unfolding build
-add_sums-returns-in_default t c =
-    stopped c.add_in-nodes.new.kinds c.add_in-nodes.new.words _ _ _ c.in_default.is
-    c.add_in-nodes.ensures
-
-pub add_sums-returns-in_default-sum : goal.add_sums-returns-in_default-sum
-unfolding build
-add_sums-returns-in_default-sum t c =
-    onward c.add_in-nodes.new.kinds c.add_in-nodes.new.words _ c.in-Node.is c.add_in-nodes.ensures
-    (stopped c.lit_in-sum.new.kinds c.lit_in-sum.new.words _ _ _ c.in_default-sum.is
-    (literal_made _
-    (c.sum.ensures ∙ ap folded
-    (same_sum (to_z-of_z w64 c.args.x c.ranges.x) (to_z-of_z w64 c.args.y c.ranges.y))) c.lit_in-sum.ensures))
-
-pub add_sums-returns : goal.add_sums-returns
-unfolding build
-add_sums-returns t c =
-    onward c.add_in-nodes.new.kinds c.add_in-nodes.new.words _ c.in-Node.is c.add_in-nodes.ensures
-    (onward c.lit_in-sum.new.kinds c.lit_in-sum.new.words _ c.in-Node-sum.is
-    (literal_made _
-    (c.sum.ensures ∙ ap folded
-    (same_sum (to_z-of_z w64 c.args.x c.ranges.x) (to_z-of_z w64 c.args.y c.ranges.y))) c.lit_in-sum.ensures)
-    c.add_in.ensures)

@@ -6,7 +6,7 @@ use mir.Syntax.{w64}
 use mir.Val.{to_z, of_z}
 use mir.ValLaws.{to_z-of_z}
 use Rattle.literal.specs.Literal.{is_zero}
-use Rattle.pool.specs.Pool.{node_in}
+use Rattle.pool.specs.Pool.{node_at}
 use Rattle.adds.proofs.Parts.{lit_found, add_found}
 use Rattle.views.proofs.Missed.{lit_missed, add_missed, tested}
 use Rattle.adds.proofs.Rules.{zero_on_left, zero_on_lit, two_lits_lem, lit_onto_sum, lit_beside_sum, lit_beside}
@@ -15,7 +15,7 @@ use Rattle.adds.proofs.rule.lit_rule.Goals as goal
 pub returns-then-is_zero : goal.returns-then-is_zero
 returns-then-is_zero c =
     let a = c.args in
-    let at = node_in a.kinds.now a.words.now in
+    let at = node_at a.pool.now in
     let e : to_z w64 (of_z w64 a.a) ≡ a.a = to_z-of_z w64 a.a c.ranges.a in
     zero_on_left at a.lhs a.rhs
     c.requires.lhs_value
@@ -24,7 +24,7 @@ returns-then-is_zero c =
 pub returns-then-is_zero-2 : goal.returns-then-is_zero-2
 returns-then-is_zero-2 c =
     let a = c.args in
-    let at = node_in a.kinds.now a.words.now in
+    let at = node_at a.pool.now in
     let e : to_z w64 (of_z w64 a.a) ≡ a.a = to_z-of_z w64 a.a c.ranges.a in
     let f : to_z w64 (of_z w64 c.in-Lit.b) ≡ c.in-Lit.b = to_z-of_z w64 c.in-Lit.b (search rules) in
     zero_on_lit at a.lhs a.rhs
@@ -36,7 +36,7 @@ returns-then-is_zero-2 c =
 pub returns-in_default-shape_at : goal.returns-in_default-shape_at
 returns-in_default-shape_at c =
     let a = c.args in
-    let at = node_in a.kinds.now a.words.now in
+    let at = node_at a.pool.now in
     let e : to_z w64 (of_z w64 a.a) ≡ a.a = to_z-of_z w64 a.a c.ranges.a in
     lit_beside_sum at a.lhs a.rhs
     c.requires.lhs_value
@@ -48,7 +48,7 @@ returns-in_default-shape_at c =
 pub returns-else-is_zero-2 : goal.returns-else-is_zero-2
 returns-else-is_zero-2 c =
     let a = c.args in
-    let at = node_in a.kinds.now a.words.now in
+    let at = node_at a.pool.now in
     let e : to_z w64 (of_z w64 a.a) ≡ a.a = to_z-of_z w64 a.a c.ranges.a in
     let f : to_z w64 (of_z w64 c.in-Lit.b) ≡ c.in-Lit.b = to_z-of_z w64 c.in-Lit.b (search rules) in
     rw (e, f)
@@ -61,7 +61,7 @@ returns-else-is_zero-2 c =
 pub returns-in-Lit-shape_at : goal.returns-in-Lit-shape_at
 returns-in-Lit-shape_at c =
     let a = c.args in
-    let at = node_in a.kinds.now a.words.now in
+    let at = node_at a.pool.now in
     let e : to_z w64 (of_z w64 a.a) ≡ a.a = to_z-of_z w64 a.a c.ranges.a in
     let f : to_z w64 (of_z w64 c.in-Lit-shape_at.y) ≡ c.in-Lit-shape_at.y = to_z-of_z w64 c.in-Lit-shape_at.y (search rules) in
     rw (e, f)
@@ -75,7 +75,7 @@ returns-in-Lit-shape_at c =
 pub returns-in_default : goal.returns-in_default
 returns-in_default c =
     let a = c.args in
-    let at = node_in a.kinds.now a.words.now in
+    let at = node_at a.pool.now in
     let e : to_z w64 (of_z w64 a.a) ≡ a.a = to_z-of_z w64 a.a c.ranges.a in
     lit_beside at a.lhs a.rhs
     c.requires.lhs_value

@@ -6,7 +6,7 @@ use mir.Syntax.{w64}
 use mir.Val.{to_z, of_z}
 use mir.ValLaws.{to_z-of_z}
 use Rattle.literal.specs.Literal.{is_zero}
-use Rattle.pool.specs.Pool.{node_in}
+use Rattle.pool.specs.Pool.{node_at}
 use Rattle.adds.proofs.Parts.{lit_found}
 use Rattle.views.proofs.Missed.{lit_missed, tested}
 use Rattle.adds.proofs.Rules.{zero_on_right, beside_lit, beside}
@@ -15,7 +15,7 @@ use Rattle.adds.proofs.rule.other_rule.Goals as goal
 pub returns-in_default : goal.returns-in_default
 returns-in_default c =
     let a = c.args in
-    let at = node_in a.kinds.now a.words.now in
+    let at = node_at a.pool.now in
     beside at a.lhs a.rhs
     c.requires.lhs_value
     c.requires.lhs_value_2
@@ -24,7 +24,7 @@ returns-in_default c =
 pub returns-then-is_zero : goal.returns-then-is_zero
 returns-then-is_zero c =
     let a = c.args in
-    let at = node_in a.kinds.now a.words.now in
+    let at = node_at a.pool.now in
     let e : to_z w64 (of_z w64 c.in-Lit.b) ≡ c.in-Lit.b = to_z-of_z w64 c.in-Lit.b (search rules) in
     zero_on_right at a.lhs a.rhs
     c.requires.lhs_value
@@ -34,7 +34,7 @@ returns-then-is_zero c =
 pub returns : goal.returns
 returns c =
     let a = c.args in
-    let at = node_in a.kinds.now a.words.now in
+    let at = node_at a.pool.now in
     let e : to_z w64 (of_z w64 c.in-Lit.b) ≡ c.in-Lit.b = to_z-of_z w64 c.in-Lit.b (search rules) in
     beside_lit at a.lhs a.rhs
     c.requires.lhs_value

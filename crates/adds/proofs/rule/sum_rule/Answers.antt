@@ -6,7 +6,7 @@ use mir.Syntax.{w64}
 use mir.Val.{to_z, of_z}
 use mir.ValLaws.{to_z-of_z}
 use Rattle.literal.specs.Literal.{is_zero}
-use Rattle.pool.specs.Pool.{node_in}
+use Rattle.pool.specs.Pool.{node_at}
 use Rattle.adds.proofs.Parts.{lit_found, add_found}
 use Rattle.views.proofs.Missed.{lit_missed, add_missed, tested}
 use Rattle.adds.proofs.Rules.{zero_on_right, sum_onto_lit, sum_beside_lit, sum_beside}
@@ -15,7 +15,7 @@ use Rattle.adds.proofs.rule.sum_rule.Goals as goal
 pub returns-then-is_zero : goal.returns-then-is_zero
 returns-then-is_zero c =
     let a = c.args in
-    let at = node_in a.kinds.now a.words.now in
+    let at = node_at a.pool.now in
     let e : to_z w64 (of_z w64 c.in-Lit.l) ≡ c.in-Lit.l = to_z-of_z w64 c.in-Lit.l (search rules) in
     zero_on_right at a.lhs a.rhs
     c.requires.lhs_value
@@ -25,7 +25,7 @@ returns-then-is_zero c =
 pub returns-in_default-shape_at : goal.returns-in_default-shape_at
 returns-in_default-shape_at c =
     let a = c.args in
-    let at = node_in a.kinds.now a.words.now in
+    let at = node_at a.pool.now in
     let e : to_z w64 (of_z w64 c.in-Lit.l) ≡ c.in-Lit.l = to_z-of_z w64 c.in-Lit.l (search rules) in
     sum_beside_lit at a.lhs a.rhs
     c.requires.lhs_value
@@ -37,13 +37,13 @@ returns-in_default-shape_at c =
 pub sums_rule-requires : goal.sums_rule-requires
 sums_rule-requires c =
     let a = c.args in
-    let at = node_in a.kinds.now a.words.now in
+    let at = node_at a.pool.now in
     record { lhs_value = c.requires.lhs_value; lhs_value_2 = c.requires.lhs_value_2; rhs_value = lit_found (at a.rhs) c.shape_at-shape.ensures c.in-Add.is; rhs_value_2 = add_found (at a.rhs) c.shape_at-shape.ensures c.in-Add.is }
 
 pub returns-in-Lit-shape_at : goal.returns-in-Lit-shape_at
 returns-in-Lit-shape_at c =
     let a = c.args in
-    let at = node_in a.kinds.now a.words.now in
+    let at = node_at a.pool.now in
     let e : to_z w64 (of_z w64 c.in-Lit.l) ≡ c.in-Lit.l = to_z-of_z w64 c.in-Lit.l (search rules) in
     let f : to_z w64 (of_z w64 c.in-Lit-shape_at.x) ≡ c.in-Lit-shape_at.x = to_z-of_z w64 c.in-Lit-shape_at.x (search rules) in
     rw (e, f)
@@ -60,7 +60,7 @@ returns-in-Add c = c.sums_rule.ensures
 pub returns-in_default : goal.returns-in_default
 returns-in_default c =
     let a = c.args in
-    let at = node_in a.kinds.now a.words.now in
+    let at = node_at a.pool.now in
     sum_beside at a.lhs a.rhs
     c.requires.lhs_value
     c.requires.lhs_value_2

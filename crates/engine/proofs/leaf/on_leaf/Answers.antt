@@ -1,10 +1,10 @@
 -- `engine::leaf::on_leaf` meets its contract: the pool is looked at first, then the leaf's own refusal, then one node is appended to the copies.
 -- Assumes nothing.
+use Rattle.std.specs.Prelude.{Ok, Err}
 use mathlib.Core.Path.{◌∙◌}
 use native.Mathlib.Omega.{arith}
 use Rattle.pool.specs.Pool.{limit, append}
 use Rattle.constructor_laws.proofs.Growth.{append_grows}
-use Rattle.lent.specs.declared.Answer.TheVariants.{Node, Refused}
 use Rattle.lent.proofs.Calling.{met, broken, demanded, sizes, on_lent, may_finish, worked}
 use Rattle.engine.specs.Build.{leaf_work}
 use Rattle.engine.proofs.leaf.on_leaf.Goals as goal
@@ -12,12 +12,12 @@ use Rattle.engine.proofs.leaf.on_leaf.Goals as goal
 pub returns-then-not-take_in : goal.returns-then-not-take_in
 returns-then-not-take_in c =
     let a = c.args in
-    broken c.take_in.ensures Node Refused limit (leaf_work a.allowed a.refusal a.node) (c.if-not-take_in.true)
+    broken c.take_in.ensures Ok Err limit (leaf_work a.allowed a.refusal a.node) (c.if-not-take_in.true)
 
 pub returns-then-not-allowed : goal.returns-then-not-allowed
 returns-then-not-allowed c =
     let a = c.args in
-    demanded c.take_in.ensures (c.if-not-take_in.false) Node Refused limit (leaf_work a.allowed a.refusal a.node)
+    demanded c.take_in.ensures (c.if-not-take_in.false) Ok Err limit (leaf_work a.allowed a.refusal a.node)
     (rw (c.if-not-allowed.true))
 
 pub overflow_cast-n : goal.overflow_cast-n
@@ -37,6 +37,6 @@ returns c =
     let taken = c.take_in.ensures in
     let pool_taken = c.if-not-take_in.false in
     let a = c.args in
-    worked taken pool_taken Node Refused limit (leaf_work a.allowed a.refusal a.node) c.finish.ensures
+    worked taken pool_taken Ok Err limit (leaf_work a.allowed a.refusal a.node) c.finish.ensures
     (on_lent taken pool_taken (append a.node) c.room_between-room.ensures c.append-made.ensures ∙ met a.refusal
     (c.if-not-allowed.false))

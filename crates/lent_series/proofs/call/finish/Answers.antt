@@ -1,10 +1,10 @@
 -- `lent_series::call::finish` meets its contract: the entries are put back as for a node, and the expansion is beside it.
 -- Assumes nothing.
+use Rattle.std.specs.Prelude.{Ok, Err}
 use mathlib.Core.Path.{◌≡◌, ap, ◌∙◌}
 use Rattle.pool.specs.declared.table.Made as made_node
 use Rattle.pool.specs.Made.{made}
 use Rattle.lent.specs.Call.{leaves}
-use Rattle.lent.specs.declared.Answer.TheVariants.{Node, Refused}
 use Rattle.taylor_base.specs.Answers.{expansion_of}
 use Rattle.lent_series.specs.Call.{status_made}
 use Rattle.lent_series.proofs.Calling.{appended_made, accepted_returned, refused_returned}
@@ -26,7 +26,7 @@ returns-in-Node c =
     (accepted_returned c.args.kinds.now c.args.words.now c.args.count.now c.args.k.now c.args.w.now (expansion_of c.args.res.expansion)
     c.args.res.status
     (c.finish-answer.ensures ∙ ap
-    (λ (r : made_node.Made). leaves Node Refused c.args.kinds.now c.args.words.now c.args.count.now (made r c.args.k.now c.args.w.now)) m)
+    (λ (r : made_node.Made). leaves Ok Err c.args.kinds.now c.args.words.now c.args.count.now (made r c.args.k.now c.args.w.now)) m)
     c.in-Node.is)
 
 pub returns-in-Refused : goal.returns-in-Refused
@@ -36,5 +36,5 @@ returns-in-Refused c =
     (refused_returned c.args.kinds.now c.args.words.now c.args.count.now c.args.k.now c.args.w.now (expansion_of c.args.res.expansion)
     c.args.res.status
     (c.finish-answer.ensures ∙ ap
-    (λ (r : made_node.Made). leaves Node Refused c.args.kinds.now c.args.words.now c.args.count.now (made r c.args.k.now c.args.w.now)) m)
+    (λ (r : made_node.Made). leaves Ok Err c.args.kinds.now c.args.words.now c.args.count.now (made r c.args.k.now c.args.w.now)) m)
     c.in-Refused.is)
