@@ -37,7 +37,7 @@ pub fn add_in(pool: &mut Pool, left: u32, lhs: u32, rhs: u32) -> Result<u32, Ref
 
 // add(b, lit(x + y))
 #[cycle(add_rules)]
-#[tactic(auto, using(views::proofs::Steps::onward, views::proofs::Steps::stopped), unfolding(constructors::specs::Build::build))]
+#[tactic(auto, unfolding(constructors::specs::Build::build))]
 fn add_onto(pool: &mut Pool, left: u32, b: u32, x: i64, y: i64) -> Result<u32, Refusal>
     ensures { made result pool.new ≡ build (calls left) (add (# b) (lit (x +ℤ y))) pool.old }
 {
@@ -47,7 +47,7 @@ fn add_onto(pool: &mut Pool, left: u32, b: u32, x: i64, y: i64) -> Result<u32, R
 
 // add(add(a, c), lit(x + y))
 #[cycle(add_rules)]
-#[tactic(auto, using(views::proofs::Steps::onward, views::proofs::Steps::stopped), unfolding(constructors::specs::Build::build))]
+#[tactic(auto, unfolding(constructors::specs::Build::build))]
 fn add_sums(pool: &mut Pool, left: u32, a: u32, c: u32, x: i64, y: i64) -> Result<u32, Refusal>
     ensures { made result pool.new ≡ build (calls left) (add (add (# a) (# c)) (lit (x +ℤ y))) pool.old }
 {
@@ -58,7 +58,7 @@ fn add_sums(pool: &mut Pool, left: u32, a: u32, c: u32, x: i64, y: i64) -> Resul
 
 // add(add(a, b), c)
 #[cycle(add_rules)]
-#[tactic(auto, using(views::proofs::Steps::onward, views::proofs::Steps::stopped), unfolding(constructors::specs::Build::build))]
+#[tactic(auto, unfolding(constructors::specs::Build::build))]
 fn add_chain(pool: &mut Pool, left: u32, a: u32, b: u32, c: u32) -> Result<u32, Refusal>
     ensures { made result pool.new ≡ build (calls left) (add (add (# a) (# b)) (# c)) pool.old }
 {

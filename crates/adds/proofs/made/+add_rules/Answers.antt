@@ -7,7 +7,7 @@ use mir.ValLaws.{to_z-of_z}
 use Rattle.literal.specs.Literal.{folded}
 use Rattle.constructors.specs.Terms.{#, lit, add}
 use Rattle.constructors.specs.Build.{build, calls}
-use Rattle.views.proofs.Steps.{onward, stopped, runs_deeper}
+use Rattle.views.proofs.Steps.{runs_deeper}
 use Rattle.adds.specs.Rule.{add_term}
 use Rattle.adds.proofs.Runs.{none_left, ruled, renumbered, same_sum, literal_made}
 use Rattle.std.proofs.Common.{rules}
@@ -61,4 +61,3 @@ add_in-returns-in-Chain t c =
     rw (runs_deeper c.args.left c.if-left-eq0.false)
     (ruled (calls (c.args.left - 1)) _ add_term c.add_rule-rule.ensures c.in-Chain.is
     c.add_chain.ensures)
-
