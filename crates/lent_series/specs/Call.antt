@@ -1,26 +1,24 @@
 -- A call from outside that gives an expansion: its outcome, and what is demanded of the expansions that it is given.
 -- Assumes nothing.
-use Rattle.std.specs.Prelude.{Bool, ◌&&◌, List, ℕ}
+use Rattle.std.specs.Prelude.{Bool, ◌&&◌, List, ℕ, Result, Ok, Err}
 use Rattle.refusals.specs.Refusals.{unknown_node, wrong_order}
 use Rattle.pool.specs.Nodes.{all_below}
 use Rattle.pool.specs.Pool.{refused, limit}
-use Rattle.pool.specs.declared.table.Made as made_node
-use Rattle.pool.specs.declared.table.Made.TheVariants as Made_as
 use Rattle.lent.specs.Call.{Returned, demand, call_to, given_nodes}
 use Rattle.taylor.specs.Work.{Work}
 use Rattle.taylor.specs.Expansion.{Expansion}
-use Rattle.taylor_base.specs.declared.answer.Status.{Status}
-use Rattle.taylor_base.specs.declared.answer.Status.TheVariants.{Done, Refused}
 use Rattle.lent_series.specs.declared.series.Series.{Series}
-use Rattle.lent_series.specs.declared.call.Outcome.{Outcome}
-use Rattle.lent_series.specs.Series.{nodes_of, length_ok, series_of, nothing}
+use Rattle.lent_series.specs.Series.{nodes_of, length_ok, series_of}
 
--- an expansion, or the refusal number
+-- an expansion as a caller gets it, or the refusal number
+abbrev pub Outcome : Type 0
+Outcome = Result Series ℕ
+
 abbrev pub accepted : Expansion → Outcome
-accepted e = record { number = 0; series = series_of e }
+accepted e = Ok (series_of e)
 
 abbrev pub refused_outcome : ℕ → Outcome
-refused_outcome k = record { number = k; series = nothing }
+refused_outcome k = Err k
 
 -- a call that has the whole pool and gives an expansion
 abbrev pub series_on_pool : Work Expansion → List ℕ → List ℕ → ℕ → Returned Outcome
@@ -37,8 +35,3 @@ given_series s work = given_nodes (nodes_of s) (given_order (length_ok s) work)
 -- 2 of both, then 5
 abbrev pub given_two : {A : Type 0} → Series → Series → Bool → Work A → Work A
 given_two s t lengths work P = demand refused (all_below P.count (nodes_of s) && all_below P.count (nodes_of t)) unknown_node (given_order lengths work P)
-
--- what puts the new entries back is handed the room that is left, or the refusal number
-abbrev pub status_made : Status → made_node.Made
-status_made (Done room) = Made_as.Node 0 room
-status_made (Refused k) = Made_as.Refused k

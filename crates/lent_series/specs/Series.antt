@@ -35,10 +35,6 @@ coeffs_of (Polynomial cs) = cs ++ replicate (terms - length cs) 0
 abbrev pub series_of : Expansion → Series
 series_of e = record { order = order e; coeffs = coeffs_of e }
 
--- no expansion: zeros beside a refusal
-abbrev pub nothing : Series
-nothing = record { order = 0; coeffs = replicate terms 0 }
-
 -- what may be worked on: numbers that are nodes, and a length
 pub record Usable (s : Series) : Type 0 where
   pub numbers : (i : ℕ) → i < entries s → get_or s.coeffs i 0 < limit
