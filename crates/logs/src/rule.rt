@@ -3,10 +3,10 @@ ghost use Rattle.std.specs.Prelude.{◌≡◌};
 ghost use Rattle.literal.specs.Literal.{is_zero, is_one};
 ghost use Rattle.constructors.specs.Patterns.{lit_in};
 ghost use Rattle.constructors.specs.Tables.{log_table, div_table};
-ghost use Rattle.pool.specs.Pool.{node_in};
+ghost use Rattle.pool.specs.Pool.{node_at};
 ghost use Rattle.logs.specs.Rule.{log_term, div_term, guarded};
 
-use pool::LIMIT;
+use pool::Pool;
 use views::Shape;
 
 // What `log` has to build.
@@ -33,10 +33,10 @@ pub enum DivRule {
     Plain(u32, u32),
 }
 
-pub fn log_rule(kinds: &[u8; LIMIT], words: &[u64; LIMIT], arg: u32) -> LogRule
-    ensures { log_term result ≡ log_table (node_in kinds.now words.now) arg }
+pub fn log_rule(pool: &Pool, arg: u32) -> LogRule
+    ensures { log_term result ≡ log_table (node_at pool.now) arg }
 {
-    let shape = views::shape_at(kinds, words, arg);
+    let shape = views::shape_at(pool, arg);
     match shape {
         Shape::Lit(a) => {
             if literal::is_one(a) {
@@ -45,7 +45,7 @@ pub fn log_rule(kinds: &[u8; LIMIT], words: &[u64; LIMIT], arg: u32) -> LogRule
             LogRule::Literal(a)
         }
         Shape::Mul(a, b) => {
-            let Shape::Lit(x) = views::shape_at(kinds, words, a) else {
+            let Shape::Lit(x) = views::shape_at(pool, a) else {
                 return LogRule::Plain(arg);
             };
             LogRule::Product(x, b)
@@ -55,32 +55,32 @@ pub fn log_rule(kinds: &[u8; LIMIT], words: &[u64; LIMIT], arg: u32) -> LogRule
 }
 
 // Lit(a) if a.is_zero()
-fn is_zero_at(kinds: &[u8; LIMIT], words: &[u64; LIMIT], i: u32) -> bool
-    ensures { result ≡ guarded is_zero (lit_in (node_in kinds.now words.now i)) }
+fn is_zero_at(pool: &Pool, i: u32) -> bool
+    ensures { result ≡ guarded is_zero (lit_in (node_at pool.now i)) }
 {
-    let Shape::Lit(a) = views::shape_at(kinds, words, i) else {
+    let Shape::Lit(a) = views::shape_at(pool, i) else {
         return false;
     };
     literal::is_zero(a)
 }
 
 // Lit(a) if a.is_one()
-fn is_one_at(kinds: &[u8; LIMIT], words: &[u64; LIMIT], i: u32) -> bool
-    ensures { result ≡ guarded is_one (lit_in (node_in kinds.now words.now i)) }
+fn is_one_at(pool: &Pool, i: u32) -> bool
+    ensures { result ≡ guarded is_one (lit_in (node_at pool.now i)) }
 {
-    let Shape::Lit(a) = views::shape_at(kinds, words, i) else {
+    let Shape::Lit(a) = views::shape_at(pool, i) else {
         return false;
     };
     literal::is_one(a)
 }
 
-pub fn div_rule(kinds: &[u8; LIMIT], words: &[u64; LIMIT], lhs: u32, rhs: u32) -> DivRule
-    ensures { div_term result ≡ div_table (node_in kinds.now words.now) lhs rhs }
+pub fn div_rule(pool: &Pool, lhs: u32, rhs: u32) -> DivRule
+    ensures { div_term result ≡ div_table (node_at pool.now) lhs rhs }
 {
-    if is_zero_at(kinds, words, lhs) {
+    if is_zero_at(pool, lhs) {
         return DivRule::Zero;
     }
-    if is_one_at(kinds, words, rhs) {
+    if is_one_at(pool, rhs) {
         return DivRule::Same(lhs);
     }
     DivRule::Plain(lhs, rhs)

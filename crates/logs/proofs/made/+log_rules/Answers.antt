@@ -7,7 +7,7 @@ use mir.ValLaws.{to_z-of_z}
 use Rattle.literal.specs.Literal.{log_of}
 use Rattle.constructors.specs.Terms.{#, lit_log, add, log}
 use Rattle.constructors.specs.Build.{build, calls}
-use Rattle.views.proofs.Steps.{onward, stopped, runs_deeper}
+use Rattle.views.proofs.Steps.{runs_deeper}
 use Rattle.adds.proofs.Runs.{none_left, ruled, renumbered, literal_made}
 use Rattle.logs.specs.Rule.{log_term}
 use Rattle.std.proofs.Common.{rules}
@@ -45,26 +45,3 @@ log_in-returns-in-Plain t c =
     rw (runs_deeper c.args.left c.if-left-eq0.false)
     (ruled (calls (c.args.left - 1)) _ log_term c.log_rule-rule.ensures c.in-Plain.is
     c.append.ensures)
-
-pub log_product-returns-in_default : goal.log_product-returns-in_default
-unfolding build
-log_product-returns-in_default t c =
-    stopped c.log_in-inner.new.kinds c.log_in-inner.new.words _ _ _ c.in_default.is
-    c.log_in-inner.ensures
-
-pub log_product-returns-in_default-lit : goal.log_product-returns-in_default-lit
-unfolding build
-log_product-returns-in_default-lit t c =
-    onward c.log_in-inner.new.kinds c.log_in-inner.new.words _ c.in-Node.is
-    c.log_in-inner.ensures
-    (stopped c.lit_in-lit.new.kinds c.lit_in-lit.new.words _ _ _ c.in_default-lit.is
-    (literal_made _ (c.log_literal.ensures ∙ ap log_of (to_z-of_z w64 c.args.a c.ranges.a)) c.lit_in-lit.ensures))
-
-pub log_product-returns : goal.log_product-returns
-unfolding build
-log_product-returns t c =
-    onward c.log_in-inner.new.kinds c.log_in-inner.new.words _ c.in-Node.is
-    c.log_in-inner.ensures
-    (onward c.lit_in-lit.new.kinds c.lit_in-lit.new.words _ c.in-Node-lit.is
-    (literal_made _ (c.log_literal.ensures ∙ ap log_of (to_z-of_z w64 c.args.a c.ranges.a)) c.lit_in-lit.ensures)
-    c.add_in.ensures)
