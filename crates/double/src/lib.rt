@@ -4,23 +4,19 @@
 ghost use Rattle.std.specs.Prelude.{◌≡◌};
 ghost use Rattle.std.specs.Float.{binary64};
 ghost use Rattle.std.specs.Float.Ieee.{add, mul, div, to_bits, nan_bits, of_bits};
+ghost use Rattle.refusals.specs.Numbers.{numbered};
 ghost use Rattle.double.specs.Double.{double_of, pow_of, max_of};
 
-// What an evaluation gives: a double, or the refusal number of document 01.
-#[derive(Clone, Copy)]
-pub enum Valued {
-    Double(f64),
-    Refused(u32),
-}
+use refusals::Refusal;
 
 // A literal as a double. Every literal is exact.
-pub fn of_literal(z: i64) -> Valued
-    ensures { result ≡ double_of z }
+pub fn of_literal(z: i64) -> Result<f64, Refusal>
+    ensures { numbered result ≡ double_of z }
 {
     if literal::is_literal(z) {
-        return Valued::Double(z as f64);
+        return Ok(z as f64);
     }
-    Valued::Refused(refusals::NOT_LITERAL)
+    Err(Refusal::NotLiteral)
 }
 
 pub fn sum(x: f64, y: f64) -> f64
