@@ -1,5 +1,6 @@
 -- The groups of the table of `mul`, at each combination of shapes that the code tells apart.
 -- Assumes nothing.
+use Rattle.std.specs.Prelude.{Option, Some, None}
 use mathlib.Core.Path.{◌≡◌, refl, sym, ap, ◌∙◌}
 use mathlib.Core.Bool.{true, false}
 use Prim.Native.Nat.{ℕ}
@@ -14,8 +15,6 @@ use Rattle.views.specs.declared.Shape.TheVariants as shape
 use Rattle.views.proofs.Patterns.{lit_seen, mul_seen, exp_seen, pow_seen}
 use Rattle.mul_rules.specs.Rules.{mul_term, arm_of, two_lits, one_lit, one_exp, two_exps, lits_ahead, lit_ahead, two_pows}
 use Rattle.mul_rules.specs.declared.MulRule.{MulRule}
-use Rattle.mul_rules.specs.declared.Tried.{Tried}
-use Rattle.mul_rules.specs.declared.Tried.TheVariants.{Is, Next}
 
 -- an arm that was entered is the whole `match`
 entered : {A : Type 0} (x next : Arm A) → inside (inside x or next) ≡ inside x
@@ -42,11 +41,11 @@ after leave next = refl
 after (return x) next = refl
 
 -- a group that decides
-pub decides : {r : Tried} {rule : MulRule} (g : Arm Term) (next : Term) → arm_of r ≡ inside g → r ≡ Is rule → mul_term rule ≡ (g then next)
+pub decides : {r : Option MulRule} {rule : MulRule} (g : Arm Term) (next : Term) → arm_of r ≡ inside g → r ≡ Some rule → mul_term rule ≡ (g then next)
 decides g next e f = ap (λ (m : Arm Term). m then next) (sym (ap arm_of f) ∙ e) ∙ after g next
 
 -- a group after which the next statement is reached
-pub passes : {r : Tried} {t : Term} (g : Arm Term) (next : Term) → arm_of r ≡ inside g → r ≡ Next → t ≡ next → t ≡ (g then next)
+pub passes : {r : Option MulRule} {t : Term} (g : Arm Term) (next : Term) → arm_of r ≡ inside g → r ≡ None → t ≡ next → t ≡ (g then next)
 passes g next e f h = h ∙ ap (λ (m : Arm Term). m then next) (sym (ap arm_of f) ∙ e) ∙ after g next
 
 module _ (at : ℕ → Node) (lhs rhs : ℕ) where

@@ -1,18 +1,12 @@
 -- What the classifier of `mul` answers: each answer is a right side of the table. Below them stand the insides of its arms, each where one function of the code decides.
 -- Assumes nothing.
-use Rattle.std.specs.Prelude.{ℕ, ◌+◌, eqb, ℤ, pos, ◌*ℤ◌}
+use Rattle.std.specs.Prelude.{Option, Some, None, ℕ, ◌+◌, eqb, ℤ, pos, ◌*ℤ◌}
 use Rattle.literal.specs.Literal.{is_zero, is_one}
 use Rattle.pool.specs.declared.node.Node.{Node}
 use Rattle.constructors.specs.Terms.{Term, #, lit, add, mul, exp, pow, Mul, Arm, skip, leave, return, ◌>>=◌, ◌>>◌, ◌&◌, ◌or◌, inside}
 use Rattle.constructors.specs.Tables.{lit?, mul?, exp?, pow?}
 use Rattle.mul_rules.specs.declared.MulRule.{MulRule}
 use Rattle.mul_rules.specs.declared.MulRule.TheVariants as rule
-use Rattle.mul_rules.specs.declared.Tried.{Tried}
-use Rattle.mul_rules.specs.declared.Tried.TheVariants.{Is, Next}
-use Rattle.mul_rules.specs.declared.LitSeen.{LitSeen}
-use Rattle.mul_rules.specs.declared.LitSeen.TheVariants as lits
-use Rattle.mul_rules.specs.declared.ExpSeen.{ExpSeen}
-use Rattle.mul_rules.specs.declared.ExpSeen.TheVariants as exps
 
 -- the term that an answer stands for
 abbrev pub mul_term : MulRule → Term
@@ -28,19 +22,19 @@ mul_term (rule.Under a b c) = Mul (# a) (mul (# b) (# c))
 mul_term (rule.Power a b e₁ e₂) = mul (# a) (pow (# b) (e₁ + e₂))
 mul_term (rule.Plain a b) = Mul (# a) (# b)
 
--- one `match` of the Rust: it returns, or the next statement is reached
-abbrev pub arm_of : Tried → Arm Term
-arm_of (Is r) = return (mul_term r)
-arm_of Next = leave
+-- one `match` of the Rust: it returns a rule, or the next statement is reached
+abbrev pub arm_of : Option MulRule → Arm Term
+arm_of (Some r) = return (mul_term r)
+arm_of None = leave
 
 -- `if let Lit(z) = ..`, `if let Exp(a) = ..`
-abbrev pub lit_arm : LitSeen → Arm ℤ
-lit_arm (lits.Lit z) = return z
-lit_arm lits.Not = skip
+abbrev pub lit_arm : Option ℤ → Arm ℤ
+lit_arm (Some z) = return z
+lit_arm None = skip
 
-abbrev pub exp_arm : ExpSeen → Arm ℕ
-exp_arm (exps.Exp a) = return a
-exp_arm exps.Not = skip
+abbrev pub exp_arm : Option ℕ → Arm ℕ
+exp_arm (Some a) = return a
+exp_arm None = skip
 
 -- (Lit(a), Lit(b))
 unfoldable pub two_lits : ℤ → ℤ → ℕ → ℕ → Arm Term

@@ -2,13 +2,13 @@
 #![tactic(auto)]
 
 ghost use Rattle.std.specs.Prelude.{◌≡◌};
-ghost use Rattle.pool.specs.Pool.{node_in};
+ghost use Rattle.pool.specs.Pool.{node_at};
 ghost use Rattle.views.specs.Shapes.{shape_of};
 ghost use Rattle.constructors.specs.Terms.{#, Mul, inside, ◌then◌};
 ghost use Rattle.constructors.specs.Tables.{lit?, exp?, mul_lits, mul_exps, mul_left, mul_pows, mul_last, mul_table};
 ghost use Rattle.mul_rules.specs.Rules.{mul_term, arm_of, lit_arm, exp_arm, two_lits, one_lit, one_exp, two_exps, lits_ahead, lit_ahead, two_pows};
 
-use pool::LIMIT;
+use pool::Pool;
 use views::Shape;
 
 // What is to be built; numbers of nodes and exponents are u32, literals i64.
@@ -38,276 +38,212 @@ pub enum MulRule {
     Plain(u32, u32),
 }
 
-// One group of rules: it decides, or the next group is tried.
-#[derive(Clone, Copy)]
-pub enum Tried {
-    Is(MulRule),
-    Next,
-}
-
-// What `if let Lit(z) = ..` of the Rust finds.
-#[derive(Clone, Copy)]
-pub enum LitSeen {
-    Lit(i64),
-    Not,
-}
-
-// What `if let Exp(a) = ..` of the Rust finds.
-#[derive(Clone, Copy)]
-pub enum ExpSeen {
-    Exp(u32),
-    Not,
-}
-
-// Whether a node is a literal, and which.
-fn lit_at(kinds: &[u8; LIMIT], words: &[u64; LIMIT], i: u32) -> LitSeen
-    ensures { lit_arm result ≡ lit? (node_in kinds.now words.now) i }
+// The literal of a node, if it is one.
+fn lit_at(pool: &Pool, i: u32) -> Option<i64>
+    ensures { lit_arm result ≡ lit? (node_at pool.now) i }
 {
-    let Shape::Lit(z) = views::shape_at(kinds, words, i) else {
-        return LitSeen::Not;
+    let Shape::Lit(z) = views::shape_at(pool, i) else {
+        return None;
     };
-    LitSeen::Lit(z)
+    Some(z)
 }
 
-// Whether a node is an Exp, and of what.
-fn exp_at(kinds: &[u8; LIMIT], words: &[u64; LIMIT], i: u32) -> ExpSeen
-    ensures { exp_arm result ≡ exp? (node_in kinds.now words.now) i }
+// The argument of a node, if it is an Exp.
+fn exp_at(pool: &Pool, i: u32) -> Option<u32>
+    ensures { exp_arm result ≡ exp? (node_at pool.now) i }
 {
-    let Shape::Exp(a) = views::shape_at(kinds, words, i) else {
-        return ExpSeen::Not;
+    let Shape::Exp(a) = views::shape_at(pool, i) else {
+        return None;
     };
-    ExpSeen::Exp(a)
+    Some(a)
 }
 
 // Two literals.
-fn two_lits(a: i64, b: i64, lhs: u32, rhs: u32) -> Tried
+fn two_lits(a: i64, b: i64, lhs: u32, rhs: u32) -> Option<MulRule>
     ensures { arm_of result ≡ inside (two_lits a b lhs rhs) }
 {
     if literal::is_zero(a) {
-        return Tried::Is(MulRule::Zero);
+        return Some(MulRule::Zero);
     }
     if literal::is_zero(b) {
-        return Tried::Is(MulRule::Zero);
+        return Some(MulRule::Zero);
     }
     if literal::is_one(a) {
-        return Tried::Is(MulRule::Same(rhs));
+        return Some(MulRule::Same(rhs));
     }
     if literal::is_one(b) {
-        return Tried::Is(MulRule::Same(lhs));
+        return Some(MulRule::Same(lhs));
     }
-    Tried::Is(MulRule::Product(a, b))
+    Some(MulRule::Product(a, b))
 }
 
 // A literal and another node, on either side.
-fn one_lit(kinds: &[u8; LIMIT], words: &[u64; LIMIT], a: i64, other: u32) -> Tried
-    ensures { arm_of result ≡ inside (one_lit (node_in kinds.now words.now) a other) }
+fn one_lit(pool: &Pool, a: i64, other: u32) -> Option<MulRule>
+    ensures { arm_of result ≡ inside (one_lit (node_at pool.now) a other) }
 {
     if literal::is_zero(a) {
-        return Tried::Is(MulRule::Zero);
+        return Some(MulRule::Zero);
     }
     if literal::is_one(a) {
-        return Tried::Is(MulRule::Same(other));
+        return Some(MulRule::Same(other));
     }
-    let Shape::Mul(b1, b2) = views::shape_at(kinds, words, other) else {
-        return Tried::Next;
+    let Shape::Mul(b1, b2) = views::shape_at(pool, other) else {
+        return None;
     };
-    let LitSeen::Lit(b) = lit_at(kinds, words, b1) else {
-        return Tried::Next;
-    };
-    Tried::Is(MulRule::Scaled(a, b, b2))
+    let b = lit_at(pool, b1)?;
+    Some(MulRule::Scaled(a, b, b2))
 }
 
 // Literal simplifications.
-fn lits(
-    kinds: &[u8; LIMIT],
-    words: &[u64; LIMIT],
-    lhs: u32,
-    rhs: u32,
-    left: Shape,
-    right: Shape,
-) -> Tried
-    requires { (left ≡ shape_of (node_in kinds.now words.now lhs)) × (right ≡ shape_of (node_in kinds.now words.now rhs)) }
-    ensures { arm_of result ≡ inside (mul_lits (node_in kinds.now words.now) lhs rhs) }
+fn lits(pool: &Pool, lhs: u32, rhs: u32, left: Shape, right: Shape) -> Option<MulRule>
+    requires { (left ≡ shape_of (node_at pool.now lhs)) × (right ≡ shape_of (node_at pool.now rhs)) }
+    ensures { arm_of result ≡ inside (mul_lits (node_at pool.now) lhs rhs) }
 {
     match left {
         Shape::Lit(a) => match right {
             Shape::Lit(b) => two_lits(a, b, lhs, rhs),
-            _ => one_lit(kinds, words, a, rhs),
+            _ => one_lit(pool, a, rhs),
         },
         Shape::Exp(a) => match right {
-            Shape::Lit(b) => one_lit(kinds, words, b, lhs),
-            Shape::Exp(b) => Tried::Is(MulRule::ExpSum(a, b)),
-            _ => Tried::Next,
+            Shape::Lit(b) => one_lit(pool, b, lhs),
+            Shape::Exp(b) => Some(MulRule::ExpSum(a, b)),
+            _ => None,
         },
         _ => match right {
-            Shape::Lit(b) => one_lit(kinds, words, b, lhs),
-            _ => Tried::Next,
+            Shape::Lit(b) => one_lit(pool, b, lhs),
+            _ => None,
         },
     }
 }
 
 // A product of a1 and a2, which may have an Exp, and exp(b).
-fn one_exp(kinds: &[u8; LIMIT], words: &[u64; LIMIT], a1: u32, a2: u32, b: u32) -> Tried
-    ensures { arm_of result ≡ inside (one_exp (node_in kinds.now words.now) a1 a2 b) }
+fn one_exp(pool: &Pool, a1: u32, a2: u32, b: u32) -> Option<MulRule>
+    ensures { arm_of result ≡ inside (one_exp (node_at pool.now) a1 a2 b) }
 {
-    if let ExpSeen::Exp(x) = exp_at(kinds, words, a2) {
-        return Tried::Is(MulRule::OverExp(a1, x, b));
+    if let Some(x) = exp_at(pool, a2) {
+        return Some(MulRule::OverExp(a1, x, b));
     }
-    if let ExpSeen::Exp(x) = exp_at(kinds, words, a1) {
-        return Tried::Is(MulRule::OverExp(a2, x, b));
+    if let Some(x) = exp_at(pool, a1) {
+        return Some(MulRule::OverExp(a2, x, b));
     }
-    Tried::Next
+    None
 }
 
 // A product of a1 and a2, and one of b1 and b2: each may have an Exp.
-fn two_exps(kinds: &[u8; LIMIT], words: &[u64; LIMIT], a1: u32, a2: u32, b1: u32, b2: u32) -> Tried
-    ensures { arm_of result ≡ inside (two_exps (node_in kinds.now words.now) a1 a2 b1 b2) }
+fn two_exps(pool: &Pool, a1: u32, a2: u32, b1: u32, b2: u32) -> Option<MulRule>
+    ensures { arm_of result ≡ inside (two_exps (node_at pool.now) a1 a2 b1 b2) }
 {
-    if let ExpSeen::Exp(x) = exp_at(kinds, words, a1) {
-        if let ExpSeen::Exp(y) = exp_at(kinds, words, b1) {
-            return Tried::Is(MulRule::OverExps(a2, b2, x, y));
+    if let Some(x) = exp_at(pool, a1) {
+        if let Some(y) = exp_at(pool, b1) {
+            return Some(MulRule::OverExps(a2, b2, x, y));
         }
-        if let ExpSeen::Exp(y) = exp_at(kinds, words, b2) {
-            return Tried::Is(MulRule::OverExps(a2, b1, x, y));
+        if let Some(y) = exp_at(pool, b2) {
+            return Some(MulRule::OverExps(a2, b1, x, y));
         }
-        return Tried::Next;
+        return None;
     }
-    if let ExpSeen::Exp(x) = exp_at(kinds, words, a2) {
-        if let ExpSeen::Exp(y) = exp_at(kinds, words, b1) {
-            return Tried::Is(MulRule::OverExps(a1, b2, x, y));
+    if let Some(x) = exp_at(pool, a2) {
+        if let Some(y) = exp_at(pool, b1) {
+            return Some(MulRule::OverExps(a1, b2, x, y));
         }
-        if let ExpSeen::Exp(y) = exp_at(kinds, words, b2) {
-            return Tried::Is(MulRule::OverExps(a1, b1, x, y));
+        if let Some(y) = exp_at(pool, b2) {
+            return Some(MulRule::OverExps(a1, b1, x, y));
         }
-        return Tried::Next;
+        return None;
     }
-    Tried::Next
+    None
 }
 
 // Exp simplifications.
-fn exps(
-    kinds: &[u8; LIMIT],
-    words: &[u64; LIMIT],
-    lhs: u32,
-    rhs: u32,
-    left: Shape,
-    right: Shape,
-) -> Tried
-    requires { (left ≡ shape_of (node_in kinds.now words.now lhs)) × (right ≡ shape_of (node_in kinds.now words.now rhs)) }
-    ensures { arm_of result ≡ inside (mul_exps (node_in kinds.now words.now) lhs rhs) }
+fn exps(pool: &Pool, lhs: u32, rhs: u32, left: Shape, right: Shape) -> Option<MulRule>
+    requires { (left ≡ shape_of (node_at pool.now lhs)) × (right ≡ shape_of (node_at pool.now rhs)) }
+    ensures { arm_of result ≡ inside (mul_exps (node_at pool.now) lhs rhs) }
 {
     match left {
         Shape::Mul(a1, a2) => match right {
-            Shape::Exp(b) => one_exp(kinds, words, a1, a2, b),
-            Shape::Mul(b1, b2) => two_exps(kinds, words, a1, a2, b1, b2),
-            _ => Tried::Next,
+            Shape::Exp(b) => one_exp(pool, a1, a2, b),
+            Shape::Mul(b1, b2) => two_exps(pool, a1, a2, b1, b2),
+            _ => None,
         },
         Shape::Exp(b) => match right {
-            Shape::Mul(a1, a2) => one_exp(kinds, words, a1, a2, b),
-            _ => Tried::Next,
+            Shape::Mul(a1, a2) => one_exp(pool, a1, a2, b),
+            _ => None,
         },
-        _ => Tried::Next,
+        _ => None,
     }
 }
 
 // A product of a1 and a2, and one of b1 and b2: both may start with a literal.
-fn lits_ahead(
-    kinds: &[u8; LIMIT],
-    words: &[u64; LIMIT],
-    a1: u32,
-    a2: u32,
-    b1: u32,
-    b2: u32,
-) -> Tried
-    ensures { arm_of result ≡ inside (lits_ahead (node_in kinds.now words.now) a1 a2 b1 b2) }
+fn lits_ahead(pool: &Pool, a1: u32, a2: u32, b1: u32, b2: u32) -> Option<MulRule>
+    ensures { arm_of result ≡ inside (lits_ahead (node_at pool.now) a1 a2 b1 b2) }
 {
-    let LitSeen::Lit(x) = lit_at(kinds, words, a1) else {
-        return Tried::Next;
-    };
-    let LitSeen::Lit(y) = lit_at(kinds, words, b1) else {
-        return Tried::Next;
-    };
-    Tried::Is(MulRule::Scales(x, y, a2, b2))
+    let x = lit_at(pool, a1)?;
+    let y = lit_at(pool, b1)?;
+    Some(MulRule::Scales(x, y, a2, b2))
 }
 
 // A product of a1 and a2, and another node: the product may start with a literal.
-fn lit_ahead(kinds: &[u8; LIMIT], words: &[u64; LIMIT], a1: u32, a2: u32, other: u32) -> Tried
-    ensures { arm_of result ≡ inside (lit_ahead (node_in kinds.now words.now) a1 a2 other) }
+fn lit_ahead(pool: &Pool, a1: u32, a2: u32, other: u32) -> Option<MulRule>
+    ensures { arm_of result ≡ inside (lit_ahead (node_at pool.now) a1 a2 other) }
 {
-    let LitSeen::Lit(_) = lit_at(kinds, words, a1) else {
-        return Tried::Next;
-    };
-    Tried::Is(MulRule::Under(a1, a2, other))
+    let _ = lit_at(pool, a1)?;
+    Some(MulRule::Under(a1, a2, other))
 }
 
 // Moving literals left.
-fn ahead(
-    kinds: &[u8; LIMIT],
-    words: &[u64; LIMIT],
-    lhs: u32,
-    rhs: u32,
-    left: Shape,
-    right: Shape,
-) -> Tried
-    requires { (left ≡ shape_of (node_in kinds.now words.now lhs)) × (right ≡ shape_of (node_in kinds.now words.now rhs)) }
-    ensures { arm_of result ≡ inside (mul_left (node_in kinds.now words.now) lhs rhs) }
+fn ahead(pool: &Pool, lhs: u32, rhs: u32, left: Shape, right: Shape) -> Option<MulRule>
+    requires { (left ≡ shape_of (node_at pool.now lhs)) × (right ≡ shape_of (node_at pool.now rhs)) }
+    ensures { arm_of result ≡ inside (mul_left (node_at pool.now) lhs rhs) }
 {
     match left {
         Shape::Mul(a1, a2) => match right {
-            Shape::Mul(b1, b2) => lits_ahead(kinds, words, a1, a2, b1, b2),
-            _ => lit_ahead(kinds, words, a1, a2, rhs),
+            Shape::Mul(b1, b2) => lits_ahead(pool, a1, a2, b1, b2),
+            _ => lit_ahead(pool, a1, a2, rhs),
         },
         _ => match right {
-            Shape::Mul(b1, b2) => lit_ahead(kinds, words, b1, b2, lhs),
-            _ => Tried::Next,
+            Shape::Mul(b1, b2) => lit_ahead(pool, b1, b2, lhs),
+            _ => None,
         },
     }
 }
 
 // A product of a1 and a2, and the power n of b.
-fn two_pows(kinds: &[u8; LIMIT], words: &[u64; LIMIT], a1: u32, a2: u32, b: u32, n: u32) -> Tried
-    ensures { arm_of result ≡ inside (two_pows (node_in kinds.now words.now) a1 a2 b n) }
+fn two_pows(pool: &Pool, a1: u32, a2: u32, b: u32, n: u32) -> Option<MulRule>
+    ensures { arm_of result ≡ inside (two_pows (node_at pool.now) a1 a2 b n) }
 {
     if a2 == b {
-        return Tried::Is(MulRule::Power(a1, a2, n, 1));
+        return Some(MulRule::Power(a1, a2, n, 1));
     }
-    let Shape::Pow(a21, exp1) = views::shape_at(kinds, words, a2) else {
-        return Tried::Next;
+    let Shape::Pow(a21, exp1) = views::shape_at(pool, a2) else {
+        return None;
     };
     if a21 == b {
-        return Tried::Is(MulRule::Power(a1, a21, exp1, n));
+        return Some(MulRule::Power(a1, a21, exp1, n));
     }
-    Tried::Next
+    None
 }
 
 // Pow simplifications.
-fn pows(
-    kinds: &[u8; LIMIT],
-    words: &[u64; LIMIT],
-    lhs: u32,
-    rhs: u32,
-    left: Shape,
-    right: Shape,
-) -> Tried
-    requires { (left ≡ shape_of (node_in kinds.now words.now lhs)) × (right ≡ shape_of (node_in kinds.now words.now rhs)) }
-    ensures { arm_of result ≡ inside (mul_pows (node_in kinds.now words.now) lhs rhs) }
+fn pows(pool: &Pool, lhs: u32, rhs: u32, left: Shape, right: Shape) -> Option<MulRule>
+    requires { (left ≡ shape_of (node_at pool.now lhs)) × (right ≡ shape_of (node_at pool.now rhs)) }
+    ensures { arm_of result ≡ inside (mul_pows (node_at pool.now) lhs rhs) }
 {
     let Shape::Mul(a1, a2) = left else {
-        return Tried::Next;
+        return None;
     };
     if a2 == rhs {
-        return Tried::Is(MulRule::Power(a1, a2, 1, 1));
+        return Some(MulRule::Power(a1, a2, 1, 1));
     }
     let Shape::Pow(b, n) = right else {
-        return Tried::Next;
+        return None;
     };
-    two_pows(kinds, words, a1, a2, b, n)
+    two_pows(pool, a1, a2, b, n)
 }
 
 // The last statements.
-fn last(kinds: &[u8; LIMIT], words: &[u64; LIMIT], lhs: u32, rhs: u32, right: Shape) -> MulRule
-    requires { right ≡ shape_of (node_in kinds.now words.now rhs) }
-    ensures { mul_term result ≡ (mul_last (node_in kinds.now words.now) lhs rhs then Mul (# lhs) (# rhs)) }
+fn last(pool: &Pool, lhs: u32, rhs: u32, right: Shape) -> MulRule
+    requires { right ≡ shape_of (node_at pool.now rhs) }
+    ensures { mul_term result ≡ (mul_last (node_at pool.now) lhs rhs then Mul (# lhs) (# rhs)) }
 {
     let Shape::Lit(_) = right else {
         return MulRule::Plain(lhs, rhs);
@@ -316,22 +252,22 @@ fn last(kinds: &[u8; LIMIT], words: &[u64; LIMIT], lhs: u32, rhs: u32, right: Sh
 }
 
 // The groups in the Rust's order.
-pub fn mul_rule(kinds: &[u8; LIMIT], words: &[u64; LIMIT], lhs: u32, rhs: u32) -> MulRule
-    ensures { mul_term result ≡ mul_table (node_in kinds.now words.now) lhs rhs }
+pub fn mul_rule(pool: &Pool, lhs: u32, rhs: u32) -> MulRule
+    ensures { mul_term result ≡ mul_table (node_at pool.now) lhs rhs }
 {
-    let left = views::shape_at(kinds, words, lhs);
-    let right = views::shape_at(kinds, words, rhs);
-    if let Tried::Is(rule) = lits(kinds, words, lhs, rhs, left, right) {
+    let left = views::shape_at(pool, lhs);
+    let right = views::shape_at(pool, rhs);
+    if let Some(rule) = lits(pool, lhs, rhs, left, right) {
         return rule;
     }
-    if let Tried::Is(rule) = exps(kinds, words, lhs, rhs, left, right) {
+    if let Some(rule) = exps(pool, lhs, rhs, left, right) {
         return rule;
     }
-    if let Tried::Is(rule) = ahead(kinds, words, lhs, rhs, left, right) {
+    if let Some(rule) = ahead(pool, lhs, rhs, left, right) {
         return rule;
     }
-    if let Tried::Is(rule) = pows(kinds, words, lhs, rhs, left, right) {
+    if let Some(rule) = pows(pool, lhs, rhs, left, right) {
         return rule;
     }
-    last(kinds, words, lhs, rhs, right)
+    last(pool, lhs, rhs, right)
 }

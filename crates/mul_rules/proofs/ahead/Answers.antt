@@ -1,14 +1,14 @@
 -- `mul_rules::ahead` meets its contract: a product, on the left before the right, may start with a literal.
 -- Assumes nothing.
 use mathlib.Core.Path.{sym, ◌∙◌}
-use Rattle.pool.specs.Pool.{node_in}
+use Rattle.pool.specs.Pool.{node_at}
 use Rattle.views.proofs.Missed.{mul_missed}
 use Rattle.mul_rules.proofs.Groups.{products, product_left, product_right, no_product}
 use Rattle.mul_rules.proofs.ahead.Goals as goal
 
 pub returns-in-Mul-right : goal.returns-in-Mul-right
 returns-in-Mul-right c =
-    let at = node_in c.args.kinds.now c.args.words.now in
+    let at = node_at c.args.pool.now in
     let lhs = c.args.lhs in
     let rhs = c.args.rhs in
     products at lhs rhs
@@ -17,7 +17,7 @@ returns-in-Mul-right c =
 
 pub returns-in_default-right : goal.returns-in_default-right
 returns-in_default-right c =
-    let at = node_in c.args.kinds.now c.args.words.now in
+    let at = node_at c.args.pool.now in
     let lhs = c.args.lhs in
     let rhs = c.args.rhs in
     product_left at lhs rhs (sym c.requires.0 ∙ c.in-Mul.is)
@@ -26,7 +26,7 @@ returns-in_default-right c =
 
 pub returns-in-Mul-right-2 : goal.returns-in-Mul-right-2
 returns-in-Mul-right-2 c =
-    let at = node_in c.args.kinds.now c.args.words.now in
+    let at = node_at c.args.pool.now in
     let lhs = c.args.lhs in
     let rhs = c.args.rhs in
     product_right at lhs rhs
@@ -35,7 +35,7 @@ returns-in-Mul-right-2 c =
 
 pub returns-in_default-right-2 : goal.returns-in_default-right-2
 returns-in_default-right-2 c =
-    let at = node_in c.args.kinds.now c.args.words.now in
+    let at = node_at c.args.pool.now in
     let lhs = c.args.lhs in
     let rhs = c.args.rhs in
     no_product at lhs rhs

@@ -1,14 +1,14 @@
 -- `mul_rules::exps` meets its contract: the shapes of both factors say which of the exp rules can hold.
 -- Assumes nothing.
 use mathlib.Core.Path.{sym, ◌∙◌}
-use Rattle.pool.specs.Pool.{node_in}
+use Rattle.pool.specs.Pool.{node_at}
 use Rattle.views.proofs.Missed.{mul_missed, exp_missed}
 use Rattle.mul_rules.proofs.Groups.{mul_exp, exp_mul, mul_mul, mul_none, exp_no_mul, no_mul_no_exp}
 use Rattle.mul_rules.proofs.exps.Goals as goal
 
 pub returns-in-Exp-right : goal.returns-in-Exp-right
 returns-in-Exp-right c =
-    let at = node_in c.args.kinds.now c.args.words.now in
+    let at = node_at c.args.pool.now in
     let lhs = c.args.lhs in
     let rhs = c.args.rhs in
     mul_exp at lhs rhs (sym c.requires.0 ∙ c.in-Mul.is)
@@ -16,7 +16,7 @@ returns-in-Exp-right c =
 
 pub returns-in-Mul-right : goal.returns-in-Mul-right
 returns-in-Mul-right c =
-    let at = node_in c.args.kinds.now c.args.words.now in
+    let at = node_at c.args.pool.now in
     let lhs = c.args.lhs in
     let rhs = c.args.rhs in
     mul_mul at lhs rhs (sym c.requires.0 ∙ c.in-Mul.is)
@@ -24,7 +24,7 @@ returns-in-Mul-right c =
 
 pub returns-in_default-right : goal.returns-in_default-right
 returns-in_default-right c =
-    let at = node_in c.args.kinds.now c.args.words.now in
+    let at = node_at c.args.pool.now in
     let lhs = c.args.lhs in
     let rhs = c.args.rhs in
     mul_none at lhs rhs (sym c.requires.0 ∙ c.in-Mul.is)
@@ -33,7 +33,7 @@ returns-in_default-right c =
 
 pub returns-in-Mul-right-2 : goal.returns-in-Mul-right-2
 returns-in-Mul-right-2 c =
-    let at = node_in c.args.kinds.now c.args.words.now in
+    let at = node_at c.args.pool.now in
     let lhs = c.args.lhs in
     let rhs = c.args.rhs in
     exp_mul at lhs rhs
@@ -42,7 +42,7 @@ returns-in-Mul-right-2 c =
 
 pub returns-in_default-right-2 : goal.returns-in_default-right-2
 returns-in_default-right-2 c =
-    let at = node_in c.args.kinds.now c.args.words.now in
+    let at = node_at c.args.pool.now in
     let lhs = c.args.lhs in
     let rhs = c.args.rhs in
     exp_no_mul at lhs rhs (sym c.requires.0 ∙ c.in-Exp.is)
@@ -50,7 +50,7 @@ returns-in_default-right-2 c =
 
 pub returns-in_default : goal.returns-in_default
 returns-in_default c =
-    let at = node_in c.args.kinds.now c.args.words.now in
+    let at = node_at c.args.pool.now in
     let lhs = c.args.lhs in
     let rhs = c.args.rhs in
     no_mul_no_exp at lhs rhs

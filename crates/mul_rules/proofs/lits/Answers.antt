@@ -5,14 +5,14 @@ use mathlib.Core.Path.{◌≡◌, sym, ◌∙◌}
 use mir.Syntax.{w64}
 use mir.Val.{to_z, of_z}
 use mir.ValLaws.{to_z-of_z}
-use Rattle.pool.specs.Pool.{node_in}
+use Rattle.pool.specs.Pool.{node_at}
 use Rattle.views.proofs.Missed.{lit_missed, exp_missed}
 use Rattle.mul_rules.proofs.Groups.{lit_lit, lit_other, other_lit, exp_lit, exp_exp, exp_none, other_none}
 use Rattle.mul_rules.proofs.lits.Goals as goal
 
 pub returns-in-Lit-right : goal.returns-in-Lit-right
 returns-in-Lit-right c =
-    let at = node_in c.args.kinds.now c.args.words.now in
+    let at = node_at c.args.pool.now in
     let lhs = c.args.lhs in
     let rhs = c.args.rhs in
     let a = c.in-Lit.a in
@@ -24,7 +24,7 @@ returns-in-Lit-right c =
 
 pub returns-in_default-right : goal.returns-in_default-right
 returns-in_default-right c =
-    let at = node_in c.args.kinds.now c.args.words.now in
+    let at = node_at c.args.pool.now in
     let lhs = c.args.lhs in
     let rhs = c.args.rhs in
     let a = c.in-Lit.a in
@@ -35,7 +35,7 @@ returns-in_default-right c =
 
 pub returns-in-Lit-right-2 : goal.returns-in-Lit-right-2
 returns-in-Lit-right-2 c =
-    let at = node_in c.args.kinds.now c.args.words.now in
+    let at = node_at c.args.pool.now in
     let lhs = c.args.lhs in
     let rhs = c.args.rhs in
     let b = c.in-Lit-right-2.b in
@@ -46,14 +46,14 @@ returns-in-Lit-right-2 c =
 
 pub returns-in-Exp-right : goal.returns-in-Exp-right
 returns-in-Exp-right c =
-    let at = node_in c.args.kinds.now c.args.words.now in
+    let at = node_at c.args.pool.now in
     let lhs = c.args.lhs in
     let rhs = c.args.rhs in
     exp_exp at lhs rhs (sym c.requires.0 ∙ c.in-Exp.is) (sym c.requires.1 ∙ c.in-Exp-right.is)
 
 pub returns-in_default-right-2 : goal.returns-in_default-right-2
 returns-in_default-right-2 c =
-    let at = node_in c.args.kinds.now c.args.words.now in
+    let at = node_at c.args.pool.now in
     let lhs = c.args.lhs in
     let rhs = c.args.rhs in
     exp_none at lhs rhs (sym c.requires.0 ∙ c.in-Exp.is)
@@ -62,7 +62,7 @@ returns-in_default-right-2 c =
 
 pub returns-in-Lit-right-3 : goal.returns-in-Lit-right-3
 returns-in-Lit-right-3 c =
-    let at = node_in c.args.kinds.now c.args.words.now in
+    let at = node_at c.args.pool.now in
     let lhs = c.args.lhs in
     let rhs = c.args.rhs in
     let b = c.in-Lit-right-3.b in
@@ -74,7 +74,7 @@ returns-in-Lit-right-3 c =
 
 pub returns-in_default-right-3 : goal.returns-in_default-right-3
 returns-in_default-right-3 c =
-    let at = node_in c.args.kinds.now c.args.words.now in
+    let at = node_at c.args.pool.now in
     let lhs = c.args.lhs in
     let rhs = c.args.rhs in
     other_none at lhs rhs

@@ -5,7 +5,7 @@ use mathlib.Core.Path.{◌≡◌, sym, ap, ◌∙◌}
 use mir.Syntax.{w64}
 use mir.Val.{to_z, of_z}
 use mir.ValLaws.{to_z-of_z}
-use Rattle.pool.specs.Pool.{node_in}
+use Rattle.pool.specs.Pool.{node_at}
 use Rattle.literal.specs.Literal.{is_zero, is_one}
 use Rattle.mul_rules.specs.Rules.{lit_arm}
 use Rattle.views.proofs.Missed.{mul_missed, tested}
@@ -14,14 +14,14 @@ use Rattle.mul_rules.proofs.one_lit.Goals as goal
 
 pub returns-then-is_zero : goal.returns-then-is_zero
 returns-then-is_zero c =
-    let at = node_in c.args.kinds.now c.args.words.now in
+    let at = node_at c.args.pool.now in
     let a = c.args.a in
     let ea : to_z w64 (of_z w64 a) ≡ a = to_z-of_z w64 a c.ranges.a in
     is_zero_lem at a c.args.other (tested is_zero ea c.is_zero.ensures c.if-is_zero.true)
 
 pub returns-then-is_one : goal.returns-then-is_one
 returns-then-is_one c =
-    let at = node_in c.args.kinds.now c.args.words.now in
+    let at = node_at c.args.pool.now in
     let a = c.args.a in
     let ea : to_z w64 (of_z w64 a) ≡ a = to_z-of_z w64 a c.ranges.a in
     is_one_lem at a c.args.other
@@ -30,7 +30,7 @@ returns-then-is_one c =
 
 pub returns-in_default : goal.returns-in_default
 returns-in_default c =
-    let at = node_in c.args.kinds.now c.args.words.now in
+    let at = node_at c.args.pool.now in
     let a = c.args.a in
     let ea : to_z w64 (of_z w64 a) ≡ a = to_z-of_z w64 a c.ranges.a in
     let other = c.args.other in
@@ -39,26 +39,26 @@ returns-in_default c =
     (tested is_one ea c.is_one.ensures c.if-is_one.false)
     (mul_missed (at other) c.shape_at.ensures c.in_default.not-Mul)
 
-pub returns-in_default-lit_at : goal.returns-in_default-lit_at
-returns-in_default-lit_at c =
-    let at = node_in c.args.kinds.now c.args.words.now in
+pub returns-in_err-b : goal.returns-in_err-b
+returns-in_err-b c =
+    let at = node_at c.args.pool.now in
     let a = c.args.a in
     let ea : to_z w64 (of_z w64 a) ≡ a = to_z-of_z w64 a c.ranges.a in
-    no_factor at a c.args.other
+    rw c.from_residual.ensures (no_factor at a c.args.other
     (tested is_zero ea c.is_zero.ensures c.if-is_zero.false)
     (tested is_one ea c.is_one.ensures c.if-is_one.false)
     (sym c.shape_at.ensures ∙ c.in-Mul.is)
-    (sym c.lit_at.ensures ∙ ap lit_arm c.in_default-lit_at.is)
+    (sym c.lit_at.ensures ∙ ap lit_arm c.in_err-b.was))
 
 pub returns : goal.returns
 returns c =
-    let at = node_in c.args.kinds.now c.args.words.now in
+    let at = node_at c.args.pool.now in
     let a = c.args.a in
     let ea : to_z w64 (of_z w64 a) ≡ a = to_z-of_z w64 a c.ranges.a in
-    let b = c.in-Lit.b in
+    let b = c.in_ok-b.b in
     let eb : to_z w64 (of_z w64 b) ≡ b = to_z-of_z w64 b (search rules) in
     rw (ea, eb)
     (scaled at a c.args.other (tested is_zero ea c.is_zero.ensures c.if-is_zero.false)
     (tested is_one ea c.is_one.ensures c.if-is_one.false)
     (sym c.shape_at.ensures ∙ c.in-Mul.is)
-    (sym c.lit_at.ensures ∙ ap lit_arm c.in-Lit.is))
+    (sym c.lit_at.ensures ∙ ap lit_arm c.in_ok-b.was))

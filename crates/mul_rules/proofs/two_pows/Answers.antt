@@ -2,14 +2,14 @@
 -- Assumes nothing.
 use mathlib.Core.Path.{sym, ◌∙◌}
 use borrow.Author.Tests.{eq-eqb, ne_eqb}
-use Rattle.pool.specs.Pool.{node_in}
+use Rattle.pool.specs.Pool.{node_at}
 use Rattle.views.proofs.Missed.{pow_missed}
 use Rattle.mul_rules.proofs.Insides.{same_base, no_base, both_pows, other_base}
 use Rattle.mul_rules.proofs.two_pows.Goals as goal
 
 pub returns-then-a2-b : goal.returns-then-a2-b
 returns-then-a2-b c =
-    let at = node_in c.args.kinds.now c.args.words.now in
+    let at = node_at c.args.pool.now in
     let a1 = c.args.a1 in
     let a2 = c.args.a2 in
     let b = c.args.b in
@@ -18,7 +18,7 @@ returns-then-a2-b c =
 
 pub returns-in_default : goal.returns-in_default
 returns-in_default c =
-    let at = node_in c.args.kinds.now c.args.words.now in
+    let at = node_at c.args.pool.now in
     let a1 = c.args.a1 in
     let a2 = c.args.a2 in
     let b = c.args.b in
@@ -28,7 +28,7 @@ returns-in_default c =
 
 pub returns-then-a21-b : goal.returns-then-a21-b
 returns-then-a21-b c =
-    let at = node_in c.args.kinds.now c.args.words.now in
+    let at = node_at c.args.pool.now in
     let a1 = c.args.a1 in
     let a2 = c.args.a2 in
     let b = c.args.b in
@@ -39,7 +39,7 @@ returns-then-a21-b c =
 
 pub returns : goal.returns
 returns c =
-    let at = node_in c.args.kinds.now c.args.words.now in
+    let at = node_at c.args.pool.now in
     let a1 = c.args.a1 in
     let a2 = c.args.a2 in
     let b = c.args.b in
