@@ -1,5 +1,6 @@
 -- Every accepted call of `taylor_coeffs` or `taylor_coeffs_at` follows the book: each node that is reached from the root has one expansion, and that of a product, a quotient, an exponential or a logarithm is worked from those of its parts by the recurrence.
 -- Assumes nothing.
+use Rattle.std.specs.Prelude.{Some, None}
 use mathlib.Core.Path.{◌≡◌, refl, sym, ap, ◌∙◌, subst}
 use mathlib.Core.Bool.{Bool, true, false, ◌||◌, false≢true}
 use mathlib.Core.List.{List, [], ◌∷◌}
@@ -20,7 +21,7 @@ use Rattle.shape.specs.Shape.{has, Reach, root, part}
 use Rattle.shape.proofs.Lists.{here}
 use Rattle.taylor.specs.Work.{Result, Work}
 use Rattle.taylor.specs.Expansion.{Expansion, Constant, add_to, power}
-use Rattle.taylor.specs.Expand.{Kept, nothing, kept, State, state, Went, Point, none, point, is_point, expand_below, expanded, expand}
+use Rattle.taylor.specs.Expand.{Kept, nothing, kept, State, state, Went, Point, is_point, expand_below, expanded, expand}
 use Rattle.taylor_base.specs.Answers.{terms}
 use Rattle.taylor_rules.proofs.Theorems.{expand_kept}
 use Rattle.lent.specs.Call.{lent_pool}
@@ -180,8 +181,8 @@ module _ {ks ws : List ℕ} {n : ℕ} {r : Outcome} {ks' ws' : List ℕ} {n' : �
   call_follows x =
       expansion_holds x (λ Q e. Expanded (lent_pool ks ws n) Q v x order from e) (λ keeps inside known small e Q eq. expand_follows_the_book (lent_pool ks ws n) v x order small keeps known from inside eq)
 
-  pub coeffs_call_follows_the_book : Answered (expand_work from v none order) ks ws n r ks' ws' n' → Expanded (lent_pool ks ws n) (lent_pool ks' ws' n') v none order from (given r.series)
-  coeffs_call_follows_the_book = call_follows none
+  pub coeffs_call_follows_the_book : Answered (expand_work from v None order) ks ws n r ks' ws' n' → Expanded (lent_pool ks ws n) (lent_pool ks' ws' n') v None order from (given r.series)
+  coeffs_call_follows_the_book = call_follows None
 
-  pub coeffs_at_call_follows_the_book : (z : ℤ) → Answered (expand_work from v (point z) order) ks ws n r ks' ws' n' → Expanded (lent_pool ks ws n) (lent_pool ks' ws' n') v (point z) order from (given r.series)
-  coeffs_at_call_follows_the_book z = call_follows (point z)
+  pub coeffs_at_call_follows_the_book : (z : ℤ) → Answered (expand_work from v (Some z) order) ks ws n r ks' ws' n' → Expanded (lent_pool ks ws n) (lent_pool ks' ws' n') v (Some z) order from (given r.series)
+  coeffs_at_call_follows_the_book z = call_follows (Some z)

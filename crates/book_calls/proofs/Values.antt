@@ -1,5 +1,6 @@
 -- In every ring with fractions, for all values of the variables: the coefficients that an accepted call of `mul`, `div`, `exp` or `log` of expansions answers have the values of the book's formulas; and those of an expression are the coefficients of its value in the algebra of series.
 -- Assumes nothing.
+use Rattle.std.specs.Prelude.{Some, None}
 use mathlib.Core.Path.{◌≡◌}
 use mathlib.Core.Bool.{◌&&◌}
 use mathlib.Core.List.{List, [], ◌∷◌}
@@ -12,7 +13,6 @@ use Rattle.constructor_laws.specs.Keeps.{Keeps}
 use Rattle.constructor_laws.proofs.Rules.{AllBelow, all_below_lem}
 use Rattle.taylor.specs.Work.{at}
 use Rattle.taylor.specs.Expansion.{Expansion, Constant, Polynomial, times, quotient, exponential, logarithm}
-use Rattle.taylor.specs.Expand.{none, point}
 use Rattle.taylor_rules.specs.Kept.{Fits}
 use Rattle.taylor_rules.proofs.Theorems.{times_kept, quotient_kept, exponential_kept, logarithm_kept}
 use Rattle.book.specs.Formula.{Formula, #, ◌⊗◌, ◌⊘◌, Exp, Log, work}
@@ -118,15 +118,15 @@ module _ {A : Algebra} (M : Model A) (D : Distributive A) (fractions : Fractions
     -- of an expression: its value in the algebra of series, the variable being its value and t
     module _ (from v order : ℕ) (words : (i : ℕ) → get_or ws i 0 < 2 ^ 64) where
       pub coeffs_call_means :
-          Answered (expand_work from v none order) ks ws n r ks' ws' n'
-          → MeansSeries A env (lent_pool ks ws n) (suc order) (value (series A) (as_series A env v none) (node_at (lent_pool ks ws n)) from) (given r.series) (lent_pool ks' ws' n')
+          Answered (expand_work from v None order) ks ws n r ks' ws' n'
+          → MeansSeries A env (lent_pool ks ws n) (suc order) (value (series A) (as_series A env v None) (node_at (lent_pool ks ws n)) from) (given r.series) (lent_pool ks' ws' n')
       coeffs_call_means =
-          expansion_holds from v order none (λ Q e. MeansSeries A env (lent_pool ks ws n) (suc order) (value (series A) (as_series A env v none) (node_at (lent_pool ks ws n)) from) e Q)
-          (λ keeps inside known small e Q eq. expansion_means M env keeps D v known none order fractions words from inside eq)
+          expansion_holds from v order None (λ Q e. MeansSeries A env (lent_pool ks ws n) (suc order) (value (series A) (as_series A env v None) (node_at (lent_pool ks ws n)) from) e Q)
+          (λ keeps inside known small e Q eq. expansion_means M env keeps D v known None order fractions words from inside eq)
 
       pub coeffs_at_call_means :
-          (z : ℤ) → Answered (expand_work from v (point z) order) ks ws n r ks' ws' n'
-          → MeansSeries A env (lent_pool ks ws n) (suc order) (value (series A) (as_series A env v (point z)) (node_at (lent_pool ks ws n)) from) (given r.series) (lent_pool ks' ws' n')
+          (z : ℤ) → Answered (expand_work from v (Some z) order) ks ws n r ks' ws' n'
+          → MeansSeries A env (lent_pool ks ws n) (suc order) (value (series A) (as_series A env v (Some z)) (node_at (lent_pool ks ws n)) from) (given r.series) (lent_pool ks' ws' n')
       coeffs_at_call_means z =
-          expansion_holds from v order (point z) (λ Q e. MeansSeries A env (lent_pool ks ws n) (suc order) (value (series A) (as_series A env v (point z)) (node_at (lent_pool ks ws n)) from) e Q)
-          (λ keeps inside known small e Q eq. expansion_means M env keeps D v known (point z) order fractions words from inside eq)
+          expansion_holds from v order (Some z) (λ Q e. MeansSeries A env (lent_pool ks ws n) (suc order) (value (series A) (as_series A env v (Some z)) (node_at (lent_pool ks ws n)) from) e Q)
+          (λ keeps inside known small e Q eq. expansion_means M env keeps D v known (Some z) order fractions words from inside eq)

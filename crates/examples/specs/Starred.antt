@@ -1,6 +1,6 @@
 -- The examples that document 01 marks with *, all of them, as one statement about the definitions: on the left the definitions at work, on the right the paper's text.
 -- Assumes nothing.
-use Rattle.std.specs.Prelude.{◌≡◌, [], ◌∷◌, ℕ, ℤ, pos, Ok, Err}
+use Rattle.std.specs.Prelude.{◌≡◌, [], ◌∷◌, ℕ, ℤ, pos, Ok, Err, Some}
 use Rattle.refusals.specs.Refusals.{no_exp_or_log}
 use Rattle.residue.specs.Residue.{fixed_modulus}
 use Rattle.residue.specs.Residue.{Divided}
@@ -10,7 +10,7 @@ use Rattle.constructors.specs.Build.{calls, depth}
 use Rattle.walks.specs.Substitute.{substitute_var}
 use Rattle.walks.specs.Derive.{derive}
 use Rattle.walks.specs.EvaluateResidue.{evaluate_residue}
-use Rattle.taylor.specs.Expand.{point, expand}
+use Rattle.taylor.specs.Expand.{expand}
 use Rattle.examples.specs.Shown.{bytes, with_variables, x0, x1, Shown, text, texts, refusal, shown, shown_expansion}
 
 abbrev pub lit : ℤ → Run
@@ -27,7 +27,7 @@ pow a e = (calls depth).pow_at a e
 
 -- an expression's expansion by x0 to order 2 at a point
 abbrev pub expanded_at : ℤ → Out → Shown
-expanded_at z (done i P) = shown_expansion (expand i x0 (point z) 2 P)
+expanded_at z (done i P) = shown_expansion (expand i x0 (Some z) 2 P)
 expanded_at z (refused k) = refusal k
 
 -- an expression's residue, with no values

@@ -1,16 +1,16 @@
 -- Where an expansion is made, and what is made at a variable.
 -- Assumes nothing.
-use Rattle.std.specs.Prelude.{Bool, true, false, ℕ}
+use Rattle.std.specs.Prelude.{Bool, true, false, ℕ, Some, None}
 use Rattle.taylor.specs.Work.{Work, ◌>>=◌, yield}
 use Rattle.taylor.specs.Expansion.{Expansion, Constant, var}
-use Rattle.taylor.specs.Expand.{Point, none, point, point_node}
+use Rattle.taylor.specs.Expand.{Point, point_node}
 use Rattle.expand.specs.declared.point.Point as coded
 use Rattle.expand.specs.declared.point.Point.TheVariants as coded_as
 
 -- at the variable itself, or at a number
 abbrev pub point_of : coded.Point → Point
-point_of coded_as.None = none
-point_of (coded_as.At z) = point z
+point_of coded_as.None = None
+point_of (coded_as.At z) = Some z
 
 -- Some(x) => lit(x), None => var(var); then var(point, order)
 abbrev pub variable_work : ℕ → Point → ℕ → Work Expansion

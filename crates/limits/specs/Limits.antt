@@ -1,11 +1,10 @@
 -- The limits and the refusal numbers of document 01, in its digits: what a call answers at each limit, and one past it. No name of a limit or of a refusal stands here.
 -- Assumes nothing.
-use Rattle.std.specs.Prelude.{◌≡◌, [], ◌∷◌, ◌++◌, pos, negsuc, Float, replicate}
+use Rattle.std.specs.Prelude.{◌≡◌, [], ◌∷◌, ◌++◌, pos, negsuc, Float, replicate, Some, None}
 use Rattle.std.specs.Float.{binary64}
 use Rattle.std.specs.Float.Ieee.{to_bits}
 use Rattle.constructor_calls.specs.declared.two.Two.TheVariants as two
 use Rattle.constructor_calls.specs.declared.one.One.TheVariants as one
-use Rattle.taylor.specs.Expand.{none, point}
 use Rattle.shape.specs.File.{read_file}
 use Rattle.engine.specs.Build.{lit_work, var_work, on_one, on_two}
 use Rattle.engine_walk.specs.Walks.{substitute_work, derive_work}
@@ -79,20 +78,20 @@ pub record Arguments : Type 0 where
   pub derive_by_65536 : called (derive_work 0 65536) x0 ≡ refuses 3
   pub substitute_65535 : called (substitute_work 0 65535 0) x0 ≡ gives 0
   pub substitute_65536 : called (substitute_work 0 65536 0) x0 ≡ refuses 3
-  pub expand_by_65535 : expanded (expand_work 0 65535 none 0) (lent (variable 65535 ∷ [])) ≡ gives 1
-  pub expand_by_65536 : expanded (expand_work 0 65536 none 0) (lent (variable 65535 ∷ [])) ≡ refuses 3
+  pub expand_by_65535 : expanded (expand_work 0 65535 None 0) (lent (variable 65535 ∷ [])) ≡ gives 1
+  pub expand_by_65536 : expanded (expand_work 0 65536 None 0) (lent (variable 65535 ∷ [])) ≡ refuses 3
   -- 4. "A literal or point is outside the literal range."
   pub literal_greatest : called (lit_work (pos 9007199254740991)) nothing ≡ gives 0
   pub literal_above : called (lit_work (pos 9007199254740992)) nothing ≡ refuses 4
   pub literal_least : called (lit_work (negsuc 9007199254740990)) nothing ≡ gives 0
   pub literal_below : called (lit_work (negsuc 9007199254740991)) nothing ≡ refuses 4
-  pub point_greatest : expanded (expand_work 0 0 (point (pos 9007199254740991)) 2) x0 ≡ gives 3
-  pub point_above : expanded (expand_work 0 0 (point (pos 9007199254740992)) 2) x0 ≡ refuses 4
-  pub point_least : expanded (expand_work 0 0 (point (negsuc 9007199254740990)) 2) x0 ≡ gives 3
-  pub point_below : expanded (expand_work 0 0 (point (negsuc 9007199254740991)) 2) x0 ≡ refuses 4
+  pub point_greatest : expanded (expand_work 0 0 (Some (pos 9007199254740991)) 2) x0 ≡ gives 3
+  pub point_above : expanded (expand_work 0 0 (Some (pos 9007199254740992)) 2) x0 ≡ refuses 4
+  pub point_least : expanded (expand_work 0 0 (Some (negsuc 9007199254740990)) 2) x0 ≡ gives 3
+  pub point_below : expanded (expand_work 0 0 (Some (negsuc 9007199254740991)) 2) x0 ≡ refuses 4
   -- 5. "An order is above 24"
-  pub order_24 : expanded (expand_work 0 0 none 24) x0 ≡ gives 25
-  pub order_25 : expanded (expand_work 0 0 none 25) x0 ≡ refuses 5
+  pub order_24 : expanded (expand_work 0 0 None 24) x0 ≡ gives 25
+  pub order_25 : expanded (expand_work 0 0 None 25) x0 ≡ refuses 5
   pub var_of_order_24 : expanded (var_call 0 24) x0 ≡ gives 25
   pub var_of_order_25 : expanded (var_call 0 25) x0 ≡ refuses 5
   -- "an expansion's list has 0 or more than 25 entries"
@@ -149,7 +148,7 @@ pub record Reading : Type 0 where
 pub record Working : Type 0 where
   -- 10. "A Max is reached by `derive`, by an expansion or by printing, or `max` is asked of an expansion that is no constant."
   pub max_derived : called (derive_work 1 0) (lent (variable 0 ∷ greater 0 0 ∷ [])) ≡ refuses 10
-  pub max_expanded : expanded (expand_work 1 0 none 2) (lent (variable 0 ∷ greater 0 0 ∷ [])) ≡ refuses 10
+  pub max_expanded : expanded (expand_work 1 0 None 2) (lent (variable 0 ∷ greater 0 0 ∷ [])) ≡ refuses 10
   pub max_printed : printed 64 2 (lent (variable 0 ∷ greater 0 0 ∷ exponential 1 ∷ [])) ≡ refuses 10
   pub max_of_a_list : expanded (on_expansions binary.Max (list_of 1) (list_of 1)) x0 ≡ refuses 10
   -- 11. "`exp` or `log` of a literal is needed that has none."

@@ -1,6 +1,6 @@
 -- By residues of every modulus from 2 on: a substituted expression has the value of the first one with the variable set to the second one's value, and of a plain expression `derive` and coefficient 1 of the expansion have equal values. So wherever the evaluations are accepted.
 -- Assumes nothing.
-use Rattle.std.specs.Prelude.{Ok}
+use Rattle.std.specs.Prelude.{Ok, None}
 use mathlib.Core.Path.{◌≡◌, refl, sym, ap, ◌∙◌, fun_ext}
 use mathlib.Core.Bool.{Bool, true, false, cond}
 use mathlib.Core.List.{List}
@@ -22,7 +22,7 @@ use Rattle.walk_laws.proofs.Substitution.{substitute_kept}
 use Rattle.walk_laws.proofs.Derivation.{derive_kept}
 use Rattle.taylor.specs.Work.{at}
 use Rattle.taylor.specs.Expansion.{Polynomial}
-use Rattle.taylor.specs.Expand.{none, expand}
+use Rattle.taylor.specs.Expand.{expand}
 use Rattle.meaning.specs.Value.{Values, value}
 use Rattle.walk_meaning.specs.Setting.{setting}
 use Rattle.walk_meaning.proofs.Substitution.{substitution_means}
@@ -80,7 +80,7 @@ module _ (m : ℕ) (some : 2 ≤ m) (values : List ℕ) (small : (v : ℕ) → g
   pub derivation_by_residues :
       ((i : ℕ) → get_or P.words i 0 < 2 ^ 64) → (root var order : ℕ) → root < P.count → var ≤ greatest_variable → 1 ≤ order → PlainExpression (node_at P) root
       → {i : ℕ} {Q : Pool} → derive root var P ≡ done i Q
-      → {cs : List ℕ} {R : Pool} → expand root var none order P ≡ done (Polynomial cs) R
+      → {cs : List ℕ} {R : Pool} → expand root var None order P ≡ done (Polynomial cs) R
       → (r s : ℕ)
       → evaluate_residue m (node_at Q) values i ≡ Ok r
       → evaluate_residue m (node_at R) values (at cs 1) ≡ Ok s
@@ -88,7 +88,7 @@ module _ (m : ℕ) (some : 2 ≤ m) (values : List ℕ) (small : (v : ℕ) → g
   unfolding coefficient
   derivation_by_residues words root var order h known more p {i} {Q} derived {cs} {R} expanded r s er es =
       let keeps_Q = (accepted_kept (derive_kept var root keeps h) derived).keeps in
-      let keeps_R = plain_expansion_keeps (residues_model m some) (residues_ring m some) env keeps var known none order words root h p expanded in
+      let keeps_R = plain_expansion_keeps (residues_model m some) (residues_ring m some) env keeps var known None order words root h p expanded in
       sym (residue_is_value m some values small keeps_Q i r er)
       ∙ ap (λ (a : Residues m). a.0) (derive_is_coefficient (residues_model m some) (residues_ring m some) env keeps words var known order root more h p derived expanded)
       ∙ residue_is_value m some values small keeps_R (at cs 1) s es

@@ -1,6 +1,6 @@
 -- The calls on expansions: checks in their order, then the work, whose numbers the crate situations has; and the number 0 stands beside an expansion only.
 -- Assumes nothing.
-use Rattle.std.specs.Prelude.{Ok, Err}
+use Rattle.std.specs.Prelude.{Ok, Err, Some, None}
 use mathlib.Core.Path.{◌≡◌, refl}
 use mathlib.Core.Bool.{Bool, true, false, ◌&&◌}
 use mathlib.Core.List.{List, [], ◌∷◌, ◌++◌}
@@ -16,7 +16,7 @@ use Rattle.pool.specs.Pool.{Pool, is_pool, done, refused}
 use Rattle.shape.specs.Demand.{KeepsRules}
 use Rattle.taylor.specs.Work.{Result, Work}
 use Rattle.taylor.specs.Expansion.{Expansion, order, var, coeff, derivative, negate, exponential, logarithm, power, add_to, sub_from, times, quotient, maximum, subst}
-use Rattle.taylor.specs.Expand.{Point, none, point, expand}
+use Rattle.taylor.specs.Expand.{Point, expand}
 use Rattle.taylor_base.specs.Answers.{terms}
 use Rattle.lent.specs.Call.{leaves, lent_pool, demand, on_pool}
 use Rattle.lent_series.specs.declared.series.Series.{Series}
@@ -101,18 +101,18 @@ module _ (ks ws : List ℕ) (n : ℕ) (fit : (i : ℕ) → get_or ws i 0 < 2 ^ 6
     last_checked : is_pool ks ws n ≡ true → all_below n (root ∷ []) ≡ true → (x : Point) → Situated (wrong_order ∷ []) (met table.coeffs) (ltb order terms ∷ []) (of_result (last x))
     last_checked r e x = asked (ltb order terms) wrong_order (expand root v x order P) (λ f. working ((of_walks P (rules ks ws n fit r) root (root_below ks ws n fit root [] e)).expansion v x order))
 
-    coeffs_answers : ByTable table.coeffs (is_pool ks ws n ∷ all_below n (root ∷ []) ∷ leb v greatest_variable ∷ ltb order terms ∷ []) (of_result (demand refused (is_pool ks ws n) broken_pool (expand_work root v none order P)))
+    coeffs_answers : ByTable table.coeffs (is_pool ks ws n ∷ all_below n (root ∷ []) ∷ leb v greatest_variable ∷ ltb order terms ∷ []) (of_result (demand refused (is_pool ks ws n) broken_pool (expand_work root v None order P)))
     coeffs_answers =
         asked (is_pool ks ws n) broken_pool _ (λ r.
         asked (all_below n (root ∷ [])) unknown_node _ (λ e.
-        asked (leb v greatest_variable) unknown_variable (last none) (λ f. last_checked r e none)))
+        asked (leb v greatest_variable) unknown_variable (last None) (λ f. last_checked r e None)))
 
-    coeffs_at_answers : (z : ℤ) → ByTable table.coeffs_at (is_pool ks ws n ∷ all_below n (root ∷ []) ∷ leb v greatest_variable ∷ is_literal z ∷ ltb order terms ∷ []) (of_result (demand refused (is_pool ks ws n) broken_pool (expand_work root v (point z) order P)))
+    coeffs_at_answers : (z : ℤ) → ByTable table.coeffs_at (is_pool ks ws n ∷ all_below n (root ∷ []) ∷ leb v greatest_variable ∷ is_literal z ∷ ltb order terms ∷ []) (of_result (demand refused (is_pool ks ws n) broken_pool (expand_work root v (Some z) order P)))
     coeffs_at_answers z =
         asked (is_pool ks ws n) broken_pool _ (λ r.
         asked (all_below n (root ∷ [])) unknown_node _ (λ e.
         asked (leb v greatest_variable) unknown_variable _ (λ f.
-        asked (is_literal z) not_literal (last (point z)) (λ g. last_checked r e (point z)))))
+        asked (is_literal z) not_literal (last (Some z)) (λ g. last_checked r e (Some z)))))
 
   pub of_series : OfSeries ks ws n
   of_series =
@@ -133,6 +133,6 @@ module _ (ks ws : List ℕ) (n : ℕ) (fit : (i : ℕ) → get_or ws i 0 < 2 ^ 6
         div_call_lem = λ s t. series_call table.of_div (given_two s t (length_ok s && length_ok t) (quotient (given s) (given t))) (two_call s t (length_ok s && length_ok t) (quotient (given s) (given t)) (λ r. (E r).div_meets (given s) (given t)));
         max_call_lem = λ s t. series_call table.of_max (given_two s t (length_ok s && length_ok t) (maximum (given s) (given t))) (two_call s t (length_ok s && length_ok t) (maximum (given s) (given t)) (λ r. (E r).max_meets (given s) (given t)));
         subst_call_lem = λ s t. series_call table.of_subst (given_two s t ((length_ok s && length_ok t) && agree s t) (subst (given s) (given t))) (two_call s t ((length_ok s && length_ok t) && agree s t) (subst (given s) (given t)) (λ r. (E r).subst_meets (given s) (given t)));
-        coeffs_call = λ root v order. series_call table.coeffs (expand_work root v none order) (coeffs_answers root v order);
-        coeffs_at_call = λ root v z order. series_call table.coeffs_at (expand_work root v (point z) order) (coeffs_at_answers root v order z);
+        coeffs_call = λ root v order. series_call table.coeffs (expand_work root v None order) (coeffs_answers root v order);
+        coeffs_at_call = λ root v z order. series_call table.coeffs_at (expand_work root v (Some z) order) (coeffs_at_answers root v order z);
       }

@@ -1,13 +1,12 @@
 -- What is said of every call: it refuses by the table, and in the table's order.
 -- Assumes nothing.
-use Rattle.std.specs.Prelude.{◌≡◌, Bool, true, false, ◌&&◌, List, [], ◌∷◌, ℕ, zero, suc, leb, ltb, ℤ, length, Float, Ok, Err}
+use Rattle.std.specs.Prelude.{◌≡◌, Bool, true, false, ◌&&◌, List, [], ◌∷◌, ℕ, zero, suc, leb, ltb, ℤ, length, Float, Ok, Err, Some, None}
 use Rattle.literal.specs.Literal.{is_literal}
 use Rattle.pool.specs.Nodes.{all_below, greatest_variable}
 use Rattle.pool.specs.Pool.{Run, is_pool}
 use Rattle.constructors.specs.Build.{calls, depth}
 use Rattle.shape.specs.File.{is_sized, are_nodes, is_in_order, read_file}
 use Rattle.taylor.specs.Expansion.{Expansion, coeff, derivative, negate, exponential, logarithm, power, add_to, sub_from, times, quotient, maximum, subst}
-use Rattle.taylor.specs.Expand.{none, point}
 use Rattle.taylor_base.specs.Answers.{terms}
 use Rattle.lent.specs.Answer.{Answer}
 use Rattle.lent.specs.Answer.{Written}
@@ -130,5 +129,5 @@ pub record OfSeries (ks ws : List ℕ) (n : ℕ) : Type 0 where
   pub div_call_lem : (s t : Series) → ExpansionByTable table.of_div (two_tested ks ws n s t (length_ok s && length_ok t)) (series_on_pool (given_two s t (length_ok s && length_ok t) (quotient (given s) (given t))) ks ws n).answer
   pub max_call_lem : (s t : Series) → ExpansionByTable table.of_max (two_tested ks ws n s t (length_ok s && length_ok t)) (series_on_pool (given_two s t (length_ok s && length_ok t) (maximum (given s) (given t))) ks ws n).answer
   pub subst_call_lem : (s t : Series) → ExpansionByTable table.of_subst (two_tested ks ws n s t ((length_ok s && length_ok t) && agree s t)) (series_on_pool (given_two s t ((length_ok s && length_ok t) && agree s t) (subst (given s) (given t))) ks ws n).answer
-  pub coeffs_call : (root v order : ℕ) → ExpansionByTable table.coeffs (is_pool ks ws n ∷ all_below n (root ∷ []) ∷ leb v greatest_variable ∷ ltb order terms ∷ []) (series_on_pool (expand_work root v none order) ks ws n).answer
-  pub coeffs_at_call : (root v : ℕ) (z : ℤ) (order : ℕ) → ExpansionByTable table.coeffs_at (is_pool ks ws n ∷ all_below n (root ∷ []) ∷ leb v greatest_variable ∷ is_literal z ∷ ltb order terms ∷ []) (series_on_pool (expand_work root v (point z) order) ks ws n).answer
+  pub coeffs_call : (root v order : ℕ) → ExpansionByTable table.coeffs (is_pool ks ws n ∷ all_below n (root ∷ []) ∷ leb v greatest_variable ∷ ltb order terms ∷ []) (series_on_pool (expand_work root v None order) ks ws n).answer
+  pub coeffs_at_call : (root v : ℕ) (z : ℤ) (order : ℕ) → ExpansionByTable table.coeffs_at (is_pool ks ws n ∷ all_below n (root ∷ []) ∷ leb v greatest_variable ∷ is_literal z ∷ ltb order terms ∷ []) (series_on_pool (expand_work root v (Some z) order) ks ws n).answer

@@ -1,5 +1,6 @@
 -- The expansion of an expression that stands in a pool by the rules refuses by 10 to 14 and 18 only, as the walks that build one node do.
 -- Assumes nothing.
+use Rattle.std.specs.Prelude.{Some, None}
 use mathlib.Core.Path.{refl, subst⁻¹}
 use mathlib.Core.Logic.{inl, inr}
 use mathlib.Core.Bool.{Bool, true, false}
@@ -16,7 +17,7 @@ use Rattle.constructor_laws.specs.Grown.{Grown}
 use Rattle.constructor_laws.proofs.Growth.{grown_by_nothing, grown_by_both, earlier_same, append_grows}
 use Rattle.taylor.specs.Work.{Result, Work}
 use Rattle.taylor.specs.Expansion.{Expansion, Constant}
-use Rattle.taylor.specs.Expand.{Kept, nothing, kept, State, state, Went, Walk, bind, yield, refuse, lifted, lift, keep, once, Point, none, point, point_node, of_variable, expand_node, expand_at, expand_below, expanded, expand}
+use Rattle.taylor.specs.Expand.{Kept, nothing, kept, State, state, Went, Walk, bind, yield, refuse, lifted, lift, keep, once, Point, point_node, of_variable, expand_node, expand_at, expand_below, expanded, expand}
 use Rattle.shape.specs.Demand.{KeepsRules}
 use Rattle.shape.proofs.Lists.{All}
 use Rattle.shape.proofs.TableOfKinds.{Valid}
@@ -111,8 +112,8 @@ module _ (P₀ : Pool) (long : Long P₀) (v : ℕ) (x : Point) (order : ℕ) wh
   made g = lift_tame P₀ and_max long (wider of_constructors and_max (λ k h. inr h) g)
 
   point_holds : (x : Point) → Holding (refusing_by of_constructors) (point_node v x)
-  point_holds none = called of_constructors (append_grows (Variable v)) (λ P l. (append_refuses {ks = of_constructors} pool_full_lem (Variable v)).refuses P)
-  point_holds (point z) = every_constructor.lit_holds z
+  point_holds None = called of_constructors (append_grows (Variable v)) (λ P l. (append_refuses {ks = of_constructors} pool_full_lem (Variable v)).refuses P)
+  point_holds (Some z) = every_constructor.lit_holds z
 
   variable_tame : (sought : Bool) (term : ℕ) → Expanded (of_variable sought term v x order)
   variable_tame true term =

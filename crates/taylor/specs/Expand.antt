@@ -1,6 +1,6 @@
 -- `taylor_coeffs_with` of src/symbolic.rs: the expansion of an expression. It visits "left before right" and keeps "each visited node's result for that call".
 -- Assumes nothing.
-use Rattle.std.specs.Prelude.{Bool, true, false, cond, List, ℕ, zero, suc, eqb, ℤ, get_or, set, replicate}
+use Rattle.std.specs.Prelude.{Bool, true, false, cond, List, ℕ, zero, suc, eqb, ℤ, Option, Some, None, get_or, set, replicate}
 use Rattle.refusals.specs.Refusals.{broken_pool, max_reached}
 use Rattle.literal.specs.Literal.{is_literal}
 use Rattle.pool.specs.declared.node.Node.{Node}
@@ -45,19 +45,18 @@ once visit i nothing S = (visit i >>= keep i) S
 once visit i (kept e) S = done e S
 
 -- where an expansion is made: at a point, or at the variable itself
-pub data Point : Type 0 where
-  none : Point
-  point : ℤ → Point
+abbrev pub Point : Type 0
+Point = Option ℤ
 
 -- 4. "A .. point is outside the literal range."
 abbrev pub is_point : Point → Bool
-is_point none = true
-is_point (point z) = is_literal z
+is_point None = true
+is_point (Some z) = is_literal z
 
 -- Some(x) => lit(x), None => var(var)
 abbrev pub point_node : ℕ → Point → Work ℕ
-point_node v none = append (Variable v)
-point_node v (point z) = lit z
+point_node v None = append (Variable v)
+point_node v (Some z) = lit z
 
 abbrev pub of_variable : Bool → ℕ → ℕ → Point → ℕ → Walk
 of_variable true term v x order = lift (point_node v x >>= (λ p. var p order))

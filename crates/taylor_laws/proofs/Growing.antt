@@ -1,5 +1,6 @@
 -- The operations on expansions only append, as constructors and literals do; and so does the expansion of an expression.
 -- Assumes nothing.
+use Rattle.std.specs.Prelude.{Some, None}
 use mathlib.Core.Bool.{Bool, true, false, cond}
 use Prim.Native.Nat.{ℕ, zero, suc}
 use lib.Dec.{eqb}
@@ -18,7 +19,7 @@ pub use Rattle.constructor_laws.proofs.Growth.{Growing}
 use Rattle.constructor_laws.proofs.Growth.{◌>>=◌, grown_by_nothing, grown_by_both, literal_grows, append_grows, calls_grow}
 use Rattle.taylor.specs.Work.{Result, Work}
 use Rattle.taylor.specs.Expansion.{Expansion, Constant, var, coeff, derivative, add_to, negate, sub_from, times, quotient, exponential, logarithm, power, maximum, subst}
-use Rattle.taylor.specs.Expand.{Kept, State, state, Went, Walk, lifted, lift, keep, once, Point, none, point, point_node, of_variable, expand_node, expand_at, expand_below, expanded, expand}
+use Rattle.taylor.specs.Expand.{Kept, State, state, Went, Walk, lifted, lift, keep, once, Point, point_node, of_variable, expand_node, expand_at, expand_below, expanded, expand}
 use Rattle.taylor.specs.Expand as walk
 use Rattle.taylor_laws.specs.Grown.{Grows}
 use Rattle.taylor_laws.proofs.General.{Goes, Law, Holding, Keeping, var_holds, coeff_holds, derivative_holds, add_to_holds, negate_holds, sub_from_holds, times_holds, quotient_holds, exponential_holds, logarithm_holds, power_holds, maximum_holds, subst_holds}
@@ -137,8 +138,8 @@ keep_grows i e = record { grows = λ S. grown_by_nothing S.pool }
 
 module _ (v : ℕ) (x : Point) (order : ℕ) where
   point_grows : (x : Point) → Growing (point_node v x)
-  point_grows none = append_grows (Variable v)
-  point_grows (point z) = literal_grows (folded z)
+  point_grows None = append_grows (Variable v)
+  point_grows (Some z) = literal_grows (folded z)
 
   variable_grows : (t : Bool) (term : ℕ) → GrowingWalk (of_variable t term v x order)
   variable_grows true term = lift_grows (point_grows x >>= (λ p. var_grows p order))

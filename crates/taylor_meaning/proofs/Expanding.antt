@@ -1,5 +1,6 @@
 -- The expansion of an expression has the coefficients of its value in the algebra of series, the variable being its value and t: what is done at a node of each kind is the series' operation.
 -- Assumes nothing.
+use Rattle.std.specs.Prelude.{Some, None}
 use mathlib.Core.Path.{◌≡◌, refl, sym, ap, ◌∙◌, subst}
 use mathlib.Core.Bool.{Bool, true, false, cond}
 use Prim.Native.Nat.{ℕ, suc, ◌^◌, ◌≤◌, ◌<◌}
@@ -12,7 +13,7 @@ use Rattle.constructor_laws.specs.Keeps.{Keeps}
 use Rattle.constructor_laws.proofs.Growth.{earlier_same}
 use Rattle.taylor.specs.Work.{bind}
 use Rattle.taylor.specs.Expansion.{var, add_to, times, quotient, exponential, logarithm, power}
-use Rattle.taylor.specs.Expand.{State, Went, Walk, Point, none, point, point_node, of_variable, expand_node, expand_at, expand}
+use Rattle.taylor.specs.Expand.{State, Went, Walk, Point, point_node, of_variable, expand_node, expand_at, expand}
 use Rattle.taylor.specs.Expand as walk
 use Rattle.constructor_laws.proofs.Giving.{Gives, gives_next}
 use Rattle.taylor_laws.proofs.Walking.{Good, Walked, ended_walk, Walks, walked_next, walked_here, both_walked, lift_walked, expand_gives}
@@ -56,8 +57,8 @@ module _ {A : Algebra} (M : Model A) (D : Distributive A) (env : Values A) {P₀
   -- the node of the point
   point_gives : {P : Pool} → Keeps P → (y : Point) → Gives P (Is A env (base A env v y)) (point_node v y P)
   unfolding value_node
-  point_gives k none = node_gives A env k (record { below = tt; range = known })
-  point_gives k (point z) = literal_gives A env k z
+  point_gives k None = node_gives A env k (record { below = tt; range = known })
+  point_gives k (Some z) = literal_gives A env k z
 
   -- a node of the first pool, and its value
   stands : {S : State} → Fit S → (i : ℕ) {y : A.carrier} → i < P₀.count → value A env (node_at P₀) i ≡ y → Has A env S.pool i y

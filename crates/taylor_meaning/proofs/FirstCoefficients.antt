@@ -1,5 +1,6 @@
 -- Derivation and expansion agree: of a plain expression, coefficient 0 at x + t is its value and coefficient 1 its slope, the variable being x. So `derive` and coefficient 1 of the expansion have equal values, in every ring that is a model. With a quotient they differ in its sign.
 -- Assumes nothing.
+use Rattle.std.specs.Prelude.{None}
 use mathlib.Core.Path.{◌≡◌, refl, sym, ap, ◌∙◌, fun_ext}
 use mathlib.Core.Bool.{Bool, true, false, cond}
 use mathlib.Core.List.{[], ◌∷◌}
@@ -18,7 +19,7 @@ use Rattle.shape.specs.Shape.{Reach, root, part}
 use Rattle.shape.proofs.Lists.{here}
 use Rattle.walks.specs.Derive.{derive}
 use Rattle.taylor.specs.Expansion.{Expansion}
-use Rattle.taylor.specs.Expand.{Point, none, expand}
+use Rattle.taylor.specs.Expand.{Point, expand}
 use Rattle.meaning.specs.Model.{Algebra, Model, Distributive, power}
 use Rattle.meaning.specs.Value.{Values, value_node, value}
 use Rattle.meaning.proofs.Values.{Each, each_below, each_had, each_from, same_op, Falling, falling, value_law}
@@ -180,11 +181,11 @@ module _ {A : Algebra} (M : Model A) (D : Distributive A) where
     pub derive_is_coefficient :
         (order r : ℕ) → 1 ≤ order → r < P.count → PlainExpression (node_at P) r
         → {i : ℕ} {Q : Pool} → derive r v P ≡ done i Q
-        → {e : Expansion} {R : Pool} → expand r v none order P ≡ done e R
+        → {e : Expansion} {R : Pool} → expand r v None order P ≡ done e R
         → value A env (node_at Q) i ≡ coefficient A env R e 1
     derive_is_coefficient order r some h p derived expanded =
         let slopes = derivation_means M env keeps v r h derived in
-        let coefficients = plain_expansion_means M D env keeps v known none order words r h p expanded in
+        let coefficients = plain_expansion_means M D env keeps v known None order words r h p expanded in
         slopes.answer
         ∙ ap (λ env. slope A env v (node_at P) r) (sym (set_to_itself env v))
-        ∙ sym (coefficients.coefficients 1 (coefficients.long 1 (omega arith)) ∙ (first_coefficients env v none (node_at P) (falling keeps) r p).1)
+        ∙ sym (coefficients.coefficients 1 (coefficients.long 1 (omega arith)) ∙ (first_coefficients env v None (node_at P) (falling keeps) r p).1)

@@ -1,10 +1,10 @@
 -- What the coefficients of an expansion are as values, and what it is for them to be those of a series.
 -- Assumes nothing.
-use Rattle.std.specs.Prelude.{◌≡◌, cond, ℕ, zero, suc, ◌<◌, eqb, pos, length}
+use Rattle.std.specs.Prelude.{◌≡◌, cond, ℕ, zero, suc, ◌<◌, eqb, pos, length, Some, None}
 use Rattle.pool.specs.Pool.{Pool, node_at}
 use Rattle.taylor.specs.Work.{at}
 use Rattle.taylor.specs.Expansion.{Expansion, Constant, Polynomial}
-use Rattle.taylor.specs.Expand.{Point, none, point}
+use Rattle.taylor.specs.Expand.{Point}
 use Rattle.meaning.specs.Model.{Algebra}
 use Rattle.meaning.specs.Value.{Values, value}
 use Rattle.taylor_meaning.specs.Series.{Series, constant_series, shifted, series}
@@ -38,8 +38,8 @@ module _ (A : Algebra) (env : Values A) where
 
   -- the value at which an expansion is made: the point, or the variable's own
   abbrev pub base : ℕ → Point → A.carrier
-  base v none = env v
-  base v (point z) = A.int z
+  base v None = env v
+  base v (Some z) = A.int z
 
   -- the variables as series: the one sought is its value and t, the others are constants
   abbrev pub as_series : ℕ → Point → Values (series A)

@@ -1,5 +1,6 @@
 -- The expansion of an expression keeps the rules of the pool: what is done at a node does, and expansions that are kept may be given all along.
 -- Assumes nothing.
+use Rattle.std.specs.Prelude.{Some, None}
 use mathlib.Core.Bool.{Bool, true, false, cond}
 use mathlib.Core.Path.{◌≡◌, refl}
 use mathlib.Core.Logic.{inl, inr}
@@ -20,7 +21,7 @@ use Rattle.constructor_laws.proofs.Giving.{Aims}
 use Rattle.taylor.specs.Work.{Work}
 use Rattle.taylor.specs.Work as work
 use Rattle.taylor.specs.Expansion.{Expansion, Constant, order, times, pow_from, power, endless}
-use Rattle.taylor.specs.Expand.{State, Went, Walk, bind, lift, Point, none, point, point_node, of_variable, expand_node, expand_at, expand}
+use Rattle.taylor.specs.Expand.{State, Went, Walk, bind, lift, Point, point_node, of_variable, expand_node, expand_at, expand}
 use Rattle.taylor_laws.proofs.Walking.{Good, Walked, ended_walk, Walks, walked_next, walked_here, both_walked, lift_walked, expand_gives}
 use Rattle.taylor_base.specs.Answers.{terms}
 use Rattle.taylor_rules.specs.Kept.{ExpandedOrder}
@@ -86,8 +87,8 @@ module _ (ord : ℕ) (small : ord < terms) where
 
   module _ (v : ℕ) (x : Point) (variable : v ≤ greatest_variable) where
     pub point_keeps : {n : ℕ} (p : Point) → Keeping n nodes.Node (point_node v p)
-    point_keeps none = node_keeps (append_keeps (record { below = tt; range = variable }))
-    point_keeps (point z) = lit_keeps z
+    point_keeps None = node_keeps (append_keeps (record { below = tt; range = variable }))
+    point_keeps (Some z) = lit_keeps z
 
     module _ {P₀ : Pool} (k₀ : Keeps P₀) where
       abbrev Fit : State → Type 0
