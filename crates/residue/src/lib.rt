@@ -2,19 +2,15 @@
 #![tactic(auto)]
 
 ghost use Rattle.std.specs.Prelude.{◌≡◌, ◌<◌};
+ghost use Rattle.refusals.specs.Numbers.{numbered};
 ghost use Rattle.residue.specs.Residue.{Modulus, residue, sum_of, product_of, power_of, quotient_of};
+
+use refusals::Refusal;
 
 // The greatest modulus, and the fixed one of document 01.
 pub const MODULUS_MAX: u64 = 2_147_483_647;
 
 pub const MODULUS: u64 = MODULUS_MAX;
-
-// A quotient, or the refusal number of document 01.
-#[derive(Clone, Copy)]
-pub enum Divided {
-    Residue(u64),
-    Refused(u32),
-}
 
 // The residue of a literal: the signed remainder, lifted above 0.
 pub fn residue_of(m: u64, z: i64) -> u64
@@ -67,10 +63,10 @@ pub fn power(m: u64, a: u64, e: u32) -> u64
 }
 
 // The inverse by Euclid's algorithm: each remainder is a multiple of d, modulo m, and its factor is kept beside it.
-pub fn inverse(m: u64, d: u64) -> Divided
+pub fn inverse(m: u64, d: u64) -> Result<u64, Refusal>
     requires modulus { Modulus m }
     requires d_lt_m { d < m }
-    ensures { result ≡ quotient_of m 1 d }
+    ensures { numbered result ≡ quotient_of m 1 d }
 {
     let mut r0 = m;
     let mut r1 = d;
@@ -86,20 +82,17 @@ pub fn inverse(m: u64, d: u64) -> Divided
         t1 = t2;
     }
     if r0 == 1 {
-        return Divided::Residue(t0);
+        return Ok(t0);
     }
-    Divided::Refused(refusals::NO_INVERSE)
+    Err(Refusal::NoInverse)
 }
 
-pub fn quotient(m: u64, a: u64, d: u64) -> Divided
+pub fn quotient(m: u64, a: u64, d: u64) -> Result<u64, Refusal>
     requires modulus { Modulus m }
     requires a_lt_m { a < m }
     requires d_lt_m { d < m }
-    ensures { result ≡ quotient_of m a d }
+    ensures { numbered result ≡ quotient_of m a d }
 {
-    let found = inverse(m, d);
-    let Divided::Residue(x) = found else {
-        return found;
-    };
-    Divided::Residue(a * x % m)
+    let x = inverse(m, d)?;
+    Ok(a * x % m)
 }
