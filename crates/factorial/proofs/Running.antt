@@ -28,13 +28,15 @@ at_first n = record { within = omega arith; is = refl; small = omega arith }
 
 module _ {n product i : ℕ} (so_far : RunningProduct n product i) where
   -- so a turn begins only below nineteen: no n takes more turns
-  pub turn_is_below_nineteen : i < literal_factorials
+  turn_is_below_nineteen : i < literal_factorials
   turn_is_below_nineteen = literal_is_below_nineteen i (subst (λ (x : ℕ). x ≤ greatest) so_far.is so_far.small)
+
+  pub factor_fits : i + 1 ≤ literal_factorials
+  factor_fits = omega (arith, turn_is_below_nineteen)
 
   pub product_fits : product * (i + 1) ≤ greatest * literal_factorials
   product_fits =
-      let few_factors : i + 1 ≤ literal_factorials = omega (arith, turn_is_below_nineteen) in
-      le_trans (mul-le-mul_right (i + 1) so_far.small) (mul-le-mul_left greatest few_factors)
+      le_trans (mul-le-mul_right (i + 1) so_far.small) (mul-le-mul_left greatest factor_fits)
 
   next_is : product * (i + 1) ≡ factorial_of (i + 1)
   unfolding factorial_of

@@ -2,21 +2,22 @@
 #![tactic(auto)]
 
 ghost use Rattle.std.specs.Prelude.{◌≡◌, pos};
+ghost use Rattle.refusals.specs.Numbers.{numbered};
 ghost use Rattle.literal.specs.Literal.{folded};
 ghost use Rattle.factorial.specs.Factorial.{factorial_of};
 
+use refusals::Refusal;
+
 // n!, or 12 where it is no literal: the running product from 1. The first product past the range is 19!, so no n takes more than nineteen turns, and every product fits.
-pub fn factorial(n: u64) -> literal::Folded
-    ensures { result ≡ folded (pos (factorial_of n)) }
+pub fn factorial(n: u64) -> Result<i64, Refusal>
+    ensures { numbered result ≡ folded (pos (factorial_of n)) }
 {
     let mut product: u64 = 1;
-    let mut i: u64 = 0;
-    while i < n {
-        i += 1;
-        product = product * i;
+    for i in 0..n {
+        product = product * (i + 1);
         if literal::LITERAL_MAX < product {
-            return literal::Folded::Refused(refusals::OUT_OF_RANGE);
+            return Err(Refusal::OutOfRange);
         }
     }
-    literal::Folded::Value(product as i64)
+    Ok(product as i64)
 }

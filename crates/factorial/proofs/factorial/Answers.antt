@@ -1,23 +1,17 @@
--- `factorial::factorial` meets its contract: the product of i factors is i!, and one past the literals refuses n!. The measure is how many factorials that are literals are left.
+-- `factorial::factorial` meets its contract: the product of i factors is i!, and one past the literals refuses n!.
 -- Assumes nothing.
 use native.Mathlib.Omega.{arith}
-use Rattle.factorial.proofs.Running.{at_first, turn_is_below_nineteen, product_fits, next_product, product_past_the_literals, last_fits, last_product}
+use Rattle.factorial.proofs.Running.{at_first, product_fits, next_product, product_past_the_literals, last_fits, last_product}
 use Rattle.factorial.proofs.factorial.Goals as goal
 
 pub loop-i-init : goal.loop-i-init
 loop-i-init c = at_first c.args.n
-
-pub overflow_add-i : goal.overflow_add-i
-overflow_add-i c = omega (arith, turn_is_below_nineteen c.loop-i.invariant)
 
 pub overflow_mul-product : goal.overflow_mul-product
 overflow_mul-product c = omega (arith, product_fits c.loop-i.invariant)
 
 pub loop-i-preserved : goal.loop-i-preserved
 loop-i-preserved c = next_product c.loop-i.invariant c.loop-i-test.true (omega arith)
-
-pub loop-i-smaller : goal.loop-i-smaller
-loop-i-smaller c = omega (arith, turn_is_below_nineteen c.loop-i.invariant)
 
 pub returns-then-product-gt-LITERAL_MAX : goal.returns-then-product-gt-LITERAL_MAX
 returns-then-product-gt-LITERAL_MAX c = product_past_the_literals c.loop-i.invariant c.loop-i-test.true c.if-product-gt-LITERAL_MAX.true
