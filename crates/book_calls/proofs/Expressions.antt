@@ -21,7 +21,7 @@ use Rattle.shape.specs.Shape.{has, Reach, root, part}
 use Rattle.shape.proofs.Lists.{here}
 use Rattle.taylor.specs.Work.{Result, Work}
 use Rattle.taylor.specs.Expansion.{Expansion, Constant, add_to, power}
-use Rattle.taylor.specs.Expand.{Kept, nothing, kept, State, state, Went, Point, is_point, expand_below, expanded, expand}
+use Rattle.taylor.specs.Expand.{Kept, State, state, Went, Point, is_point, expand_below, expanded, expand}
 use Rattle.taylor_base.specs.Answers.{terms}
 use Rattle.taylor_rules.proofs.Theorems.{expand_kept}
 use Rattle.lent.specs.Call.{lent_pool}
@@ -38,22 +38,22 @@ use Rattle.book_calls.proofs.Walk.{OfTwo, OfOne, OfVariable, Explained, Right, w
 
 -- what is kept, and a constant where nothing is
 abbrev expansion_in : Kept → Expansion
-expansion_in nothing = Constant 0
-expansion_in (kept e) = e
+expansion_in None = Constant 0
+expansion_in (Some e) = e
 
 module _ (P : Pool) (v : ℕ) (x : Point) (order : ℕ) where
   module _ (results : List Kept) (Q : Pool) where
     abbrev of : ℕ → Expansion
-    of i = expansion_in (get_or results i nothing)
+    of i = expansion_in (get_or results i None)
 
-    is_kept : (i : ℕ) {d : Expansion} → get_or results i nothing ≡ kept d → of i ≡ d
+    is_kept : (i : ℕ) {d : Expansion} → get_or results i None ≡ Some d → of i ≡ d
     is_kept i h = ap expansion_in h
 
     -- an operation on what is kept
     two_follow :
         (i : ℕ) {a b : ℕ} {op : Expansion → Expansion → Work Expansion} {d : Expansion} (Done : Pool → Pool → Expansion → Expansion → Expansion → Type 0)
         → ((A B : Pool) (s t e : Expansion) → Keeps A → AllFit A.count (s ∷ t ∷ []) → op s t A ≡ done e B → Done A B s t e)
-        → get_or results i nothing ≡ kept d → OfTwo P v x order results Q a b op d → Between P Q (of a ∷ of b ∷ []) (λ A B. Done A B (of a) (of b) (of i))
+        → get_or results i None ≡ Some d → OfTwo P v x order results Q a b op d → Between P Q (of a ∷ of b ∷ []) (λ A B. Done A B (of a) (of b) (of i))
     two_follow i Done follows k h =
         let w = h.worked in
         rw (h.left_kept, h.right_kept, k)
@@ -62,13 +62,13 @@ module _ (P : Pool) (v : ℕ) (x : Point) (order : ℕ) where
     one_follows :
         (i : ℕ) {a : ℕ} {op : Expansion → Work Expansion} {d : Expansion} (Done : Pool → Pool → Expansion → Expansion → Type 0)
         → ((A B : Pool) (s e : Expansion) → Keeps A → AllFit A.count (s ∷ []) → op s A ≡ done e B → Done A B s e)
-        → get_or results i nothing ≡ kept d → OfOne P v x order results Q a op d → Between P Q (of a ∷ []) (λ A B. Done A B (of a) (of i))
+        → get_or results i None ≡ Some d → OfOne P v x order results Q a op d → Between P Q (of a ∷ []) (λ A B. Done A B (of a) (of i))
     one_follows i Done follows k h =
         let w = h.worked in
         rw (h.only_kept, k)
         (record { start = w.start; finish = w.finish; earlier = w.earlier; keeps = w.keeps; there = w.there; is = follows w.start w.finish h.only _ w.keeps w.there w.is; later = w.later })
 
-    module _ (i : ℕ) (d : Expansion) (k : get_or results i nothing ≡ kept d) where
+    module _ (i : ℕ) (d : Expansion) (k : get_or results i None ≡ Some d) where
       variable_follows : (t : Bool) → OfVariable P v x order Q i d t → VariableFollows P Q v x order of i t
       variable_follows true h = rw k h
       variable_follows false h = is_kept i k ∙ h
@@ -88,7 +88,7 @@ module _ (P : Pool) (v : ℕ) (x : Point) (order : ℕ) where
     -- ---- the parts of a node that is kept are kept
 
     abbrev IsKept : ℕ → Type 0
-    IsKept j = (d : Expansion) × (get_or results j nothing ≡ kept d)
+    IsKept j = (d : Expansion) × (get_or results j None ≡ Some d)
 
     had_in_one : (a j : ℕ) → IsKept a → has (a ∷ []) j ≡ true → IsKept j
     had_in_one a j ka h = go (eqb j a) refl h
@@ -120,7 +120,7 @@ module _ (P : Pool) (v : ℕ) (x : Point) (order : ℕ) where
 
   module _ (small : order < terms) (keeps : Keeps P) (variable : v ≤ greatest_variable) (from : ℕ) (inside : from < P.count) where
     abbrev start : State
-    start = state P (replicate limit nothing)
+    start = state P (replicate limit None)
 
     walk_follows : (e : Expansion) (T : State) → expand_below v x order (suc from) from start ≡ done e T → Expanded P T.pool v x order from e
     walk_follows e T eq =
@@ -133,8 +133,8 @@ module _ (P : Pool) (v : ℕ) (x : Point) (order : ℕ) where
         right : Right P v x order small T
         right = walk_explained P v x order small keeps variable from inside eq
 
-        answer_kept : get_or T.results from nothing ≡ kept e
-        answer_kept = (came v x order (suc from) from eq).there (omega (arith, length-replicate {A = Kept} limit nothing, (rules_of keeps).within))
+        answer_kept : get_or T.results from None ≡ Some e
+        answer_kept = (came v x order (suc from) from eq).there (omega (arith, length-replicate {A = Kept} limit None, (rules_of keeps).within))
 
         reached : (i : ℕ) → Reach (node_at P) (from ∷ []) i → IsKept T.results T.pool i
         reached i (root h) = had_in_one T.results T.pool from i (e, answer_kept) h

@@ -1,5 +1,6 @@
 -- The walk that expands an expression works at each node the operation of its kind on the expansions that are kept for its parts, and what is kept stays: so at its end every result is explained by those of the parts.
 -- Assumes nothing.
+use Rattle.std.specs.Prelude.{Some, None}
 use mathlib.Core.Path.{◌≡◌, refl, sym, ◌∙◌, subst}
 use mathlib.Core.Bool.{Bool, true, false}
 use mathlib.Core.Logic.{inr}
@@ -24,7 +25,7 @@ use Rattle.constructor_laws.proofs.Giving.{gave, ended}
 use Rattle.taylor.specs.Work.{Result, Work}
 use Rattle.taylor.specs.Work as work
 use Rattle.taylor.specs.Expansion.{Expansion, Constant, order, var, add_to, times, quotient, exponential, logarithm, power}
-use Rattle.taylor.specs.Expand.{Kept, nothing, kept, State, state, Went, Walk, bind, keep, once, lifted, lift, Point, point_node, of_variable, expand_node, expand_at, expand_below}
+use Rattle.taylor.specs.Expand.{Kept, State, state, Went, Walk, bind, keep, once, lifted, lift, Point, point_node, of_variable, expand_node, expand_at, expand_below}
 use Rattle.taylor_base.specs.Answers.{terms}
 use Rattle.taylor_rules.specs.Kept.{nodes_of, Fits}
 use Rattle.taylor_rules.proofs.Nodes.{KeptAs, Keeping, next_keeps}
@@ -38,7 +39,7 @@ fits {n} e h = record { nodes = below_all n (nodes_of e) h.below; least = h.leas
 
 -- what is kept in one table is kept in another
 record Stays (old new : List Kept) : Type 0 where
-  stays : (j : ℕ) (d : Expansion) → get_or old j nothing ≡ kept d → get_or new j nothing ≡ kept d
+  stays : (j : ℕ) (d : Expansion) → get_or old j None ≡ Some d → get_or new j None ≡ Some d
 
 module _ (P₀ : Pool) (v : ℕ) (x : Point) (ord : ℕ) where
   -- ---- how an expansion that is kept was worked
@@ -50,13 +51,13 @@ module _ (P₀ : Pool) (v : ℕ) (x : Point) (ord : ℕ) where
   pub record OfTwo (results : List Kept) (Q : Pool) (a b : ℕ) (op : Expansion → Expansion → Work Expansion) (d : Expansion) : Type 0 where
     pub left : Expansion
     pub right : Expansion
-    pub left_kept : get_or results a nothing ≡ kept left
-    pub right_kept : get_or results b nothing ≡ kept right
+    pub left_kept : get_or results a None ≡ Some left
+    pub right_kept : get_or results b None ≡ Some right
     pub worked : Between P₀ Q (left ∷ right ∷ []) (λ A B. op left right A ≡ done d B)
 
   pub record OfOne (results : List Kept) (Q : Pool) (a : ℕ) (op : Expansion → Work Expansion) (d : Expansion) : Type 0 where
     pub only : Expansion
-    pub only_kept : get_or results a nothing ≡ kept only
+    pub only_kept : get_or results a None ≡ Some only
     pub worked : Between P₀ Q (only ∷ []) (λ A B. op only A ≡ done d B)
 
   abbrev pub variable_work : Work Expansion
@@ -111,14 +112,14 @@ module _ (P₀ : Pool) (v : ℕ) (x : Point) (ord : ℕ) where
       pub keeps : Keeps S.pool
       pub grown : Grown P₀ S.pool
       pub long : length S.results ≡ limit
-      pub come : (j : ℕ) (d : Expansion) → get_or S.results j nothing ≡ kept d → Come ord small S.pool.count d
-      pub explained : (j : ℕ) (d : Expansion) → get_or S.results j nothing ≡ kept d → Explained S.results S.pool j d (node_at P₀ j)
+      pub come : (j : ℕ) (d : Expansion) → get_or S.results j None ≡ Some d → Come ord small S.pool.count d
+      pub explained : (j : ℕ) (d : Expansion) → get_or S.results j None ≡ Some d → Explained S.results S.pool j d (node_at P₀ j)
 
     -- a walk below the bound k, from S to T, leaves the entries from k on
     pub record Arrived (k : ℕ) (S T : State) : Type 0 where
       pub right : Right T
       pub grown : Grown S.pool T.pool
-      pub outside : (j : ℕ) → k ≤ j → get_or T.results j nothing ≡ get_or S.results j nothing
+      pub outside : (j : ℕ) → k ≤ j → get_or T.results j None ≡ get_or S.results j None
 
     abbrev Comes : ℕ → State → Went → Type 0
     Comes k S (done e T) = Arrived k S T
@@ -172,7 +173,7 @@ module _ (P₀ : Pool) (v : ℕ) (x : Point) (ord : ℕ) where
         -- a part's expansion is kept now, and what was kept has stayed
         record Visited (a : ℕ) (S : State) (s : Expansion) (T : State) : Type 0 where
           arrived : Arrived term S T
-          there : get_or T.results a nothing ≡ kept s
+          there : get_or T.results a None ≡ Some s
           held : Stays S.results T.results
 
         visit :
@@ -254,60 +255,60 @@ module _ (P₀ : Pool) (v : ℕ) (x : Point) (ord : ℕ) where
 
         -- ---- what is done at a node is kept for it
 
-        module _ (T : State) (e : Expansion) (empty : get_or T.results term nothing ≡ nothing) where
-          kept_stays : Stays T.results (set T.results term (kept e))
+        module _ (T : State) (e : Expansion) (empty : get_or T.results term None ≡ None) where
+          kept_stays : Stays T.results (set T.results term (Some e))
           kept_stays = record { stays = λ j d there. go j d there (ℕ_discrete j term) }
             where
-              never : (j : ℕ) (d : Expansion) → get_or T.results j nothing ≡ kept d → j ≡ term → ⊥
+              never : (j : ℕ) (d : Expansion) → get_or T.results j None ≡ Some d → j ≡ term → ⊥
               never j d there same = let z : ◌≡◌ {A = ℕ} 0 1 = cc in omega arith
 
-              go : (j : ℕ) (d : Expansion) → get_or T.results j nothing ≡ kept d → Dec (j ≡ term) → get_or (set T.results term (kept e)) j nothing ≡ kept d
+              go : (j : ℕ) (d : Expansion) → get_or T.results j None ≡ Some d → Dec (j ≡ term) → get_or (set T.results term (Some e)) j None ≡ Some d
               go j d there (yes same) = absurd (never j d there same)
-              go j d there (no other) = get_or-set_other T.results term j (kept e) nothing other ∙ there
+              go j d there (no other) = get_or-set_other T.results term j (Some e) None other ∙ there
 
-          keep_right : Right T → Come ord small T.pool.count e → Explained T.results T.pool term e (node_at P₀ term) → Right (state T.pool (set T.results term (kept e)))
+          keep_right : Right T → Come ord small T.pool.count e → Explained T.results T.pool term e (node_at P₀ term) → Right (state T.pool (set T.results term (Some e)))
           keep_right r come explained =
               record {
                 keeps = r.keeps;
                 grown = r.grown;
-                long = length-set T.results term (kept e) ∙ r.long;
+                long = length-set T.results term (Some e) ∙ r.long;
                 come = λ j d h. come_of j d h (ℕ_discrete j term);
                 explained = λ j d h. explained_of j d h (ℕ_discrete j term);
               }
             where
               new : List Kept
-              new = set T.results term (kept e)
+              new = set T.results term (Some e)
 
-              same_expansion : (d : Expansion) → get_or new term nothing ≡ kept d → e ≡ d
-              same_expansion d h = let is : get_or new term nothing ≡ kept e = get_or-set_same T.results term (kept e) nothing (omega (arith, r.long, (rules_of keeps₀).within)) in cc
+              same_expansion : (d : Expansion) → get_or new term None ≡ Some d → e ≡ d
+              same_expansion d h = let is : get_or new term None ≡ Some e = get_or-set_same T.results term (Some e) None (omega (arith, r.long, (rules_of keeps₀).within)) in cc
 
-              come_of : (j : ℕ) (d : Expansion) → get_or new j nothing ≡ kept d → Dec (j ≡ term) → Come ord small T.pool.count d
-              come_of j d h (yes same) = let is : e ≡ d = same_expansion d (subst (λ i. get_or new i nothing ≡ kept d) same h) in subst (Come ord small T.pool.count) is come
-              come_of j d h (no other) = r.come j d (sym (get_or-set_other T.results term j (kept e) nothing other) ∙ h)
+              come_of : (j : ℕ) (d : Expansion) → get_or new j None ≡ Some d → Dec (j ≡ term) → Come ord small T.pool.count d
+              come_of j d h (yes same) = let is : e ≡ d = same_expansion d (subst (λ i. get_or new i None ≡ Some d) same h) in subst (Come ord small T.pool.count) is come
+              come_of j d h (no other) = r.come j d (sym (get_or-set_other T.results term j (Some e) None other) ∙ h)
 
-              explained_of : (j : ℕ) (d : Expansion) → get_or new j nothing ≡ kept d → Dec (j ≡ term) → Explained new T.pool j d (node_at P₀ j)
+              explained_of : (j : ℕ) (d : Expansion) → get_or new j None ≡ Some d → Dec (j ≡ term) → Explained new T.pool j d (node_at P₀ j)
               explained_of j d h (yes same) =
-                  let is : e ≡ d = same_expansion d (subst (λ i. get_or new i nothing ≡ kept d) same h) in
+                  let is : e ≡ d = same_expansion d (subst (λ i. get_or new i None ≡ Some d) same h) in
                   subst (λ i. Explained new T.pool i d (node_at P₀ i)) (sym same)
                   (subst (λ c. Explained new T.pool term c (node_at P₀ term)) is (explained_later kept_stays (grown_by_nothing T.pool) e term (node_at P₀ term) explained))
               explained_of j d h (no other) =
-                  explained_later kept_stays (grown_by_nothing T.pool) d j (node_at P₀ j) (r.explained j d (sym (get_or-set_other T.results term j (kept e) nothing other) ∙ h))
+                  explained_later kept_stays (grown_by_nothing T.pool) d j (node_at P₀ j) (r.explained j d (sym (get_or-set_other T.results term j (Some e) None other) ∙ h))
 
         keep_comes :
-            (S : State) → get_or S.results term nothing ≡ nothing → (w : Went)
+            (S : State) → get_or S.results term None ≡ None → (w : Went)
             → Steps term (λ results Q e. Explained results Q term e (node_at P₀ term)) S w
             → Comes (suc term) S (bind w (keep term))
         keep_comes S empty (done e T) (stepped arrived come explained) =
             record {
               right = keep_right T e (arrived.outside term (le_refl term) ∙ empty) arrived.right come explained;
               grown = arrived.grown;
-              outside = λ j l. get_or-set_other T.results term j (kept e) nothing (λ same. omega arith) ∙ arrived.outside j (omega arith);
+              outside = λ j l. get_or-set_other T.results term j (Some e) None (λ same. omega arith) ∙ arrived.outside j (omega arith);
             }
         keep_comes S empty (refused q) stopped = tt
 
-        once_comes : (S : State) → Right S → (q : Kept) → get_or S.results term nothing ≡ q → Comes (suc term) S (once (expand_at v x ord down) term q S)
-        once_comes S r nothing e = keep_comes S e (expand_at v x ord down term S) (at_steps S r)
-        once_comes S r (kept d) e = arrived_here r
+        once_comes : (S : State) → Right S → (q : Kept) → get_or S.results term None ≡ q → Comes (suc term) S (once (expand_at v x ord down) term q S)
+        once_comes S r None e = keep_comes S e (expand_at v x ord down term S) (at_steps S r)
+        once_comes S r (Some d) e = arrived_here r
 
       -- with one node more below the bound
       more_walks : (k : ℕ) → Walks k → Walks (suc k)
@@ -319,7 +320,7 @@ module _ (P₀ : Pool) (v : ℕ) (x : Point) (ord : ℕ) where
           further (refused q) c = tt
 
           go : Dec (i ≡ k) → Comes (suc k) S (expand_below v x ord (suc k) i S)
-          go (yes e) = rw (e, eq-eqb k k refl) (once_comes less (omega arith) S r (get_or S.results k nothing) refl)
+          go (yes e) = rw (e, eq-eqb k k refl) (once_comes less (omega arith) S r (get_or S.results k None) refl)
           go (no n) = rw (ne_eqb i k n) (further (expand_below v x ord k i S) (less i l S r))
 
       below_walks : (k : ℕ) → Walks k
@@ -329,29 +330,29 @@ module _ (P₀ : Pool) (v : ℕ) (x : Point) (ord : ℕ) where
 
       -- ---- a whole walk
 
-      none_kept : (k j : ℕ) → get_or (replicate k nothing) j nothing ≡ nothing
+      none_kept : (k j : ℕ) → get_or (replicate k None) j None ≡ None
       none_kept zero j = refl
       none_kept (suc k) zero = refl
       none_kept (suc k) (suc j) = none_kept k j
 
-      not_kept : {B : Type 0} (j : ℕ) (d : Expansion) → get_or (replicate limit nothing) j nothing ≡ kept d → B
+      not_kept : {B : Type 0} (j : ℕ) (d : Expansion) → get_or (replicate limit None) j None ≡ Some d → B
       not_kept j d h = absurd (never (none_kept limit j))
         where
-          never : get_or (replicate limit nothing) j nothing ≡ nothing → ⊥
+          never : get_or (replicate limit None) j None ≡ None → ⊥
           never n = let z : ◌≡◌ {A = ℕ} 0 1 = cc in omega arith
 
-      pub walk_explained : (root : ℕ) → root < P₀.count → {e : Expansion} {T : State} → expand_below v x ord (suc root) root (state P₀ (replicate limit nothing)) ≡ done e T → Right T
-      walk_explained root l {e} {T} eq = go (subst (Comes (suc root) (state P₀ (replicate limit nothing))) eq (below_walks (suc root) root l (state P₀ (replicate limit nothing)) start))
+      pub walk_explained : (root : ℕ) → root < P₀.count → {e : Expansion} {T : State} → expand_below v x ord (suc root) root (state P₀ (replicate limit None)) ≡ done e T → Right T
+      walk_explained root l {e} {T} eq = go (subst (Comes (suc root) (state P₀ (replicate limit None))) eq (below_walks (suc root) root l (state P₀ (replicate limit None)) start))
         where
-          start : Right (state P₀ (replicate limit nothing))
+          start : Right (state P₀ (replicate limit None))
           start =
               record {
                 keeps = keeps₀;
                 grown = grown_by_nothing P₀;
-                long = length-replicate {A = Kept} limit nothing;
+                long = length-replicate {A = Kept} limit None;
                 come = λ j d h. not_kept j d h;
                 explained = λ j d h. not_kept j d h;
               }
 
-          go : Arrived (suc root) (state P₀ (replicate limit nothing)) T → Right T
+          go : Arrived (suc root) (state P₀ (replicate limit None)) T → Right T
           go c = c.right

@@ -1,5 +1,6 @@
 -- The walk from a node is the same below every bound above the node, and is refused below any other.
 -- Assumes nothing.
+use Rattle.std.specs.Prelude.{None}
 use mathlib.Core.Path.{◌≡◌, refl, sym, ap, ◌∙◌}
 use mathlib.Core.Logic.{◌⊎◌, inl, inr}
 use Prim.Native.Nat.{ℕ, zero, suc, ◌+◌, ◌≤◌, ◌<◌}
@@ -13,15 +14,15 @@ use Rattle.refusals.specs.Refusals.{broken_pool}
 use Rattle.pool.specs.Pool.{Pool, limit, node_in, refused}
 use Rattle.pool.specs.declared.node.Node.{Node}
 use Rattle.pool.specs.declared.node.Node.TheVariants.{Empty}
-use Rattle.taylor.specs.Expand.{Kept, nothing, State, state, Point, bind, keep, once, expand_node, expand_at, expand_below, expanded, expand}
+use Rattle.taylor.specs.Expand.{Kept, State, state, Point, bind, keep, once, expand_node, expand_at, expand_below, expanded, expand}
 
 module _ (v : ℕ) (x : Point) (order : ℕ) (S : State) where
-  here : (i : ℕ) → expand_below v x order (suc i) i S ≡ once (expand_at v x order (expand_below v x order i)) i (get_or S.results i nothing) S
+  here : (i : ℕ) → expand_below v x order (suc i) i S ≡ once (expand_at v x order (expand_below v x order i)) i (get_or S.results i None) S
   unfolding expand_below
   here i = rw (eq-eqb i i refl)
 
   -- at the bound's last node it is visited, once
-  pub expand_here : (i : ℕ) → expand_below v x order (i + 1) i S ≡ once (expand_at v x order (expand_below v x order i)) i (get_or S.results i nothing) S
+  pub expand_here : (i : ℕ) → expand_below v x order (i + 1) i S ≡ once (expand_at v x order (expand_below v x order i)) i (get_or S.results i None) S
   expand_here i = rw (add-one i) (here i)
 
   elsewhere : (k a : ℕ) → a < k → expand_below v x order (suc k) a S ≡ expand_below v x order k a S
@@ -65,8 +66,8 @@ no_node ks ws i past = rw (le-ltb i limit past)
 -- a walk from a number past the tables comes to no node
 pub nowhere : (v : ℕ) (x : Point) (order root : ℕ) (P : Pool) → limit ≤ root → refused broken_pool ≡ expand root v x order P
 nowhere v x order root P past =
-    let S = state P (replicate limit nothing) in
-    let none : get_or (replicate limit nothing) root nothing ≡ nothing = get_or-eq_default (replicate limit nothing) nothing {n = root} (rw (length-replicate {A = Kept} limit nothing) past) in
+    let S = state P (replicate limit None) in
+    let none : get_or (replicate limit None) root None ≡ None = get_or-eq_default (replicate limit None) None {n = root} (rw (length-replicate {A = Kept} limit None) past) in
     let empty : node_in P.kinds P.words root ≡ Empty = no_node P.kinds P.words root past in
     ap expanded
     (sym

@@ -1,5 +1,6 @@
 -- A walk holds on to what is kept: the results that it finds stay, and the node that it comes to has its own.
 -- Assumes nothing.
+use Rattle.std.specs.Prelude.{Some, None}
 use mathlib.Core.Bool.{Bool, true, false}
 use mathlib.Core.Path.{◌≡◌, refl, ◌∙◌}
 use Prim.Native.Nat.{ℕ, zero, suc, ◌<◌}
@@ -18,12 +19,12 @@ use Rattle.constructor_laws.proofs.Going.{Going, Ways, then_goes, yield_goes, re
 use Rattle.taylor.specs.Work.{Result, Work}
 use Rattle.taylor.specs.Work as work
 use Rattle.taylor.specs.Expansion.{Expansion, Constant, var, add_to, times, quotient, exponential, logarithm, power}
-use Rattle.taylor.specs.Expand.{Kept, nothing, kept, State, state, Went, Walk, bind, yield, refuse, lifted, lift, keep, once, Point, point_node, of_variable, expand_node, expand_at, expand_below}
+use Rattle.taylor.specs.Expand.{Kept, State, state, Went, Walk, bind, yield, refuse, lifted, lift, keep, once, Point, point_node, of_variable, expand_node, expand_at, expand_below}
 
 -- from one state to another, what was kept has stayed, and the table is as long
 pub record Held (S T : State) : Type 0 where
   pub long : length T.results ≡ length S.results
-  pub stays : (j : ℕ) (d : Expansion) → get_or S.results j nothing ≡ kept d → get_or T.results j nothing ≡ kept d
+  pub stays : (j : ℕ) (d : Expansion) → get_or S.results j None ≡ Some d → get_or T.results j None ≡ Some d
 
 held_by_nothing : (S : State) → Held S S
 held_by_nothing S = record { long = refl; stays = λ j d h. h }
@@ -100,7 +101,7 @@ module _ (v : ℕ) (x : Point) (order : ℕ) where
 pub record Came (S : State) (k i : ℕ) (e : Expansion) (T : State) : Type 0 where
   pub below : i < k
   pub held : Held S T
-  pub there : i < length S.results → get_or T.results i nothing ≡ kept e
+  pub there : i < length S.results → get_or T.results i None ≡ Some e
 
 abbrev Comes : State → ℕ → ℕ → Went → Type 0
 Comes S k i (done e T) = Came S k i e T
@@ -116,29 +117,29 @@ further S k i (refused n) c = tt
 
 module _ (S : State) (k : ℕ) where
   -- where nothing was kept for node k, keeping its own changes nothing else
-  kept_held : (T : State) (e : Expansion) → get_or S.results k nothing ≡ nothing → Held S T → Held S (state T.pool (set T.results k (kept e)))
+  kept_held : (T : State) (e : Expansion) → get_or S.results k None ≡ None → Held S T → Held S (state T.pool (set T.results k (Some e)))
   kept_held T e empty h =
-      record { long = length-set T.results k (kept e) ∙ h.long; stays = λ j d there. go j d there (ℕ_discrete j k) }
+      record { long = length-set T.results k (Some e) ∙ h.long; stays = λ j d there. go j d there (ℕ_discrete j k) }
     where
-      never : (j : ℕ) (d : Expansion) → get_or S.results j nothing ≡ kept d → j ≡ k → ⊥
+      never : (j : ℕ) (d : Expansion) → get_or S.results j None ≡ Some d → j ≡ k → ⊥
       never j d there same = let z : ◌≡◌ {A = ℕ} 0 1 = cc in omega arith
 
-      go : (j : ℕ) (d : Expansion) → get_or S.results j nothing ≡ kept d → Dec (j ≡ k) → get_or (set T.results k (kept e)) j nothing ≡ kept d
+      go : (j : ℕ) (d : Expansion) → get_or S.results j None ≡ Some d → Dec (j ≡ k) → get_or (set T.results k (Some e)) j None ≡ Some d
       go j d there (yes same) = absurd (never j d there same)
-      go j d there (no other) = get_or-set_other T.results k j (kept e) nothing other ∙ h.stays j d there
+      go j d there (no other) = get_or-set_other T.results k j (Some e) None other ∙ h.stays j d there
 
-  kept_comes : get_or S.results k nothing ≡ nothing → (w : Went) → Holds S w → Comes S (suc k) k (bind w (keep k))
+  kept_comes : get_or S.results k None ≡ None → (w : Went) → Holds S w → Comes S (suc k) k (bind w (keep k))
   kept_comes empty (done e T) h =
       record {
         below = omega arith;
         held = kept_held T e empty h;
-        there = λ l. get_or-set_same T.results k (kept e) nothing (omega (arith, h.long, l));
+        there = λ l. get_or-set_same T.results k (Some e) None (omega (arith, h.long, l));
       }
   kept_comes empty (refused n) h = tt
 
-  once_comes : (visit : ℕ → Walk) → Holding (visit k) → (r : Kept) → get_or S.results k nothing ≡ r → Comes S (suc k) k (once visit k r S)
-  once_comes visit g nothing e = kept_comes e (visit k S) (g.grows S)
-  once_comes visit g (kept d) e = record { below = omega arith; held = held_by_nothing S; there = λ l. e }
+  once_comes : (visit : ℕ → Walk) → Holding (visit k) → (r : Kept) → get_or S.results k None ≡ r → Comes S (suc k) k (once visit k r S)
+  once_comes visit g None e = kept_comes e (visit k S) (g.grows S)
+  once_comes visit g (Some d) e = record { below = omega arith; held = held_by_nothing S; there = λ l. e }
 
 module _ (v : ℕ) (x : Point) (order : ℕ) where
   -- with one node more below the bound
@@ -150,7 +151,7 @@ module _ (v : ℕ) (x : Point) (order : ℕ) where
       down_holds i = record { grows = λ S. comes_holds S k i (expand_below v x order k i S) (less i S) }
 
       go : Dec (i ≡ k) → Comes S (suc k) i (expand_below v x order (suc k) i S)
-      go (yes e) = rw (e, eq-eqb k k refl) (once_comes S k (expand_at v x order (expand_below v x order k)) (at_holds v x order down_holds k) (get_or S.results k nothing) refl)
+      go (yes e) = rw (e, eq-eqb k k refl) (once_comes S k (expand_at v x order (expand_below v x order k)) (at_holds v x order down_holds k) (get_or S.results k None) refl)
       go (no n) = rw (ne_eqb i k n) (further S k i (expand_below v x order k i S) (less i S))
 
   below_comes : (k i : ℕ) (S : State) → Comes S k i (expand_below v x order k i S)

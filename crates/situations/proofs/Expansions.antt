@@ -17,7 +17,7 @@ use Rattle.constructor_laws.specs.Grown.{Grown}
 use Rattle.constructor_laws.proofs.Growth.{grown_by_nothing, grown_by_both, earlier_same, append_grows}
 use Rattle.taylor.specs.Work.{Result, Work}
 use Rattle.taylor.specs.Expansion.{Expansion, Constant}
-use Rattle.taylor.specs.Expand.{Kept, nothing, kept, State, state, Went, Walk, bind, yield, refuse, lifted, lift, keep, once, Point, point_node, of_variable, expand_node, expand_at, expand_below, expanded, expand}
+use Rattle.taylor.specs.Expand.{Kept, State, state, Went, Walk, bind, yield, refuse, lifted, lift, keep, once, Point, point_node, of_variable, expand_node, expand_at, expand_below, expanded, expand}
 use Rattle.shape.specs.Demand.{KeepsRules}
 use Rattle.shape.proofs.Lists.{All}
 use Rattle.shape.proofs.TableOfKinds.{Valid}
@@ -67,8 +67,8 @@ module _ (P₀ : Pool) (ks : List ℕ) where
   lift_tame long {work} g = record { tame = λ S p. lifted_tame S p (work S.pool) (g.holds S.pool (long_grown p long)) }
 
   once_tame : (visit : ℕ → Walk) (i : ℕ) (r : Kept) → Tame (visit i) → Tame (once visit i r)
-  once_tame visit i nothing g = record { tame = (g >>= keep_tame i).tame }
-  once_tame visit i (kept e) g = yield_tame e
+  once_tame visit i None g = record { tame = (g >>= keep_tame i).tame }
+  once_tame visit i (Some e) g = yield_tame e
 
   expanded_only : (w : Went) → Stays w → Among ks (of_result (expanded w))
   expanded_only (done e T) g = tt
@@ -85,7 +85,7 @@ module _ (P₀ : Pool) (ks : List ℕ) where
     walking =
         record {
           visits = λ b l g.
-              record { tame = λ S p. rw (eq-eqb b b refl) ((once_tame (expand_at v x order (expand_below v x order b)) b (get_or S.results b nothing) (visit_tame (expand_below v x order b) b l g)).tame S p) };
+              record { tame = λ S p. rw (eq-eqb b b refl) ((once_tame (expand_at v x order (expand_below v x order b)) b (get_or S.results b None) (visit_tame (expand_below v x order b) b l g)).tame S p) };
           passes = λ b i n g. record { tame = λ S p. rw (ne_eqb i b n) (g.tame S p) };
           at = at;
         }
@@ -93,7 +93,7 @@ module _ (P₀ : Pool) (ks : List ℕ) where
     -- a whole walk
     walk_refuses : KeepsRules P₀ → (root : ℕ) → root < P₀.count → Among ks (of_result (expand root v x order P₀))
     walk_refuses k root l =
-        let S = state P₀ (replicate limit nothing) in
+        let S = state P₀ (replicate limit None) in
         expanded_only (expand_below v x order (suc root) root S) ((throughout k walking root l).tame S (grown_by_nothing P₀))
 
 pub rules_are_long : (P : Pool) → KeepsRules P → Long P

@@ -12,9 +12,8 @@ use Rattle.taylor.specs.Work.{Result, Work, lit}
 use Rattle.taylor.specs.Expansion.{Expansion, Constant, var, add_to, times, quotient, exponential, logarithm, power}
 
 -- what is kept for a node: nothing yet, or its expansion
-pub data Kept : Type 0 where
-  nothing : Kept
-  kept : Expansion → Kept
+abbrev pub Kept : Type 0
+Kept = Option Expansion
 
 pub record State : Type 0 where
   pub pool : Pool
@@ -38,11 +37,11 @@ abbrev pub lift : Work Expansion → Walk
 lift work S = lifted S.results (work S.pool)
 
 abbrev pub keep : ℕ → Expansion → Walk
-keep i e S = done e (state S.pool (set S.results i (kept e)))
+keep i e S = done e (state S.pool (set S.results i (Some e)))
 
 abbrev pub once : (ℕ → Walk) → ℕ → Kept → Walk
-once visit i nothing S = (visit i >>= keep i) S
-once visit i (kept e) S = done e S
+once visit i None S = (visit i >>= keep i) S
+once visit i (Some e) S = done e S
 
 -- where an expansion is made: at a point, or at the variable itself
 abbrev pub Point : Type 0
@@ -100,7 +99,7 @@ expand_at v x order down term S = expand_node v x order down term (node_at S.poo
 unfoldable pub expand_below : ℕ → Point → ℕ → ℕ → ℕ → Walk
 expand_below v x order zero i S = refused broken_pool
 expand_below v x order (suc k) i S =
-    cond (eqb i k) (once (expand_at v x order (expand_below v x order k)) k (get_or S.results k nothing) S) (expand_below v x order k i S)
+    cond (eqb i k) (once (expand_at v x order (expand_below v x order k)) k (get_or S.results k None) S) (expand_below v x order k i S)
 
 abbrev pub expanded : Went → Result Expansion
 expanded (done e S) = done e S.pool
@@ -108,4 +107,4 @@ expanded (refused k) = refused k
 
 -- fn taylor_coeffs, fn taylor_coeffs_at
 abbrev pub expand : ℕ → ℕ → Point → ℕ → Work Expansion
-expand root v x order P = expanded (expand_below v x order (suc root) root (state P (replicate limit nothing)))
+expand root v x order P = expanded (expand_below v x order (suc root) root (state P (replicate limit None)))

@@ -159,8 +159,8 @@ module _ (v : ℕ) (x : Point) (order : ℕ) where
     node_walk_grows (Max a b) = ends max_reached
 
   once_grows : (visit : ℕ → Walk) (i : ℕ) → GrowingWalk (visit i) → (r : Kept) → GrowingWalk (once visit i r)
-  once_grows visit i g walk.nothing = g >> keep_grows i
-  once_grows visit i g (walk.kept e) = stays e
+  once_grows visit i g None = g >> keep_grows i
+  once_grows visit i g (Some e) = stays e
 
   below_grows : (k i : ℕ) → GrowingWalk (expand_below v x order k i)
   unfolding expand_below
@@ -169,17 +169,17 @@ module _ (v : ℕ) (x : Point) (order : ℕ) where
       record { grows = λ S. go S (eqb i k) (visits S) (expand_below v x order k i S) (here (below_grows k) S) ((below_grows k i).grows S) }
     where
       visits : Walk
-      visits S = once (expand_at v x order (expand_below v x order k)) k (get_or S.results k walk.nothing) S
+      visits S = once (expand_at v x order (expand_below v x order k)) k (get_or S.results k None) S
 
       here : ((i : ℕ) → GrowingWalk (expand_below v x order k i)) → (S : State) → steps.Goes GrownPool S (visits S)
-      here g S = (once_grows (expand_at v x order (expand_below v x order k)) k (record { grows = λ T. (node_walk_grows g k (node_at T.pool k)).grows T }) (get_or S.results k walk.nothing)).grows S
+      here g S = (once_grows (expand_at v x order (expand_below v x order k)) k (record { grows = λ T. (node_walk_grows g k (node_at T.pool k)).grows T }) (get_or S.results k None)).grows S
 
       go : (S : State) (t : Bool) (a b : Went) → steps.Goes GrownPool S a → steps.Goes GrownPool S b → steps.Goes GrownPool S (cond t a b)
       go S true a b g h = g
       go S false a b g h = h
 
 pub expand_grows : (root v : ℕ) (x : Point) (order : ℕ) → Growing (expand root v x order)
-expand_grows root v x order = record { grows = λ P. from (state P (replicate limit walk.nothing)) }
+expand_grows root v x order = record { grows = λ P. from (state P (replicate limit None)) }
   where
     go : (S : State) (w : Went) → steps.Goes GrownPool S w → Grows S.pool (expanded w)
     go S (done e T) h = h

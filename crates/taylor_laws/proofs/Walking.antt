@@ -1,5 +1,6 @@
 -- The walk that expands an expression gives at each node an expansion that meets the node's aim, if what it does at a node does; expansions that are kept meet theirs all along.
 -- Assumes nothing.
+use Rattle.std.specs.Prelude.{Some, None}
 use mathlib.Core.Path.{◌≡◌, refl, sym, subst}
 use mathlib.Core.Bool.{Bool, true, false, cond}
 use Prim.Native.Nat.{ℕ, zero, suc}
@@ -12,28 +13,28 @@ use Rattle.constructor_laws.specs.Keeps.{Keeps}
 use Rattle.constructor_laws.proofs.Growth.{grown_by_nothing, grown_by_both}
 use Rattle.taylor.specs.Work.{Result, Work}
 use Rattle.taylor.specs.Expansion.{Expansion}
-use Rattle.taylor.specs.Expand.{Kept, nothing, kept, State, state, Went, Walk, Point, bind, lifted, lift, keep, once, expand_at, expand_below, expanded, expand}
+use Rattle.taylor.specs.Expand.{Kept, State, state, Went, Walk, Point, bind, lifted, lift, keep, once, expand_at, expand_below, expanded, expand}
 use Rattle.constructor_laws.proofs.Giving.{Aims, Gives, gave, ended, set_entry}
 
 -- from the pool P₀ on, with the aim of each node of it
 module _ (W : Aims Expansion) (P₀ : Pool) (goal : ℕ → W.Aim) where
   -- a result that is kept for node j: none, or one that meets its aim
   abbrev Kept_for : Pool → ℕ → Kept → Type 0
-  Kept_for P j nothing = Unit {0}
-  Kept_for P j (kept e) = W.Meets (goal j) P e
+  Kept_for P j None = Unit {0}
+  Kept_for P j (Some e) = W.Meets (goal j) P e
 
   pub record Good (S : State) : Type 0 where
     pub keeps : Keeps S.pool
     pub grown : Grown P₀ S.pool
-    pub results : (j : ℕ) → Kept_for S.pool j (get_or S.results j nothing)
+    pub results : (j : ℕ) → Kept_for S.pool j (get_or S.results j None)
 
   -- in a grown pool a kept result stays right
   kept_later : {P Q : Pool} → Keeps P → Grown P Q → (j : ℕ) (r : Kept) → Kept_for P j r → Kept_for Q j r
-  kept_later k g j nothing h = tt
-  kept_later k g j (kept e) h = W.later k g h
+  kept_later k g j None h = tt
+  kept_later k g j (Some e) h = W.later k g h
 
   -- and at first none is kept
-  none_kept : (m k j : ℕ) → Kept_for P₀ j (get_or (replicate m nothing) k nothing)
+  none_kept : (m k j : ℕ) → Kept_for P₀ j (get_or (replicate m None) k None)
   none_kept zero k j = tt
   none_kept (suc m) zero j = tt
   none_kept (suc m) (suc k) j = none_kept m k j
@@ -76,7 +77,7 @@ module _ {W : Aims Expansion} {P₀ : Pool} {goal : ℕ → W.Aim} where
 
   lifted_walked : {S : State} {a : W.Aim} {r : Result Expansion} → Good W P₀ goal S → Gives S.pool (W.Meets a) r → Walked W P₀ goal S a (lifted S.results r)
   lifted_walked {S} good (gave k g m) =
-      came_to (record { keeps = k; grown = grown_by_both good.grown g; results = λ j. kept_later W P₀ goal good.keeps g j (get_or S.results j nothing) (good.results j) }) g m
+      came_to (record { keeps = k; grown = grown_by_both good.grown g; results = λ j. kept_later W P₀ goal good.keeps g j (get_or S.results j None) (good.results j) }) g m
   lifted_walked good ended = ended_walk
 
   -- an operation on expansions called by the walk
@@ -85,11 +86,11 @@ module _ {W : Aims Expansion} {P₀ : Pool} {goal : ℕ → W.Aim} where
 
   keep_walked : {S : State} {e : Expansion} (i : ℕ) → Good W P₀ goal S → W.Meets (goal i) S.pool e → Walked W P₀ goal S (goal i) (keep i e S)
   keep_walked {S} {e} i good m =
-      came_to (record { keeps = good.keeps; grown = good.grown; results = set_entry nothing (Kept_for W P₀ goal S.pool) S.results i (kept e) m good.results }) (grown_by_nothing S.pool) m
+      came_to (record { keeps = good.keeps; grown = good.grown; results = set_entry None (Kept_for W P₀ goal S.pool) S.results i (Some e) m good.results }) (grown_by_nothing S.pool) m
 
   once_walked : (visit : ℕ → Walk) {S : State} (i : ℕ) (r : Kept) → Good W P₀ goal S → Kept_for W P₀ goal S.pool i r → Walked W P₀ goal S (goal i) (visit i S) → Walked W P₀ goal S (goal i) (once visit i r S)
-  once_walked visit i nothing good h w = walked_next w (λ e T good_T g m. keep_walked i good_T m)
-  once_walked visit i (kept e) good h w = walked_here good h
+  once_walked visit i None good h w = walked_next w (λ e T good_T g m. keep_walked i good_T m)
+  once_walked visit i (Some e) good h w = walked_here good h
 
   -- ---- walks
 
@@ -103,10 +104,10 @@ module _ {W : Aims Expansion} {P₀ : Pool} {goal : ℕ → W.Aim} where
     unfolding expand_below
     more_walked k less i c S good = go (eqb i k) refl
       where
-        go : (t : Bool) → eqb i k ≡ t → Walked W P₀ goal S (goal i) (cond t (once (expand_at v x order (expand_below v x order k)) k (get_or S.results k nothing) S) (expand_below v x order k i S))
+        go : (t : Bool) → eqb i k ≡ t → Walked W P₀ goal S (goal i) (cond t (once (expand_at v x order (expand_below v x order k)) k (get_or S.results k None) S) (expand_below v x order k i S))
         go true e =
-            subst (λ j. Walked W P₀ goal S (goal j) (once (expand_at v x order (expand_below v x order k)) k (get_or S.results k nothing) S)) (sym (eqb-true i k e))
-            (once_walked (expand_at v x order (expand_below v x order k)) k (get_or S.results k nothing) good (good.results k) (at (expand_below v x order k) less k (subst C (eqb-true i k e) c) S good))
+            subst (λ j. Walked W P₀ goal S (goal j) (once (expand_at v x order (expand_below v x order k)) k (get_or S.results k None) S)) (sym (eqb-true i k e))
+            (once_walked (expand_at v x order (expand_below v x order k)) k (get_or S.results k None) good (good.results k) (at (expand_below v x order k) less k (subst C (eqb-true i k e) c) S good))
         go false e = less i c S good
 
     walk_below_walked : (k : ℕ) → Walks W P₀ goal C (expand_below v x order k)
@@ -118,4 +119,4 @@ module _ {W : Aims Expansion} {P₀ : Pool} {goal : ℕ → W.Aim} where
     pub expand_gives : Keeps P₀ → (root : ℕ) → C root → Gives P₀ (W.Meets (goal root)) (expand root v x order P₀)
     expand_gives k root c =
         expanded_gives
-        (walk_below_walked (suc root) root c (state P₀ (replicate limit nothing)) (record { keeps = k; grown = grown_by_nothing P₀; results = λ j. none_kept W P₀ goal limit j j }))
+        (walk_below_walked (suc root) root c (state P₀ (replicate limit None)) (record { keeps = k; grown = grown_by_nothing P₀; results = λ j. none_kept W P₀ goal limit j j }))
