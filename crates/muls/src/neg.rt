@@ -1,30 +1,19 @@
 // `neg`: the product with -1.
 ghost use Rattle.std.specs.Prelude.{◌≡◌};
 ghost use Rattle.constructors.specs.Build.{calls};
-ghost use Rattle.pool.specs.Made.{made, pool_of};
+ghost use Rattle.pool.specs.Made.{made};
 
-use pool::{LIMIT, Made, Room};
+use pool::Pool;
+use refusals::Refusal;
 
 // The negative of a node, with `left` constructors left to run inside one another.
-pub fn neg_in(
-    kinds: &mut [u8; LIMIT],
-    words: &mut [u64; LIMIT],
-    room: Room,
-    left: u32,
-    arg: u32,
-) -> Made
-    ensures { made result kinds.new words.new ≡ (calls left).neg_at arg (pool_of kinds.old words.old room) }
+#[tactic(auto, using(views::proofs::Steps::runs_deeper, adds::proofs::Runs::none_left), unfolding(constructors::specs::Build::build))]
+pub fn neg_in(pool: &mut Pool, left: u32, arg: u32) -> Result<u32, Refusal>
+    ensures { made result pool.new ≡ (calls left).neg_at arg pool.old }
 {
     if left == 0 {
-        return Made::Refused(refusals::TOO_DEEP);
+        return Err(Refusal::TooDeep);
     }
-    let lit = adds::lit_in(kinds, words, room, literal::fold(-1));
-    let Made::Node {
-        node: m,
-        room: rest,
-    } = lit
-    else {
-        return lit;
-    };
-    crate::made::mul_in(kinds, words, rest, left - 1, m, arg)
+    let m = adds::lit_in(pool, literal::fold(-1))?;
+    crate::made::mul_in(pool, left - 1, m, arg)
 }

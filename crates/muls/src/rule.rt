@@ -1,10 +1,10 @@
 // Which rule of `exp` holds: the pool is read, and nothing is made.
 ghost use Rattle.std.specs.Prelude.{◌≡◌};
 ghost use Rattle.constructors.specs.Tables.{exp_table};
-ghost use Rattle.pool.specs.Pool.{node_in};
+ghost use Rattle.pool.specs.Pool.{node_at};
 ghost use Rattle.muls.specs.Rule.{exp_term};
 
-use pool::LIMIT;
+use pool::Pool;
 use views::Shape;
 
 // What is to be built; numbers of nodes are u32, literals i64.
@@ -20,10 +20,10 @@ pub enum ExpRule {
     Plain(u32),
 }
 
-pub fn exp_rule(kinds: &[u8; LIMIT], words: &[u64; LIMIT], arg: u32) -> ExpRule
-    ensures { exp_term result ≡ exp_table (node_in kinds.now words.now) arg }
+pub fn exp_rule(pool: &Pool, arg: u32) -> ExpRule
+    ensures { exp_term result ≡ exp_table (node_at pool.now) arg }
 {
-    let shape = views::shape_at(kinds, words, arg);
+    let shape = views::shape_at(pool, arg);
     match shape {
         Shape::Lit(z) => {
             if literal::is_zero(z) {
@@ -32,7 +32,7 @@ pub fn exp_rule(kinds: &[u8; LIMIT], words: &[u64; LIMIT], arg: u32) -> ExpRule
             ExpRule::Literal(z)
         }
         Shape::Add(a, b) => {
-            let Shape::Lit(z) = views::shape_at(kinds, words, b) else {
+            let Shape::Lit(z) = views::shape_at(pool, b) else {
                 return ExpRule::Plain(arg);
             };
             ExpRule::Shifted(z, a)

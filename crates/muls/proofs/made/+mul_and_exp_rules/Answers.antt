@@ -7,7 +7,7 @@ use mir.ValLaws.{to_z-of_z}
 use Rattle.literal.specs.Literal.{folded, exp_of}
 use Rattle.constructors.specs.Terms.{#, lit, lit_exp, mul, exp, Mul}
 use Rattle.constructors.specs.Build.{build, calls, no_calls}
-use Rattle.views.proofs.Steps.{onward, stopped, runs_deeper}
+use Rattle.views.proofs.Steps.{runs_deeper}
 use Rattle.adds.proofs.Runs.{none_left, ruled, renumbered, literal_made}
 use Rattle.mul_rules.specs.Rules.{mul_term}
 use Rattle.muls.specs.Rule.{exp_term}
@@ -47,55 +47,6 @@ exp_in-returns-in-Plain t c =
     rw (runs_deeper c.args.left c.if-left-eq0.false)
     (ruled (calls (c.args.left - 1)) _ exp_term c.exp_rule-rule.ensures c.in-Plain.is
     c.append.ensures)
-
-pub exp_shifted-returns-in_default : goal.exp_shifted-returns-in_default
-unfolding build
-exp_shifted-returns-in_default t c =
-    stopped c.lit_in-factor.new.kinds c.lit_in-factor.new.words _ _ _
-    c.in_default.is
-    (literal_made _
-    (c.exp_literal.ensures ∙ ap exp_of (to_z-of_z w64 c.args.z c.ranges.z))
-    c.lit_in-factor.ensures)
-
-pub exp_shifted-returns-in_default-power : goal.exp_shifted-returns-in_default-power
-unfolding build
-exp_shifted-returns-in_default-power t c =
-    onward c.lit_in-factor.new.kinds c.lit_in-factor.new.words _
-    c.in-Node.is
-    (literal_made _
-    (c.exp_literal.ensures ∙ ap exp_of (to_z-of_z w64 c.args.z c.ranges.z))
-    c.lit_in-factor.ensures)
-    (stopped c.exp_in-power.new.kinds c.exp_in-power.new.words _ _ _
-    c.in_default-power.is
-    c.exp_in-power.ensures)
-
-pub exp_shifted-returns : goal.exp_shifted-returns
-unfolding build
-exp_shifted-returns t c =
-    onward c.lit_in-factor.new.kinds c.lit_in-factor.new.words _
-    c.in-Node.is
-    (literal_made _
-    (c.exp_literal.ensures ∙ ap exp_of (to_z-of_z w64 c.args.z c.ranges.z))
-    c.lit_in-factor.ensures)
-    (onward c.exp_in-power.new.kinds c.exp_in-power.new.words _
-    c.in-Node-power.is
-    c.exp_in-power.ensures
-    c.mul_in.ensures)
-
-pub exp_sum-returns-in_default : goal.exp_sum-returns-in_default
-unfolding build
-exp_sum-returns-in_default t c =
-    stopped c.add_in-sum.new.kinds c.add_in-sum.new.words _ _ _
-    c.in_default.is
-    c.add_in-sum.ensures
-
-pub exp_sum-returns : goal.exp_sum-returns
-unfolding build
-exp_sum-returns t c =
-    onward c.add_in-sum.new.kinds c.add_in-sum.new.words _
-    c.in-Node.is
-    c.add_in-sum.ensures
-    c.exp_in.ensures
 
 pub mul_in-returns-then-left-eq0 : goal.mul_in-returns-then-left-eq0
 mul_in-returns-then-left-eq0 t c = rw (none_left c.args.left c.if-left-eq0.true)
@@ -177,84 +128,3 @@ mul_in-returns-in-Plain t c =
     rw (runs_deeper c.args.left c.if-left-eq0.false)
     (ruled (calls (c.args.left - 1)) _ mul_term c.mul_rule-rule.ensures c.in-Plain.is
     c.append.ensures)
-
-pub over_exp-returns-in_default : goal.over_exp-returns-in_default
-unfolding build
-over_exp-returns-in_default t c =
-    stopped c.exp_sum-power.new.kinds c.exp_sum-power.new.words _ _ _
-    c.in_default.is
-    c.exp_sum-power.ensures
-
-pub over_exp-returns : goal.over_exp-returns
-unfolding build
-over_exp-returns t c =
-    onward c.exp_sum-power.new.kinds c.exp_sum-power.new.words _
-    c.in-Node.is
-    c.exp_sum-power.ensures
-    c.mul_in.ensures
-
-pub over_exps-returns-in_default : goal.over_exps-returns-in_default
-unfolding build
-over_exps-returns-in_default t c =
-    stopped c.mul_in-product.new.kinds c.mul_in-product.new.words _ _ _
-    c.in_default.is
-    c.mul_in-product.ensures
-
-pub over_exps-returns : goal.over_exps-returns
-unfolding build
-over_exps-returns t c =
-    onward c.mul_in-product.new.kinds c.mul_in-product.new.words _
-    c.in-Node.is
-    c.mul_in-product.ensures
-    c.over_exp.ensures
-
-pub scales-returns-in_default : goal.scales-returns-in_default
-unfolding build
-scales-returns-in_default t c =
-    stopped c.lit_in-factor.new.kinds c.lit_in-factor.new.words _ _ _
-    c.in_default.is
-    (literal_made _
-    (c.product.ensures
-    ∙ ap folded (same_product (to_z-of_z w64 c.args.x c.ranges.x) (to_z-of_z w64 c.args.y c.ranges.y)))
-    c.lit_in-factor.ensures)
-
-pub scales-returns : goal.scales-returns
-unfolding build
-scales-returns t c =
-    onward c.lit_in-factor.new.kinds c.lit_in-factor.new.words _
-    c.in-Node.is
-    (literal_made _
-    (c.product.ensures
-    ∙ ap folded (same_product (to_z-of_z w64 c.args.x c.ranges.x) (to_z-of_z w64 c.args.y c.ranges.y)))
-    c.lit_in-factor.ensures)
-    c.under.ensures
-
-pub times_power-returns-in_default : goal.times_power-returns-in_default
-unfolding build
-times_power-returns-in_default t c =
-    stopped c.pow_sum-power.new.kinds c.pow_sum-power.new.words _ _ _
-    c.in_default.is
-    c.pow_sum-power.ensures
-
-pub times_power-returns : goal.times_power-returns
-unfolding build
-times_power-returns t c =
-    onward c.pow_sum-power.new.kinds c.pow_sum-power.new.words _
-    c.in-Node.is
-    c.pow_sum-power.ensures
-    c.mul_in.ensures
-
-pub under-returns-in_default : goal.under-returns-in_default
-unfolding build
-under-returns-in_default t c =
-    stopped c.mul_in-product.new.kinds c.mul_in-product.new.words _ _ _
-    c.in_default.is
-    c.mul_in-product.ensures
-
-pub under-returns : goal.under-returns
-unfolding build
-under-returns t c =
-    onward c.mul_in-product.new.kinds c.mul_in-product.new.words _
-    c.in-Node.is
-    c.mul_in-product.ensures
-    c.append.ensures

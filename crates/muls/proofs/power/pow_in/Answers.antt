@@ -7,7 +7,7 @@ use mir.Syntax.{w64}
 use mir.Val.{to_z, of_z}
 use mir.ValLaws.{to_z-of_z}
 use borrow.Author.Tests.{eq-eqb, ne_eqb}
-use Rattle.pool.specs.Pool.{node_in}
+use Rattle.pool.specs.Pool.{node_at}
 use Rattle.literal.specs.Literal.{is_zero, is_one}
 use Rattle.constructors.specs.Build.{build, calls}
 use Rattle.views.proofs.Missed.{lit_missed, tested}
@@ -24,7 +24,7 @@ returns-then-left-eq0 c = rw (none_left c.args.left c.if-left-eq0.true)
 pub returns-then-exp-eq0 : goal.returns-then-exp-eq0
 unfolding build
 returns-then-exp-eq0 c =
-    let at = node_in c.args.kinds.now c.args.words.now in
+    let at = node_at c.args.pool.now in
     rw (runs_deeper c.args.left c.if-left-eq0.false)
     (built (calls (c.args.left - 1)) _ (power_zero at c.args.base c.args.exp (eq-eqb c.args.exp 0 c.if-exp-eq0.true))
     (literal_made _ c.fold.ensures c.lit_in.ensures))
@@ -33,7 +33,7 @@ pub returns-then-exp-eq1 : goal.returns-then-exp-eq1
 unfolding build
 returns-then-exp-eq1 c =
     let args = c.args in
-    let at = node_in args.kinds.now args.words.now in
+    let at = node_at args.pool.now in
     rw (runs_deeper args.left c.if-left-eq0.false)
     (built (calls (c.args.left - 1)) _ (power_one at args.base args.exp (ne_eqb args.exp 0 c.if-exp-eq0.false) (eq-eqb args.exp 1 c.if-exp-eq1.true)) refl)
 
@@ -41,7 +41,7 @@ pub returns-in_default : goal.returns-in_default
 unfolding build
 returns-in_default c =
     let args = c.args in
-    let at = node_in args.kinds.now args.words.now in
+    let at = node_at args.pool.now in
     rw (runs_deeper args.left c.if-left-eq0.false)
     (built (calls (c.args.left - 1)) _
     (power_of_other at args.base args.exp (ne_eqb args.exp 0 c.if-exp-eq0.false)
@@ -53,7 +53,7 @@ pub returns-then-is_zero : goal.returns-then-is_zero
 unfolding build
 returns-then-is_zero c =
     let args = c.args in
-    let at = node_in args.kinds.now args.words.now in
+    let at = node_at args.pool.now in
     let a = c.in-Lit.a in
     let ea : to_z w64 (of_z w64 a) ≡ a = to_z-of_z w64 a (search rules) in
     rw (runs_deeper args.left c.if-left-eq0.false)
@@ -66,7 +66,7 @@ pub returns-then-is_one : goal.returns-then-is_one
 unfolding build
 returns-then-is_one c =
     let args = c.args in
-    let at = node_in args.kinds.now args.words.now in
+    let at = node_at args.pool.now in
     let a = c.in-Lit.a in
     let ea : to_z w64 (of_z w64 a) ≡ a = to_z-of_z w64 a (search rules) in
     rw (runs_deeper args.left c.if-left-eq0.false)
@@ -80,7 +80,7 @@ pub returns : goal.returns
 unfolding build
 returns c =
     let args = c.args in
-    let at = node_in args.kinds.now args.words.now in
+    let at = node_at args.pool.now in
     let a = c.in-Lit.a in
     let ea : to_z w64 (of_z w64 a) ≡ a = to_z-of_z w64 a (search rules) in
     rw (runs_deeper args.left c.if-left-eq0.false)
