@@ -5,72 +5,72 @@ ghost use Rattle.std.specs.Prelude.{◌<◌};
 ghost use Rattle.pool.specs.Pool.{limit, node_in};
 ghost use Rattle.shape.specs.Order.{numbered};
 ghost use Rattle.shape.specs.Demand.{Below};
-ghost use Rattle.shape.specs.Walked.{Falls, Walked};
-ghost use Rattle.node_walk.specs.Visits.{Stands, Visits, Fresh, Stored};
+ghost use Rattle.shape.specs.Walked.{Falls};
+ghost use Rattle.node_walk.specs.Visits.{StandsFor, Stands, Visits, Fresh, Stored};
 
 use pool::{LIMIT, Parts};
 
-// Node i gets the next number: number[j] is 0 or j's number + 1, order[m] is the node with number m.
-fn number_next(number: &mut [u32; LIMIT], order: &mut [u32; LIMIT], i: u32, done: u32) -> u32
-    requires { (i < limit) × (done < limit) }
-    ensures { Stored number.old order.old i done number.new order.new result }
-{
-    number[i as usize] = done + 1;
-    order[done as usize] = i;
-    done + 1
+// Which nodes have a number: number[j] is 0 or j's number + 1, order[m] is the node with number m, and `done` nodes have one.
+#[derive(Drop)]
+pub struct Numbering {
+    pub number: [u32; LIMIT],
+    pub order: [u32; LIMIT],
+    pub done: u32,
 }
 
-// The walk from node i, where `done` nodes have a number: how many have one then.
-pub fn visit(
-    kinds: &[u8; LIMIT],
-    words: &[u64; LIMIT],
-    i: u32,
-    number: &mut [u32; LIMIT],
-    order: &mut [u32; LIMIT],
-    done: u32,
-) -> u32
-    requires i_lt_limit { i < limit }
-    requires falls { Falls (node_in kinds.now words.now) }
-    requires stands { Stands (node_in kinds.now words.now) number.old order.old done }
-    ensures { Visits (node_in kinds.now words.now) i number.old order.old done number.new order.new result }
-{
-    let mark = number[i as usize];
-    if mark != 0 {
-        return done;
-    }
-    match pool::parts_of(pool::node_at(kinds, words, i)) {
-        Parts::None => number_next(number, order, i, done),
-        Parts::One(a) => {
-            let after = visit(kinds, words, a, number, order, done);
-            number_next(number, order, i, after)
-        }
-        Parts::Two(a, b) => {
-            let left = visit(kinds, words, a, number, order, done);
-            let after = visit(kinds, words, b, number, order, left);
-            number_next(number, order, i, after)
+impl Numbering {
+    // No node has a number.
+    pub fn none() -> Numbering
+        ensures { Fresh result }
+    {
+        Numbering {
+            number: [0; LIMIT],
+            order: [0; LIMIT],
+            done: 0,
         }
     }
-}
 
-// The walk over the roots in turn, no node having a number yet: how many nodes it numbers.
-pub fn number_all(
-    kinds: &[u8; LIMIT],
-    words: &[u64; LIMIT],
-    roots: &[u64],
-    number: &mut [u32; LIMIT],
-    order: &mut [u32; LIMIT],
-) -> u32
-    requires below { Below limit roots.now }
-    requires falls { Falls (node_in kinds.now words.now) }
-    requires fresh { Fresh number.old order.old }
-    ensures { Walked (node_in kinds.now words.now) (numbered (node_in kinds.now words.now) roots.now) number.new order.new result }
-{
-    let mut done = 0;
-    let mut i = 0;
-    while i < roots.len() {
-        let root = roots[i];
-        done = visit(kinds, words, root as u32, number, order, done);
-        i += 1;
+    // Node i gets the next number.
+    fn number_next(&mut self, i: u32)
+        requires { (i < limit) × (self.old.done < limit) }
+        ensures { Stored self.old i self.new }
+    {
+        let done = self.done;
+        self.order[done as usize] = i;
+        self.done = done + 1;
+        self.number[i as usize] = self.done;
     }
-    done
+
+    // The walk from node i.
+    pub fn visit(&mut self, kinds: &[u8; LIMIT], words: &[u64; LIMIT], i: u32)
+        requires i_lt_limit { i < limit }
+        requires falls { Falls (node_in kinds.now words.now) }
+        requires stands { Stands (node_in kinds.now words.now) self.old }
+        ensures { Visits (node_in kinds.now words.now) i self.old self.new }
+    {
+        if self.number[i as usize] != 0 {
+            return;
+        }
+        match pool::parts_of(pool::node_at(kinds, words, i)) {
+            Parts::None => {}
+            Parts::One(a) => self.visit(kinds, words, a),
+            Parts::Two(a, b) => {
+                self.visit(kinds, words, a);
+                self.visit(kinds, words, b);
+            }
+        }
+        self.number_next(i);
+    }
+
+    // The walk over the roots in turn.
+    pub fn number_all(&mut self, kinds: &[u8; LIMIT], words: &[u64; LIMIT], roots: &[u64])
+        requires below { Below limit roots.now }
+        requires falls { Falls (node_in kinds.now words.now) }
+        requires fresh { Fresh self.old }
+        ensures { StandsFor (node_in kinds.now words.now) (numbered (node_in kinds.now words.now) roots.now) self.new }
+    {
+        for root in roots {
+            self.visit(kinds, words, *root as u32);
+        }
+    }
 }
