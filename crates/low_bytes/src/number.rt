@@ -9,11 +9,8 @@ pub fn number_at(bytes: &[u8], at: usize, k: usize) -> u64
     ensures { result ≡ number_at k bytes.now at }
 {
     let mut number: u64 = 0;
-    let mut left = k;
-    while 0 < left {
-        left -= 1;
-        let byte = bytes[at + left];
-        number = (byte as u64) + 256 * number;
+    for i in (0..k).rev() {
+        number = u64::from(bytes[at + i]) + 256 * number;
     }
     number
 }
@@ -24,10 +21,8 @@ pub fn put_bytes(out: &mut [u8], at: usize, k: usize, x: u64)
     ensures { out.new ≡ sets out.old at (low_bytes k x) }
 {
     let mut rest = x;
-    let mut i = 0;
-    while i < k {
+    for i in 0..k {
         out[at + i] = (rest % 256) as u8;
         rest = rest / 256;
-        i += 1;
     }
 }

@@ -26,10 +26,8 @@ pub fn write(out: &mut [u8], at: usize, bytes: &[u8]) -> usize
     ensures { Wrote at out.old bytes.now result out.new }
 {
     let mut to = at;
-    let mut i = 0;
-    while i < bytes.len() {
-        to = put(out, to, bytes[i]);
-        i += 1;
+    for byte in bytes {
+        to = put(out, to, *byte);
     }
     to
 }

@@ -5,39 +5,27 @@ use native.Mathlib.Omega.{arith}
 use Rattle.low_bytes.proofs.LowFirst.{nothing_read, byte_read, room_for_a_byte, all_read}
 use Rattle.low_bytes.proofs.number.number_at.Goals as goal
 
-pub loop-left-init : goal.loop-left-init
-loop-left-init c = nothing_read _ _ _
-
-pub overflow_add-byte : goal.overflow_add-byte
-overflow_add-byte c = omega (arith, c.loop-left.invariant.few, c.requires.1, c.well_formed.0.0)
-
-pub bounds-bytes-at : goal.bounds-bytes-at
-bounds-bytes-at c = omega (arith, c.loop-left.invariant.few, c.requires.1, c.loop-left-test.true)
-
-pub overflow_cast-number : goal.overflow_cast-number
-overflow_cast-number c = omega (arith, c.type_inv.bytes (c.args.at + (c.loop-left.left - 1)))
+pub loop-i-init : goal.loop-i-init
+loop-i-init c = nothing_read _ _ _
 
 pub overflow_mul-number : goal.overflow_mul-number
 overflow_mul-number c =
     omega (
       arith,
-      room_for_a_byte c.loop-left.invariant (λ i. (c.type_inv.bytes i).fits) c.requires.0
-          c.loop-left-test.true,
+      room_for_a_byte c.loop-i.invariant (λ i. (c.type_inv.bytes i).fits) c.requires.0 c.loop-i-test.true,
     )
 
 pub overflow_add-number : goal.overflow_add-number
 overflow_add-number c =
     omega (
       arith,
-      room_for_a_byte c.loop-left.invariant (λ i. (c.type_inv.bytes i).fits) c.requires.0 c.loop-left-test.true,
-      c.type_inv.bytes (c.args.at + (c.loop-left.left - 1)),
+      room_for_a_byte c.loop-i.invariant (λ i. (c.type_inv.bytes i).fits) c.requires.0 c.loop-i-test.true,
+      c.type_inv.bytes (c.args.at + (c.loop-i.i - 1)),
+      c.from.ensures,
     )
 
-pub loop-left-smaller : goal.loop-left-smaller
-loop-left-smaller c = omega (arith, c.loop-left-test.true)
-
-pub loop-left-preserved : goal.loop-left-preserved
-loop-left-preserved c = byte_read c.loop-left.invariant c.loop-left-test.true
+pub loop-i-preserved : goal.loop-i-preserved
+loop-i-preserved c = rw (c.from.ensures) (byte_read c.loop-i.invariant c.loop-i-test.true)
 
 pub returns : goal.returns
-returns c = all_read c.loop-left.invariant c.loop-left-test.false
+returns c = all_read c.loop-i.invariant c.loop-i-test.false

@@ -3,8 +3,5 @@
 use Rattle.low_bytes.proofs.LowFirst.{NumberRead}
 use Rattle.low_bytes.proofs.number.number_at.Given as goal
 
-abbrev pub invariant-loop-left : goal.invariant-loop-left
-invariant-loop-left l = NumberRead l.bytes l.at l.k l.number l.left
-
-abbrev pub decreases-loop-left : goal.decreases-loop-left
-decreases-loop-left l = l.left
+abbrev pub invariant-loop-i : goal.invariant-loop-i
+invariant-loop-i l = NumberRead l.bytes l.at l.k l.number l.i
