@@ -7,7 +7,8 @@ use native.Mathlib.Omega.{arith}
 use lib.ListN.{length}
 use Rattle.pool.specs.Pool.{Pool, done, refused}
 use Rattle.taylor.specs.Work.{Result, Work, bind, yield, zero_lit, one_lit, mul, div, at, each, fill}
-use Rattle.taylor.specs.Expansion.{Expansion, Constant, Polynomial, product_at, times, quotient_at, quotient, exp_at, exponential, log_at, logarithm}
+use Rattle.taylor.specs.Expansion.{Expansion, product_at, times, quotient_at, quotient, exp_at, exponential, log_at, logarithm}
+use Rattle.taylor.specs.declared.expansion.Expansion.TheVariants.{Constant, Polynomial}
 use Rattle.book.specs.Formula.{Formula, #, whole, ◌⊕◌, ◌⊖◌, ◌⊗◌, ◌⊘◌, ◌⊟◌, work, works, row, chain}
 use Rattle.book.specs.Book.{Coefficients, list, constant, product_book, scaled_book, quotient_book, exp_book, log_book}
 use Rattle.book.specs.Order.{product_ordered, scaled_ordered, divided_ordered, quotient_ordered, constant_quotient_ordered, exp_ordered, log_ordered, ◌≈◌, once}

@@ -14,7 +14,8 @@ use Rattle.pool.specs.Pool.{Pool, is_pool, done, refused}
 use Rattle.constructor_laws.specs.Grown.{Grown}
 use Rattle.constructor_laws.specs.Keeps.{Keeps}
 use Rattle.taylor.specs.Work.{Result, Work, at}
-use Rattle.taylor.specs.Expansion.{Expansion, Constant, Polynomial, endless}
+use Rattle.taylor.specs.Expansion.{Expansion, endless}
+use Rattle.taylor.specs.declared.expansion.Expansion.TheVariants.{Constant, Polynomial}
 use Rattle.taylor_base.specs.Answers.{terms}
 use Rattle.taylor_rules.specs.Kept.{Fits}
 use Rattle.lent.specs.Call.{Returned, returned, leaves, lent_pool, demand}

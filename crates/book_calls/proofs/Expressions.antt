@@ -20,7 +20,8 @@ use Rattle.constructor_laws.proofs.Rules.{all_below_lem, rules_of}
 use Rattle.shape.specs.Shape.{has, Reach, root, part}
 use Rattle.shape.proofs.Lists.{here}
 use Rattle.taylor.specs.Work.{Result, Work}
-use Rattle.taylor.specs.Expansion.{Expansion, Constant, add_to, power}
+use Rattle.taylor.specs.Expansion.{Expansion, add_to, power}
+use Rattle.taylor.specs.declared.expansion.Expansion.TheVariants.{Constant}
 use Rattle.taylor.specs.Expand.{Kept, State, state, Went, Point, is_point, expand_below, expanded, expand}
 use Rattle.taylor_base.specs.Answers.{terms}
 use Rattle.taylor_rules.proofs.Theorems.{expand_kept}

@@ -6,7 +6,8 @@ use native.Mathlib.Omega.{arith}
 use Rattle.pool.specs.Pool.{Pool, done, refused}
 use Rattle.constructor_laws.specs.Keeps.{Keeps}
 use Rattle.taylor.specs.Work.{Result, bind, yield, mul, div, exp, log}
-use Rattle.taylor.specs.Expansion.{Expansion, Constant, Polynomial, times, quotient, exponential, logarithm}
+use Rattle.taylor.specs.Expansion.{Expansion, times, quotient, exponential, logarithm}
+use Rattle.taylor.specs.declared.expansion.Expansion.TheVariants.{Constant, Polynomial}
 use Rattle.taylor_rules.specs.Kept.{Fits, Kept, KeptBy}
 use Rattle.taylor_rules.proofs.Theorems.{times_kept, quotient_kept, exponential_kept, logarithm_kept}
 use Rattle.book.specs.Formula.{work}

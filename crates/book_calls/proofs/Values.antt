@@ -12,7 +12,8 @@ use Rattle.pool.specs.Pool.{Pool, node_at, done}
 use Rattle.constructor_laws.specs.Keeps.{Keeps}
 use Rattle.constructor_laws.proofs.Rules.{AllBelow, all_below_lem}
 use Rattle.taylor.specs.Work.{at}
-use Rattle.taylor.specs.Expansion.{Expansion, Constant, Polynomial, times, quotient, exponential, logarithm}
+use Rattle.taylor.specs.Expansion.{Expansion, times, quotient, exponential, logarithm}
+use Rattle.taylor.specs.declared.expansion.Expansion.TheVariants.{Constant, Polynomial}
 use Rattle.taylor_rules.specs.Kept.{Fits}
 use Rattle.taylor_rules.proofs.Theorems.{times_kept, quotient_kept, exponential_kept, logarithm_kept}
 use Rattle.book.specs.Formula.{Formula, #, ◌⊗◌, ◌⊘◌, Exp, Log, work}

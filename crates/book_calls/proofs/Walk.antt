@@ -24,7 +24,8 @@ use Rattle.constructor_laws.proofs.Rules.{AllBelow, below_all, rules_of, node_st
 use Rattle.constructor_laws.proofs.Giving.{gave, ended}
 use Rattle.taylor.specs.Work.{Result, Work}
 use Rattle.taylor.specs.Work as work
-use Rattle.taylor.specs.Expansion.{Expansion, Constant, order, var, add_to, times, quotient, exponential, logarithm, power}
+use Rattle.taylor.specs.Expansion.{Expansion, order, var, add_to, times, quotient, exponential, logarithm, power}
+use Rattle.taylor.specs.declared.expansion.Expansion.TheVariants.{Constant}
 use Rattle.taylor.specs.Expand.{Kept, State, state, Went, Walk, bind, keep, once, lifted, lift, Point, point_node, of_variable, expand_node, expand_at, expand_below}
 use Rattle.taylor_base.specs.Answers.{terms}
 use Rattle.taylor_rules.specs.Kept.{nodes_of, Fits}

@@ -2,7 +2,8 @@
 -- Assumes nothing.
 use Rattle.std.specs.Prelude.{◌≡◌, List, [], ℕ, min, length}
 use Rattle.pool.specs.Pool.{Pool, done}
-use Rattle.taylor.specs.Expansion.{Expansion, Constant, Polynomial}
+use Rattle.taylor.specs.Expansion.{Expansion}
+use Rattle.taylor.specs.declared.expansion.Expansion.TheVariants.{Constant, Polynomial}
 use Rattle.book.specs.Formula.{#, whole, ◌⊗◌, ◌⊘◌, Exp, Log, work}
 use Rattle.book.specs.Book.{list, constant, product_book, scaled_book, quotient_book, exp_book, log_book}
 use Rattle.book.specs.Order.{product_ordered, scaled_ordered, divided_ordered, quotient_ordered, constant_quotient_ordered, exp_ordered, log_ordered}

@@ -8,7 +8,8 @@ use Rattle.constructor_laws.specs.Grown.{Grown}
 use Rattle.constructor_laws.specs.Keeps.{Keeps}
 use Rattle.shape.specs.Shape.{Reach}
 use Rattle.taylor.specs.Work.{bind}
-use Rattle.taylor.specs.Expansion.{Expansion, Constant, var, add_to, power}
+use Rattle.taylor.specs.Expansion.{Expansion, var, add_to, power}
+use Rattle.taylor.specs.declared.expansion.Expansion.TheVariants.{Constant}
 use Rattle.taylor.specs.Expand.{Point, point_node}
 use Rattle.taylor_rules.specs.Kept.{Fits}
 use Rattle.book_calls.specs.Follows.{ProductFollows, QuotientFollows, ExpFollows, LogFollows}

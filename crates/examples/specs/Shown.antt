@@ -7,7 +7,8 @@ use Rattle.pool.specs.Pool.{Pool, Out, done, refused, Run, ◌>>=◌, append, no
 unfoldable pub use Rattle.pool.specs.Pool.{empty}
 use Rattle.walks.specs.Print.{text_of}
 use Rattle.taylor.specs.Work.{Result}
-use Rattle.taylor.specs.Expansion.{Expansion, Constant, Polynomial}
+use Rattle.taylor.specs.Expansion.{Expansion}
+use Rattle.taylor.specs.declared.expansion.Expansion.TheVariants.{Constant, Polynomial}
 
 -- an empty pool with x0 as node 0 and x1 as node 1: "a variable is one node, however often it is written"
 unfoldable pub with_variables : Run → Out

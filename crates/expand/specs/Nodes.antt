@@ -6,7 +6,8 @@ use Rattle.pool.specs.declared.parts.CountedParts.{CountedParts}
 use Rattle.pool.specs.declared.node.Node.{Node}
 use Rattle.pool.specs.declared.node.Node.TheVariants.{Empty, Variable, Lit, Add, Mul, Div, Exp, Log, Pow, Max}
 use Rattle.taylor.specs.Work.{Work, yield, refuse}
-use Rattle.taylor.specs.Expansion.{Expansion, Constant, add_to, times, quotient, exponential, logarithm, power}
+use Rattle.taylor.specs.Expansion.{Expansion, add_to, times, quotient, exponential, logarithm, power}
+use Rattle.taylor.specs.declared.expansion.Expansion.TheVariants.{Constant}
 use Rattle.taylor.specs.Expand.{Point}
 use Rattle.expand.specs.Points.{leaf_work}
 use Rattle.expand.specs.Tables.{Marked}

@@ -2,7 +2,8 @@
 -- Assumes nothing.
 use Rattle.std.specs.Prelude.{Bool, true, false, ℕ, Some, None}
 use Rattle.taylor.specs.Work.{Work, ◌>>=◌, yield}
-use Rattle.taylor.specs.Expansion.{Expansion, Constant, var}
+use Rattle.taylor.specs.Expansion.{Expansion, var}
+use Rattle.taylor.specs.declared.expansion.Expansion.TheVariants.{Constant}
 use Rattle.taylor.specs.Expand.{Point, point_node}
 use Rattle.expand.specs.declared.point.Point as coded
 use Rattle.expand.specs.declared.point.Point.TheVariants as coded_as

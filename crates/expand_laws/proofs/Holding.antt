@@ -18,7 +18,8 @@ use Rattle.constructor_laws.specs.Grown.{Goes}
 use Rattle.constructor_laws.proofs.Going.{Going, Ways, then_goes, yield_goes, refuse_goes}
 use Rattle.taylor.specs.Work.{Result, Work}
 use Rattle.taylor.specs.Work as work
-use Rattle.taylor.specs.Expansion.{Expansion, Constant, var, add_to, times, quotient, exponential, logarithm, power}
+use Rattle.taylor.specs.Expansion.{Expansion, var, add_to, times, quotient, exponential, logarithm, power}
+use Rattle.taylor.specs.declared.expansion.Expansion.TheVariants.{Constant}
 use Rattle.taylor.specs.Expand.{Kept, State, state, Went, Walk, bind, yield, refuse, lifted, lift, keep, once, Point, point_node, of_variable, expand_node, expand_at, expand_below}
 
 -- from one state to another, what was kept has stayed, and the table is as long

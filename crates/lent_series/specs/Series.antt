@@ -3,7 +3,8 @@
 use Rattle.std.specs.Prelude.{◌≡◌, Bool, true, false, ◌&&◌, ◌||◌, cond, List, ◌∷◌, ◌++◌, ℕ, ◌-◌, min, ◌<◌, eqb, leb, length, get_or, take, replicate}
 use Rattle.pool.specs.Pool.{limit}
 use Rattle.taylor.specs.Work.{at}
-use Rattle.taylor.specs.Expansion.{Expansion, Constant, Polynomial, order, endless}
+use Rattle.taylor.specs.Expansion.{Expansion, order, endless}
+use Rattle.taylor.specs.declared.expansion.Expansion.TheVariants.{Constant, Polynomial}
 use Rattle.taylor_base.specs.Answers.{terms, constant_or, expansion_of, Tidy}
 use Rattle.taylor_base.specs.declared.answer.Expansion as coded
 use Rattle.lent_series.specs.declared.series.Series.{Series}

@@ -21,7 +21,7 @@ use Rattle.walks.specs.Derive.{derive}
 use Rattle.walk_laws.proofs.Substitution.{substitute_kept}
 use Rattle.walk_laws.proofs.Derivation.{derive_kept}
 use Rattle.taylor.specs.Work.{at}
-use Rattle.taylor.specs.Expansion.{Polynomial}
+use Rattle.taylor.specs.declared.expansion.Expansion.TheVariants.{Polynomial}
 use Rattle.taylor.specs.Expand.{expand}
 use Rattle.meaning.specs.Value.{Values, value}
 use Rattle.walk_meaning.specs.Setting.{setting}

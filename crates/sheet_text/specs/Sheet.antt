@@ -11,7 +11,8 @@ unfoldable pub use Rattle.pool.specs.Pool.{empty}
 use Rattle.shape.specs.File.{read_file}
 use Rattle.walks.specs.Print.{text_of}
 use Rattle.taylor.specs.Work.{Result}
-use Rattle.taylor.specs.Expansion.{Expansion, Constant, Polynomial, greatest_order}
+use Rattle.taylor.specs.Expansion.{Expansion, greatest_order}
+use Rattle.taylor.specs.declared.expansion.Expansion.TheVariants.{Constant, Polynomial}
 use Rattle.taylor.specs.Expand.{Point, none, point, is_point, expand}
 use Rattle.sheet_text.specs.Line.{Line, usage, asks, parse}
 

@@ -15,7 +15,8 @@ use Rattle.constructors.specs.Build.{literal, build, calls, depth}
 use Rattle.constructor_laws.specs.Grown.{Grown, Grows}
 use Rattle.constructor_laws.proofs.Growth.{append_comes_to, appended_grown, earlier_same, literal_grows}
 use Rattle.taylor.specs.Work.{Result, Work, bind, from, one_lit, mul, at, fold}
-use Rattle.taylor.specs.Expansion.{Expansion, Constant, Polynomial, derivative}
+use Rattle.taylor.specs.Expansion.{Expansion, derivative}
+use Rattle.taylor.specs.declared.expansion.Expansion.TheVariants.{Constant, Polynomial}
 use Rattle.situations.specs.Refusal.{OneOf, Among, of_out, of_result}
 use Rattle.situations.specs.Situations.{of_folding}
 use Rattle.situations.proofs.Steps.{folded_refuses}

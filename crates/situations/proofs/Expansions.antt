@@ -16,7 +16,8 @@ use Rattle.pool.specs.declared.node.Node.TheVariants.{Empty, Variable, Lit, Add,
 use Rattle.constructor_laws.specs.Grown.{Grown}
 use Rattle.constructor_laws.proofs.Growth.{grown_by_nothing, grown_by_both, earlier_same, append_grows}
 use Rattle.taylor.specs.Work.{Result, Work}
-use Rattle.taylor.specs.Expansion.{Expansion, Constant}
+use Rattle.taylor.specs.Expansion.{Expansion}
+use Rattle.taylor.specs.declared.expansion.Expansion.TheVariants.{Constant}
 use Rattle.taylor.specs.Expand.{Kept, State, state, Went, Walk, bind, yield, refuse, lifted, lift, keep, once, Point, point_node, of_variable, expand_node, expand_at, expand_below, expanded, expand}
 use Rattle.shape.specs.Demand.{KeepsRules}
 use Rattle.shape.proofs.Lists.{All}

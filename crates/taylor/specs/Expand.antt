@@ -9,7 +9,8 @@ use Rattle.pool.specs.Pool.{Pool, done, refused, WorkOn, limit, append, node_at}
 use Rattle.pool.specs.Pool as pool
 pub use Rattle.pool.specs.Work.{bind, ◌>>=◌, yield, refuse}
 use Rattle.taylor.specs.Work.{Result, Work, lit}
-use Rattle.taylor.specs.Expansion.{Expansion, Constant, var, add_to, times, quotient, exponential, logarithm, power}
+use Rattle.taylor.specs.declared.expansion.Expansion.TheVariants.{Constant}
+use Rattle.taylor.specs.Expansion.{Expansion, var, add_to, times, quotient, exponential, logarithm, power}
 
 -- what is kept for a node: nothing yet, or its expansion
 abbrev pub Kept : Type 0

@@ -2,16 +2,14 @@
 -- Assumes nothing.
 use Rattle.std.specs.Prelude.{cond, List, [], ◌∷◌, reverse, ℕ, zero, suc, ◌-◌, ◌/◌, ◌%◌, ◌^◌, min, eqb, length, replicate}
 use Rattle.refusals.specs.Refusals.{max_reached}
+pub use Rattle.taylor.specs.Coefficients.{greatest_order}
+use Rattle.taylor.specs.declared.expansion.Expansion as coded
+use Rattle.taylor.specs.declared.expansion.Expansion.TheVariants.{Constant, Polynomial}
 use Rattle.taylor.specs.Work.{Work, ◌>>=◌, yield, refuse, from, zero_lit, one_lit, add, mul, div, neg, sub, exp, log, max, at, each, each_two, fold, fill}
 
--- "An expansion is a constant, or a list of 1 to 25 node numbers, coefficient 0 first."
-pub data Expansion : Type 0 where
-  Constant : ℕ → Expansion
-  Polynomial : List ℕ → Expansion
-
--- "An order is above 24" is refused: this is the greatest
-abbrev pub greatest_order : ℕ
-greatest_order = 24
+-- "An expansion is a constant, or a list of 1 to 25 node numbers, coefficient 0 first." The code holds it as it is
+abbrev pub Expansion : Type 0
+Expansion = coded.Expansion
 
 abbrev pub polynomial : Work (List ℕ) → Work Expansion
 polynomial work = do

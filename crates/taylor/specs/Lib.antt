@@ -1,3 +1,5 @@
+pub mod Coefficients
 pub mod Work
+pub mod Answered
 pub mod Expansion
 pub mod Expand

@@ -1,11 +1,12 @@
 -- Work on the pool that gives any kind of result, and the operations on coefficients, which are constructors called from outside a constructor.
 -- Assumes nothing.
-use Rattle.std.specs.Prelude.{List, [], ◌∷◌, ◌++◌, ℕ, zero, suc, ℤ, pos, length, get_or}
+use Rattle.std.specs.Prelude.{List, [], ◌∷◌, ◌++◌, ℕ, zero, suc, ℤ, pos, length}
 use Rattle.literal.specs.Literal.{folded}
 use Rattle.pool.specs.Pool.{Pool}
 use Rattle.pool.specs.Pool as pool
 pub use Rattle.pool.specs.Pool.{Work}
 pub use Rattle.pool.specs.Work.{bind, ◌>>=◌, yield, refuse}
+pub use Rattle.taylor.specs.Coefficients.{at}
 use Rattle.constructors.specs.Build.{calls, depth, literal}
 
 abbrev pub Result : Type 0 → Type 0
@@ -51,10 +52,6 @@ log a = (calls depth).log_at a
 
 abbrev pub max : ℕ → ℕ → Work ℕ
 max a b = (calls depth).max_at a b
-
--- coefficient i of a list
-abbrev pub at : List ℕ → ℕ → ℕ
-at cs i = get_or cs i 0
 
 -- for each entry, in order
 unfoldable pub each : (ℕ → Work ℕ) → List ℕ → Work (List ℕ)

@@ -1,2 +1,8 @@
-// The definitions of `TaylorExpansion` and of the expansion of expressions, in specs/; there is no code here.
+// Expansions: a constant, or a list of coefficients; the definitions of `TaylorExpansion` and of the expansion of expressions are in specs/.
 #![tactic(auto)]
+
+mod coefficients;
+mod expansion;
+
+pub use coefficients::{Coefficients, TERMS};
+pub use expansion::Expansion;

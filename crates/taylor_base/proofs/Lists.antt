@@ -13,7 +13,8 @@ use Rattle.pool.specs.declared.table.Made.TheVariants.{Node, Refused}
 use Rattle.taylor.specs.Work.{Result, Work, bind, yield, at}
 use Rattle.pool.specs.Pool.{done, refused}
 use Rattle.pool.specs.declared.table.Room.{Room}
-use Rattle.taylor.specs.Expansion.{Expansion, Constant, Polynomial}
+use Rattle.taylor.specs.Expansion.{Expansion}
+use Rattle.taylor.specs.declared.expansion.Expansion.TheVariants.{Constant, Polynomial}
 use Rattle.taylor_base.specs.Answers.{terms, status_of, expanded, list_of, Given, Tidy, Answers, Lists, zeroes, refused_expansion, answer_of, Tidied, WithFirst, constant_of, TidyOf, expansion_of}
 use Rattle.taylor_base.specs.declared.answer.Expansion as coded
 use Rattle.taylor_base.specs.declared.answer.Status.{Status}

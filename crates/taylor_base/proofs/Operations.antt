@@ -14,7 +14,8 @@ use Rattle.refusals.specs.Refusals.{max_reached}
 use Rattle.pool.specs.Made.{made}
 use Rattle.pool.specs.declared.table.Made.{Made}
 use Rattle.taylor.specs.Work.{Result, Work, bind, yield, zero_lit, one_lit, at, each, each_two, fill}
-use Rattle.taylor.specs.Expansion.{Expansion, Constant, Polynomial, first, var_coeffs, coeff, maximum}
+use Rattle.taylor.specs.Expansion.{Expansion, first, var_coeffs, coeff, maximum}
+use Rattle.taylor.specs.declared.expansion.Expansion.TheVariants.{Constant, Polynomial}
 use Rattle.taylor_base.specs.Answers.{terms, list_of, Given, Lists, WithFirst}
 use Rattle.taylor_base.specs.Entries.{Entries}
 use Rattle.taylor_base.specs.declared.answer.Expansion as coded

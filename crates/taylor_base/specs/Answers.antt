@@ -6,7 +6,8 @@ use Rattle.pool.specs.Made.{made, pool_of}
 use Rattle.pool.specs.declared.table.Made as made_node
 use Rattle.pool.specs.declared.table.Made.TheVariants as Made_as
 use Rattle.taylor.specs.Work.{Result, bind, yield, at}
-use Rattle.taylor.specs.Expansion.{Expansion, Constant, Polynomial, greatest_order}
+use Rattle.taylor.specs.Expansion.{Expansion, greatest_order}
+use Rattle.taylor.specs.declared.expansion.Expansion.TheVariants.{Constant, Polynomial}
 use Rattle.taylor_base.specs.declared.answer.Expansion as coded
 use Rattle.taylor_base.specs.declared.answer.Status.{Status}
 use Rattle.taylor_base.specs.declared.answer.Status.TheVariants.{Done, Refused}

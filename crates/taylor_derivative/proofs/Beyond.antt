@@ -19,7 +19,8 @@ use Rattle.pool.specs.declared.node.Node.TheVariants.{Lit}
 use Rattle.pool.specs.Nodes.{kind_of, word_of}
 use Rattle.pool.specs.Pool.{Pool, pool, limit, append, done, refused}
 use Rattle.taylor.specs.Work.{Result, Work, bind, from, one_lit, mul, at, fold}
-use Rattle.taylor.specs.Expansion.{Polynomial, derivative}
+use Rattle.taylor.specs.Expansion.{derivative}
+use Rattle.taylor.specs.declared.expansion.Expansion.TheVariants.{Polynomial}
 use Rattle.taylor_base.proofs.Steps.{bind_assoc}
 use Rattle.taylor_derivative.specs.Factorials.{itself, product, factor}
 use Rattle.taylor_derivative.specs.Beyond.{refused_from19}

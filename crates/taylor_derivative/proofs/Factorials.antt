@@ -29,7 +29,8 @@ use Rattle.constructors.specs.Build.{calls, depth, build, literal}
 use Rattle.constructor_laws.proofs.Growth.{appended, append_comes_to, appended_grown, earlier_same}
 use Rattle.constructor_laws.proofs.Coding.{Fine, fine_is_read}
 use Rattle.taylor.specs.Work.{Result, Work, bind, lit, from, zero_lit, one_lit, mul, at, fold}
-use Rattle.taylor.specs.Expansion.{Constant, Polynomial, derivative}
+use Rattle.taylor.specs.Expansion.{derivative}
+use Rattle.taylor.specs.declared.expansion.Expansion.TheVariants.{Constant, Polynomial}
 use Rattle.taylor_base.proofs.Steps.{bind_assoc}
 use Rattle.taylor_derivative.specs.Factorials.{itself, product, factor, derivative_of}
 

@@ -9,7 +9,8 @@ use lib.ListN.{length, replicate}
 use Rattle.refusals.specs.Refusals.{max_reached}
 use Rattle.pool.specs.Pool.{Pool, done, refused}
 use Rattle.taylor.specs.Work.{Result, Work, bind, yield, lit, from, zero_lit, one_lit, add, mul, div, neg, sub, exp, log, max, at, each, each_two, fold, fill}
-use Rattle.taylor.specs.Expansion.{Expansion, Constant, Polynomial, polynomial, constant, first, var_coeffs, var, coeff, derivative, add_to, negate, sub_from, product_at, times, quotient_at, quotient, exp_term, exp_at, exponential, log_term, log_at, logarithm, pow_from, power, maximum, horner, subst}
+use Rattle.taylor.specs.Expansion.{Expansion, polynomial, constant, first, var_coeffs, var, coeff, derivative, add_to, negate, sub_from, product_at, times, quotient_at, quotient, exp_term, exp_at, exponential, log_term, log_at, logarithm, pow_from, power, maximum, horner, subst}
+use Rattle.taylor.specs.declared.expansion.Expansion.TheVariants.{Constant, Polynomial}
 
 -- what a law says of a piece of work: of the pool that it leaves, or of its refusal number
 abbrev pub Goes : {A : Type 0} → (Pool → Pool → Type 0) → (ℕ → Type 0) → Pool → Result A → Type 0

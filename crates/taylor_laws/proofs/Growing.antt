@@ -18,7 +18,8 @@ use Rattle.constructor_laws.proofs.Going.{Going, Ways, then_goes, yield_goes, re
 pub use Rattle.constructor_laws.proofs.Growth.{Growing}
 use Rattle.constructor_laws.proofs.Growth.{◌>>=◌, grown_by_nothing, grown_by_both, literal_grows, append_grows, calls_grow}
 use Rattle.taylor.specs.Work.{Result, Work}
-use Rattle.taylor.specs.Expansion.{Expansion, Constant, var, coeff, derivative, add_to, negate, sub_from, times, quotient, exponential, logarithm, power, maximum, subst}
+use Rattle.taylor.specs.Expansion.{Expansion, var, coeff, derivative, add_to, negate, sub_from, times, quotient, exponential, logarithm, power, maximum, subst}
+use Rattle.taylor.specs.declared.expansion.Expansion.TheVariants.{Constant}
 use Rattle.taylor.specs.Expand.{Kept, State, state, Went, Walk, lifted, lift, keep, once, Point, point_node, of_variable, expand_node, expand_at, expand_below, expanded, expand}
 use Rattle.taylor.specs.Expand as walk
 use Rattle.taylor_laws.specs.Grown.{Grows}

@@ -11,7 +11,8 @@ use Rattle.constructor_laws.specs.Grown.{Grown}
 use Rattle.constructor_laws.specs.Keeps.{Keeps}
 use Rattle.constructor_laws.proofs.Growth.{grown_by_both}
 use Rattle.taylor.specs.Work.{bind, from, mul, at}
-use Rattle.taylor.specs.Expansion.{Expansion, Constant, Polynomial, horner, subst, coeff, derivative, maximum}
+use Rattle.taylor.specs.Expansion.{Expansion, horner, subst, coeff, derivative, maximum}
+use Rattle.taylor.specs.declared.expansion.Expansion.TheVariants.{Constant, Polynomial}
 use Rattle.constructor_laws.proofs.Giving.{Gives, ended, gives_weaker, gives_here, gives_next}
 use Rattle.taylor_laws.proofs.Lists.{fold_gives}
 use Rattle.meaning.specs.Model.{Algebra, Model}

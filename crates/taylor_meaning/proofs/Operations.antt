@@ -10,7 +10,8 @@ use Rattle.pool.specs.Pool.{Pool}
 use Rattle.constructor_laws.specs.Grown.{Grown}
 use Rattle.constructor_laws.specs.Keeps.{Keeps}
 use Rattle.taylor.specs.Work.{Result, bind, yield, add, sub}
-use Rattle.taylor.specs.Expansion.{Expansion, Constant, Polynomial, var, add_to, negate, sub_from, product_at, times}
+use Rattle.taylor.specs.Expansion.{Expansion, var, add_to, negate, sub_from, product_at, times}
+use Rattle.taylor.specs.declared.expansion.Expansion.TheVariants.{Constant, Polynomial}
 use Rattle.constructor_laws.proofs.Giving.{Aims, Gives, gives_weaker, gives_here, gives_next}
 use Rattle.taylor_laws.proofs.Lists.{Shows, shows_later, shows_none, shows_cons, shows_repeated, ShowsLong, each_gives, each_two_gives, first_gives, fold_gives, fill_gives}
 use Rattle.meaning.specs.Model.{Algebra, Model}

@@ -9,7 +9,8 @@ use lib.ListN.{length}
 use Rattle.pool.specs.Pool.{Pool}
 use Rattle.constructor_laws.specs.Keeps.{Keeps}
 use Rattle.taylor.specs.Work.{at}
-use Rattle.taylor.specs.Expansion.{Expansion, Polynomial, quotient_at, quotient}
+use Rattle.taylor.specs.Expansion.{Expansion, quotient_at, quotient}
+use Rattle.taylor.specs.declared.expansion.Expansion.TheVariants.{Polynomial}
 use Rattle.constructor_laws.proofs.Giving.{Gives, gives_weaker, gives_next}
 use Rattle.taylor_laws.proofs.Lists.{Shows, shows_later, shows_none, shows_cons, each_gives, fold_gives, fill_gives}
 use Rattle.meaning.specs.Model.{Algebra, Model, Distributive}

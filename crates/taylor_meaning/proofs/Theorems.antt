@@ -17,7 +17,8 @@ use Rattle.constructor_laws.specs.Keeps.{Keeps}
 use Rattle.constructor_laws.proofs.Coding.{Short}
 use Rattle.constructor_laws.proofs.Rules.{parts_below}
 use Rattle.taylor.specs.Work.{Result}
-use Rattle.taylor.specs.Expansion.{Expansion, Constant, Polynomial, coeff, derivative, maximum, subst, add_to, negate, sub_from, times, quotient, exponential, logarithm, power}
+use Rattle.taylor.specs.Expansion.{Expansion, coeff, derivative, maximum, subst, add_to, negate, sub_from, times, quotient, exponential, logarithm, power}
+use Rattle.taylor.specs.declared.expansion.Expansion.TheVariants.{Constant, Polynomial}
 use Rattle.taylor.specs.Expand.{Point, expand}
 use Rattle.constructor_laws.proofs.Giving.{Gives, accepted}
 use Rattle.meaning.specs.Model.{Algebra, Model, Distributive}

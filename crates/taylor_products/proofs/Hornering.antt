@@ -10,7 +10,8 @@ use Rattle.pool.specs.Pool.{Pool}
 use Rattle.pool.specs.Made.{pool_of}
 use Rattle.pool.specs.declared.table.Room.{Room}
 use Rattle.taylor.specs.Work.{Result, bind, at}
-use Rattle.taylor.specs.Expansion.{Expansion, Constant, times, add_to, horner}
+use Rattle.taylor.specs.Expansion.{Expansion, times, add_to, horner}
+use Rattle.taylor.specs.declared.expansion.Expansion.TheVariants.{Constant}
 use Rattle.taylor_base.specs.Answers.{expansion_of, Tidy, Answers, constant_of}
 use Rattle.taylor_base.specs.declared.answer.Expansion as coded
 use Rattle.taylor_base.specs.declared.answer.Expanded.{Expanded}

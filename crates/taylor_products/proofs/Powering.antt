@@ -14,7 +14,8 @@ use Rattle.pool.specs.Pool.{Pool, done}
 use Rattle.pool.specs.Made.{pool_of}
 use Rattle.pool.specs.declared.table.Room.{Room}
 use Rattle.taylor.specs.Work.{Result, Work, bind, yield}
-use Rattle.taylor.specs.Expansion.{Expansion, Constant, times, pow_from, digits}
+use Rattle.taylor.specs.Expansion.{Expansion, times, pow_from, digits}
+use Rattle.taylor.specs.declared.expansion.Expansion.TheVariants.{Constant}
 use Rattle.taylor_base.specs.Answers.{expansion_of, Tidy, Answers, constant_of}
 use Rattle.taylor_base.specs.declared.answer.Expansion as coded
 use Rattle.taylor_base.specs.declared.answer.Expanded.{Expanded}

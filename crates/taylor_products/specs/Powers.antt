@@ -2,7 +2,8 @@
 -- Assumes nothing.
 use Rattle.std.specs.Prelude.{Bool, cond, ℕ}
 use Rattle.taylor.specs.Work.{Work, ◌>>=◌, yield}
-use Rattle.taylor.specs.Expansion.{Expansion, Constant, times, add_to}
+use Rattle.taylor.specs.Expansion.{Expansion, times, add_to}
+use Rattle.taylor.specs.declared.expansion.Expansion.TheVariants.{Constant}
 
 -- lhs *= rhs where it is asked for
 abbrev pub times_if : Bool → Expansion → Expansion → Work Expansion

@@ -1,6 +1,7 @@
 // Powers of an expansion, by the binary digits of the exponent.
 ghost use Rattle.pool.specs.Made.{pool_of};
-ghost use Rattle.taylor.specs.Expansion.{Constant, pow_from, power, digits};
+ghost use Rattle.taylor.specs.Expansion.{pow_from, power, digits};
+ghost use Rattle.taylor.specs.declared.expansion.Expansion.TheVariants.{Constant};
 ghost use Rattle.taylor_base.specs.Answers.{expansion_of, Given, Tidy, Answers};
 ghost use Rattle.taylor_products.specs.Powers.{times_if};
 

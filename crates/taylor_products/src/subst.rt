@@ -1,7 +1,8 @@
 // One expansion substituted into another, by Horner's method.
 ghost use Rattle.std.specs.Prelude.{reverse, ◌≤◌};
 ghost use Rattle.pool.specs.Made.{pool_of};
-ghost use Rattle.taylor.specs.Expansion.{Constant, horner, subst};
+ghost use Rattle.taylor.specs.Expansion.{horner, subst};
+ghost use Rattle.taylor.specs.declared.expansion.Expansion.TheVariants.{Constant};
 ghost use Rattle.taylor_base.specs.Answers.{terms, list_of, expansion_of, Given, Tidy, Answers};
 ghost use Rattle.taylor_products.specs.Powers.{horner_step};
 

@@ -6,7 +6,8 @@ use Prim.Native.Nat.{ℕ, ◌-◌, min}
 use lib.ListN.{length}
 use Rattle.pool.specs.Pool.{Pool}
 use Rattle.taylor.specs.Work.{Result, Work, bind, yield, zero_lit, one_lit, div, at, fill}
-use Rattle.taylor.specs.Expansion.{Expansion, Constant, Polynomial, quotient, exponential, logarithm}
+use Rattle.taylor.specs.Expansion.{Expansion, quotient, exponential, logarithm}
+use Rattle.taylor.specs.declared.expansion.Expansion.TheVariants.{Constant, Polynomial}
 use Rattle.taylor_base.specs.Answers.{list_of}
 use Rattle.taylor_base.specs.declared.answer.Expansion as coded
 use Rattle.taylor_base.proofs.Steps.{bind_same, bind_assoc}

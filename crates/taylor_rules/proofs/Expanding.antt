@@ -20,7 +20,8 @@ use Rattle.constructor_laws.proofs.Keeping.{append_keeps}
 use Rattle.constructor_laws.proofs.Giving.{Aims}
 use Rattle.taylor.specs.Work.{Work}
 use Rattle.taylor.specs.Work as work
-use Rattle.taylor.specs.Expansion.{Expansion, Constant, order, times, pow_from, power, endless}
+use Rattle.taylor.specs.Expansion.{Expansion, order, times, pow_from, power, endless}
+use Rattle.taylor.specs.declared.expansion.Expansion.TheVariants.{Constant}
 use Rattle.taylor.specs.Expand.{State, Went, Walk, bind, lift, Point, point_node, of_variable, expand_node, expand_at, expand}
 use Rattle.taylor_laws.proofs.Walking.{Good, Walked, ended_walk, Walks, walked_next, walked_here, both_walked, lift_walked, expand_gives}
 use Rattle.taylor_base.specs.Answers.{terms}

@@ -7,7 +7,8 @@ use Rattle.constructor_laws.specs.Grown.{Grown}
 use Rattle.constructor_laws.specs.Keeps.{Keeps}
 use Rattle.constructor_laws.specs.Keeps as nodes
 use Rattle.taylor.specs.Work.{Result}
-use Rattle.taylor.specs.Expansion.{Expansion, Constant, Polynomial, order, endless}
+use Rattle.taylor.specs.Expansion.{Expansion, order, endless}
+use Rattle.taylor.specs.declared.expansion.Expansion.TheVariants.{Constant, Polynomial}
 use Rattle.taylor_base.specs.Answers.{terms}
 
 abbrev pub nodes_of : Expansion → List ℕ

@@ -2,7 +2,8 @@
 -- Assumes nothing.
 use mathlib.Core.Path.{ap}
 use Rattle.pool.specs.Made.{pool_of}
-use Rattle.taylor.specs.Expansion.{Expansion, Constant, pow_from, digits}
+use Rattle.taylor.specs.Expansion.{Expansion, pow_from, digits}
+use Rattle.taylor.specs.declared.expansion.Expansion.TheVariants.{Constant}
 use Rattle.taylor_base.proofs.Steps.{onward, stopped}
 use Rattle.taylor_base.proofs.Lists.{refusal_answers, answers_same}
 use Rattle.taylor_products.proofs.power.pow_in.Goals as goal

@@ -2,7 +2,8 @@
 -- Assumes nothing.
 use lib.Count.{count_leading_zeros}
 use Rattle.pool.specs.Made.{pool_of}
-use Rattle.taylor.specs.Expansion.{Constant, pow_from, digits}
+use Rattle.taylor.specs.Expansion.{pow_from, digits}
+use Rattle.taylor.specs.declared.expansion.Expansion.TheVariants.{Constant}
 use Rattle.taylor_base.specs.Answers.{expansion_of}
 use Rattle.taylor_products.proofs.Powering.{Powering}
 use Rattle.taylor_products.proofs.power.rounds_in.Given as goal

@@ -2,7 +2,8 @@
 -- Assumes nothing.
 use mathlib.Core.List.{reverse}
 use Rattle.pool.specs.Made.{pool_of}
-use Rattle.taylor.specs.Expansion.{Constant, horner}
+use Rattle.taylor.specs.Expansion.{horner}
+use Rattle.taylor.specs.declared.expansion.Expansion.TheVariants.{Constant}
 use Rattle.taylor_base.specs.Answers.{list_of, expansion_of}
 use Rattle.taylor_products.proofs.Hornering.{Hornering}
 use Rattle.taylor_products.proofs.subst.horner_in.Given as goal

@@ -2,7 +2,8 @@
 -- Assumes nothing.
 use mathlib.Core.Path.{ap}
 use Rattle.pool.specs.Made.{pool_of}
-use Rattle.taylor.specs.Expansion.{Constant, add_to}
+use Rattle.taylor.specs.Expansion.{add_to}
+use Rattle.taylor.specs.declared.expansion.Expansion.TheVariants.{Constant}
 use Rattle.taylor_base.specs.Answers.{expansion_of}
 use Rattle.taylor_base.specs.declared.answer.Expansion as coded
 use Rattle.taylor_base.proofs.Lists.{tidy_given, constant_tidy, answers_same, answers_end, answers_onward}
