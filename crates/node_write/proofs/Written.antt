@@ -2,6 +2,7 @@
 -- Assumes nothing.
 use mathlib.Core.Path.{◌≡◌, sym, ap, ap₂, ◌∙◌, subst, subst⁻¹}
 use mathlib.Core.Bool.{true}
+use Rattle.std.specs.Prelude.{Ok, Err}
 use mathlib.Core.List.{List, [], ◌∷◌, ◌++◌, map}
 use Prim.Native.Nat.{ℕ, suc, ◌+◌, ◌-◌, ◌*◌, ◌≤◌, ◌<◌}
 use native.Mathlib.Omega.{arith}
@@ -18,7 +19,7 @@ use Rattle.shape.specs.Table.{up_to}
 use Rattle.shape.specs.Demand.{Below}
 use Rattle.shape.specs.Order.{numbered, num, entries, written}
 use Rattle.shape.specs.File.{word_bytes, file_of, written_file}
-use Rattle.shape.specs.Walked.{Falls, node_numbered, Walked}
+use Rattle.shape.specs.Walked.{Falls, node_numbered}
 use Rattle.shape.proofs.Lists.{All}
 use Rattle.shape.proofs.Tables.{length_up_to, up_to_at}
 use Rattle.shape.proofs.Renaming.{rename_alike}
@@ -29,9 +30,11 @@ use Rattle.low_bytes.proofs.Writing.{sets_joined}
 use Rattle.shape.proofs.Files.{length_file}
 use Rattle.shape.proofs.Pools.{rules_of_test, node_falls}
 use Rattle.shape.proofs.Walked.{walked_number}
+use Rattle.refusals.specs.Refusals.{no_room}
+use Rattle.node_walk.specs.Visits.{StandsFor}
+use Rattle.node_walk.specs.declared.Numbering.{Numbering}
 use Rattle.node_write.specs.Entries.{number_in, entry_by, Listed}
 use Rattle.node_write.specs.Output.{HasRoots, file_output, file_into}
-use Rattle.node_write.specs.declared.FileLength.TheVariants.{Bytes, NoRoom}
 use Rattle.node_write.proofs.Putting.{kinds_put}
 
 -- the tables of a pool with roots
@@ -42,36 +45,36 @@ module _ {ks ws roots : List ℕ} (h : HasRoots ks ws roots) where
   pub pool_falls : Falls (node_in ks ws)
   pool_falls = node_falls ks ws h.count (rules_of_test ks ws h.count h.rules)
 
-module _ (p : ℕ → Node) (o number order : List ℕ) (n : ℕ) (w : Walked p o number order n) where
+module _ (p : ℕ → Node) (o : List ℕ) (N : Numbering) (w : StandsFor p o N) where
   -- parts of a node done are done
-  parts_done_lem : (m : ℕ) → m < n → All (λ j. has o j ≡ true) (parts (p (get_or order m 0)))
+  parts_done_lem : (m : ℕ) → m < N.done → All (λ j. has o j ≡ true) (parts (p (get_or N.order m 0)))
   parts_done_lem m l =
       subst⁻¹ (λ i. All (λ j. has o j ≡ true) (parts (p i))) (w.placed m l)
       (built_closed p o w.built (node_numbered o m) (num_of_node o (built_distinct p o w.built) m (subst⁻¹ (λ k. m < k) w.counted l)).0)
 
-  pub all_listed : Listed p number order n
+  pub all_listed : Listed p N
   all_listed =
       record {
         few = subst (λ k. k ≤ limit) w.counted (distinct_fit limit o (built_distinct p o w.built) w.below);
         parts_marked = λ m l j h.
             let j_done = parts_done_lem m l j h in
-            let number_is : get_or number j 0 ≡ suc (num o j) = walked_number p o number order n w j j_done in
+            let number_is : get_or N.number j 0 ≡ suc (num o j) = walked_number p o N.number N.order N.done w j j_done in
             record { below = w.below j j_done; some = omega arith };
       }
 
-  entry_is : (m : ℕ) → m < n → entry_by p number order m ≡ get_or (entries p o) m Empty
+  entry_is : (m : ℕ) → m < N.done → entry_by p N m ≡ get_or (entries p o) m Empty
   entry_is m l =
-      rename_alike (number_in number) (num o) (p (get_or order m 0)) (λ j h. ap (λ k. k - 1) (walked_number p o number order n w j (parts_done_lem m l j h)) ∙ one_less (num o j))
+      rename_alike (number_in N.number) (num o) (p (get_or N.order m 0)) (λ j h. ap (λ k. k - 1) (walked_number p o N.number N.order N.done w j (parts_done_lem m l j h)) ∙ one_less (num o j))
       ∙ ap (λ i. rename (num o) (p i)) (w.placed m l)
       ∙ sym (entry_numbered p o m (subst⁻¹ (λ k. m < k) w.counted l))
     where
       one_less : (k : ℕ) → suc k - 1 ≡ k
       one_less k = omega arith
 
-  pub entries_are : up_to n (entry_by p number order) ≡ entries p o
+  pub entries_are : up_to N.done (entry_by p N) ≡ entries p o
   entries_are =
-      ext_get_or Empty (up_to n (entry_by p number order)) (entries p o) (length_up_to n (entry_by p number order) ∙ sym (length_entries p o ∙ w.counted))
-      (λ m l. let k : m < n = subst (λ j. m < j) (length_up_to n (entry_by p number order)) l in up_to_at n (entry_by p number order) Empty m k ∙ entry_is m k)
+      ext_get_or Empty (up_to N.done (entry_by p N)) (entries p o) (length_up_to N.done (entry_by p N) ∙ sym (length_entries p o ∙ w.counted))
+      (λ m l. let k : m < N.done = subst (λ j. m < j) (length_up_to N.done (entry_by p N)) l in up_to_at N.done (entry_by p N) Empty m k ∙ entry_is m k)
 
 -- three runs of bytes from the front are the file, and leave what stands behind it
 three_runs : (old xs ys zs : List ℕ) (i j : ℕ) → i ≡ length xs → j ≡ length xs + length ys → length (xs ++ (ys ++ zs)) ≤ length old
@@ -86,35 +89,35 @@ three_runs old xs ys zs i j e f l =
     from_zero : (k : ℕ) → 0 + k ≡ k
     from_zero k = omega arith
 
-module _ (ks ws : List ℕ) (root : ℕ) {number order : List ℕ} {n : ℕ} (w : Walked (node_in ks ws) (numbered (node_in ks ws) (root ∷ [])) number order n) where
-  file_is : written_file ks ws root ≡ file_of (up_to n (entry_by (node_in ks ws) number order))
+module _ (ks ws : List ℕ) (root : ℕ) {N : Numbering} (w : StandsFor (node_in ks ws) (numbered (node_in ks ws) (root ∷ [])) N) where
+  file_is : written_file ks ws root ≡ file_of (up_to N.done (entry_by (node_in ks ws) N))
   unfolding written_file written
-  file_is = ap file_of (sym (entries_are (node_in ks ws) (numbered (node_in ks ws) (root ∷ [])) number order n w))
+  file_is = ap file_of (sym (entries_are (node_in ks ws) (numbered (node_in ks ws) (root ∷ [])) N w))
 
-  file_long : length (written_file ks ws root) ≡ 4 + 9 * n
+  file_long : length (written_file ks ws root) ≡ 4 + 9 * N.done
   file_long =
-      let q = entry_by (node_in ks ws) number order in
-      ap length file_is ∙ length_file (up_to n q) ∙ ap (λ k. 4 + 9 * k) (length_up_to n q)
+      let q = entry_by (node_in ks ws) N in
+      ap length file_is ∙ length_file (up_to N.done q) ∙ ap (λ k. 4 + 9 * k) (length_up_to N.done q)
 
-  pub has_no_room : (old : List ℕ) → length old < 4 + 9 * n → file_output NoRoom old ≡ file_into old (written_file ks ws root)
+  pub has_no_room : (old : List ℕ) → length old < 4 + 9 * N.done → file_output (Err no_room) old ≡ file_into old (written_file ks ws root)
   unfolding file_into
   has_no_room old l = rw (lt-leb (length (written_file ks ws root)) (length old) (subst⁻¹ (λ k. length old < k) file_long l))
 
-  pub is_written : (old : List ℕ) {out₁ out₂ out₃ : List ℕ} → 4 + 9 * n ≤ length old
-      → out₁ ≡ sets old 0 (low_bytes 4 n) → out₂ ≡ sets out₁ 4 (map kind_of (up_to n (entry_by (node_in ks ws) number order)))
-      → out₃ ≡ sets out₂ (4 + n) (word_bytes (up_to n (entry_by (node_in ks ws) number order)))
-      → file_output (Bytes (4 + 9 * n)) out₃ ≡ file_into old (written_file ks ws root)
+  pub is_written : (old : List ℕ) {out₁ out₂ out₃ : List ℕ} → 4 + 9 * N.done ≤ length old
+      → out₁ ≡ sets old 0 (low_bytes 4 N.done) → out₂ ≡ sets out₁ 4 (map kind_of (up_to N.done (entry_by (node_in ks ws) N)))
+      → out₃ ≡ sets out₂ (4 + N.done) (word_bytes (up_to N.done (entry_by (node_in ks ws) N)))
+      → file_output (Ok (4 + 9 * N.done)) out₃ ≡ file_into old (written_file ks ws root)
   unfolding file_into file_of
   is_written old {out₁} {out₂} {out₃} l a b c =
       let f = written_file ks ws root in
-      let es = up_to n (entry_by (node_in ks ws) number order) in
+      let es = up_to N.done (entry_by (node_in ks ws) N) in
       let long_enough : length f ≤ length old = subst⁻¹ (λ k. k ≤ length old) file_long l in
-      let many : length es ≡ n = length_up_to n (entry_by (node_in ks ws) number order) in
+      let many : length es ≡ N.done = length_up_to N.done (entry_by (node_in ks ws) N) in
       let e : out₃ ≡ file_of es ++ drop (length (file_of es)) old =
-      c ∙ ap (λ x. sets x (4 + n) (word_bytes es)) (b ∙ ap (λ x. sets x 4 (map kind_of es)) (a ∙ ap (λ k. sets old 0 (low_bytes 4 k)) (sym many)))
-      ∙ three_runs old (low_bytes 4 (length es)) (map kind_of es) (word_bytes es) 4 (4 + n) (sym (length_bytes 4 (length es)))
-      (sym (ap₂ ◌+◌ (length_bytes 4 (length es)) (kinds_put.long es ∙ ap (λ k. 1 * k) many ∙ once n))) (subst (λ x. length x ≤ length old) file_is long_enough) in
-      rw (le-leb (length f) (length old) long_enough) (ap₂ (λ k x. file_output (Bytes k) x) (sym file_long) (e ∙ ap (λ x. x ++ drop (length x) old) (sym file_is)))
+      c ∙ ap (λ x. sets x (4 + N.done) (word_bytes es)) (b ∙ ap (λ x. sets x 4 (map kind_of es)) (a ∙ ap (λ k. sets old 0 (low_bytes 4 k)) (sym many)))
+      ∙ three_runs old (low_bytes 4 (length es)) (map kind_of es) (word_bytes es) 4 (4 + N.done) (sym (length_bytes 4 (length es)))
+      (sym (ap₂ ◌+◌ (length_bytes 4 (length es)) (kinds_put.long es ∙ ap (λ k. 1 * k) many ∙ once N.done))) (subst (λ x. length x ≤ length old) file_is long_enough) in
+      rw (le-leb (length f) (length old) long_enough) (ap₂ (λ k x. file_output (Ok k) x) (sym file_long) (e ∙ ap (λ x. x ++ drop (length x) old) (sym file_is)))
     where
       once : (k : ℕ) → 1 * k ≡ k
       once k = omega arith

@@ -5,6 +5,8 @@ use Rattle.pool.specs.Nodes.{parts}
 use Rattle.pool.specs.Pool.{limit}
 use Rattle.pool.specs.declared.node.Node.{Node}
 use Rattle.shape.specs.Shape.{rename, has}
+use Rattle.shape.specs.Table.{up_to}
+use Rattle.node_walk.specs.declared.Numbering.{Numbering}
 
 -- the number that a mark gives
 abbrev pub number_in : List ℕ → ℕ → ℕ
@@ -19,10 +21,14 @@ abbrev pub AllMarked : List ℕ → List ℕ → Type 0
 AllMarked number is = (j : ℕ) → has is j ≡ true → Marked number j
 
 -- entry m: the node with number m, "and parts are given by it"
-abbrev pub entry_by : (ℕ → Node) → List ℕ → List ℕ → ℕ → Node
-entry_by p number order m = rename (number_in number) (p (get_or order m 0))
+abbrev pub entry_by : (ℕ → Node) → Numbering → ℕ → Node
+entry_by p N m = rename (number_in N.number) (p (get_or N.order m 0))
 
--- the first n nodes of the order are there, and all their parts have numbers
-pub record Listed (p : ℕ → Node) (number order : List ℕ) (n : ℕ) : Type 0 where
-  pub few : n ≤ limit
-  pub parts_marked : (m : ℕ) → m < n → AllMarked number (parts (p (get_or order m 0)))
+-- the entries of all nodes that have a number
+abbrev pub all_entries : (ℕ → Node) → Numbering → List Node
+all_entries p N = up_to N.done (entry_by p N)
+
+-- the nodes of the order are there, and all their parts have numbers
+pub record Listed (p : ℕ → Node) (N : Numbering) : Type 0 where
+  pub few : N.done ≤ limit
+  pub parts_marked : (m : ℕ) → m < N.done → AllMarked N.number (parts (p (get_or N.order m 0)))

@@ -6,19 +6,14 @@ ghost use Rattle.std.proofs.lemmas.List.Edits.{sets};
 ghost use Rattle.pool.specs.Nodes.{kind_of, parts};
 ghost use Rattle.pool.specs.Pool.{limit, node_in};
 ghost use Rattle.shape.specs.Shape.{rename};
-ghost use Rattle.shape.specs.Table.{up_to};
 ghost use Rattle.shape.specs.File.{word_bytes, written_file};
-ghost use Rattle.node_write.specs.Entries.{number_in, Marked, AllMarked, entry_by, Listed};
+ghost use Rattle.refusals.specs.Numbers.{numbered};
+ghost use Rattle.node_write.specs.Entries.{number_in, Marked, AllMarked, entry_by, all_entries, Listed};
 ghost use Rattle.node_write.specs.Output.{HasRoots, file_output, file_into};
 
+use node_walk::Numbering;
 use pool::{LIMIT, Node, Parts};
-
-// What writing gives: how many bytes the file has, or that the output is too short.
-#[derive(Clone, Copy)]
-pub enum FileLength {
-    Bytes(u64),
-    NoRoom,
-}
+use refusals::Refusal;
 
 // A part's number in the file; a mark is that number + 1.
 fn number_of(number: &[u32; LIMIT], part: u32) -> u32
@@ -49,84 +44,69 @@ fn renumbered(number: &[u32; LIMIT], node: Node) -> Node
 }
 
 // Entry m of the file: the node with number m.
-fn entry(
-    kinds: &[u8; LIMIT],
-    words: &[u64; LIMIT],
-    number: &[u32; LIMIT],
-    order: &[u32; LIMIT],
-    m: usize,
-) -> Node
+fn entry(kinds: &[u8; LIMIT], words: &[u64; LIMIT], numbering: &Numbering, m: usize) -> Node
     requires m_lt_limit { m < limit }
-    requires all_marked { AllMarked number.now (parts (node_in kinds.now words.now (get_or order.now m 0))) }
-    ensures { result ≡ entry_by (node_in kinds.now words.now) number.now order.now m }
+    requires all_marked { AllMarked numbering.now.number (parts (node_in kinds.now words.now (get_or numbering.now.order m 0))) }
+    ensures { result ≡ entry_by (node_in kinds.now words.now) numbering.now m }
 {
-    let node = pool::node_at(kinds, words, order[m]);
-    renumbered(number, node)
+    let node = pool::node_at(kinds, words, numbering.order[m]);
+    renumbered(&numbering.number, node)
 }
 
-// The kinds of the first n entries, from the place `first` on.
+// The kinds of the entries, from the place `first` on.
 fn put_kinds(
     kinds: &[u8; LIMIT],
     words: &[u64; LIMIT],
-    number: &[u32; LIMIT],
-    order: &[u32; LIMIT],
-    n: usize,
+    numbering: &Numbering,
     first: usize,
     out: &mut [u8],
 )
-    requires listed { Listed (node_in kinds.now words.now) number.now order.now n }
-    requires n_in_bounds { first + n ≤ length out.old }
-    ensures { out.new ≡ sets out.old first (map kind_of (up_to n (entry_by (node_in kinds.now words.now) number.now order.now))) }
+    requires listed { Listed (node_in kinds.now words.now) numbering.now }
+    requires n_in_bounds { first + numbering.now.done ≤ length out.old }
+    ensures { out.new ≡ sets out.old first (map kind_of (all_entries (node_in kinds.now words.now) numbering.now)) }
 {
-    let mut m = 0;
-    while m < n {
-        out[first + m] = pool::kind_of(entry(kinds, words, number, order, m));
-        m += 1;
+    for m in 0..numbering.done as usize {
+        out[first + m] = pool::kind_of(entry(kinds, words, numbering, m));
     }
 }
 
-// The words of the first n entries, from the place `first` on.
+// The words of the entries, from the place `first` on.
 fn put_words(
     kinds: &[u8; LIMIT],
     words: &[u64; LIMIT],
-    number: &[u32; LIMIT],
-    order: &[u32; LIMIT],
-    n: usize,
+    numbering: &Numbering,
     first: usize,
     out: &mut [u8],
 )
-    requires listed { Listed (node_in kinds.now words.now) number.now order.now n }
-    requires n_in_bounds { first + 8 * n ≤ length out.old }
-    ensures { out.new ≡ sets out.old first (word_bytes (up_to n (entry_by (node_in kinds.now words.now) number.now order.now))) }
+    requires listed { Listed (node_in kinds.now words.now) numbering.now }
+    requires n_in_bounds { first + 8 * numbering.now.done ≤ length out.old }
+    ensures { out.new ≡ sets out.old first (word_bytes (all_entries (node_in kinds.now words.now) numbering.now)) }
 {
-    let mut m = 0;
-    while m < n {
-        let word = pool::word_of(entry(kinds, words, number, order, m));
+    for m in 0..numbering.done as usize {
+        let word = pool::word_of(entry(kinds, words, numbering, m));
         low_bytes::put_bytes(out, first + 8 * m, 8, word);
-        m += 1;
     }
 }
 
-// The node file of a root. How long it is is known after the walk, before the first byte is written.
+// The node file of a root: how many bytes it has. That is known after the walk, before the first byte is written.
 pub fn write_file(
     kinds: &[u8; LIMIT],
     words: &[u64; LIMIT],
     root: u32,
     out: &mut [u8],
-) -> FileLength
+) -> Result<u64, Refusal>
     requires { HasRoots kinds.now words.now (root ∷ []) }
-    ensures { file_output result out.new ≡ file_into out.old (written_file kinds.now words.now root) }
+    ensures { file_output (numbered result) out.new ≡ file_into out.old (written_file kinds.now words.now root) }
 {
-    let mut number = [0u32; LIMIT];
-    let mut order = [0u32; LIMIT];
-    let roots = [root as u64];
-    let n = node_walk::number_all(kinds, words, &roots, &mut number, &mut order) as usize;
+    let mut numbering = Numbering::none();
+    numbering.number_all(kinds, words, &[root as u64]);
+    let n = numbering.done as usize;
     let length = 4 + 9 * n;
     if out.len() < length {
-        return FileLength::NoRoom;
+        return Err(Refusal::NoRoom);
     }
     low_bytes::put_bytes(out, 0, 4, n as u64);
-    put_kinds(kinds, words, &number, &order, n, 4, out);
-    put_words(kinds, words, &number, &order, n, 4 + n, out);
-    FileLength::Bytes(length as u64)
+    put_kinds(kinds, words, &numbering, 4, out);
+    put_words(kinds, words, &numbering, 4 + n, out);
+    Ok(length as u64)
 }

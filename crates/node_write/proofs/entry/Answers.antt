@@ -7,7 +7,7 @@ use Rattle.node_write.specs.Entries.{number_in, AllMarked}
 use Rattle.node_write.proofs.entry.Goals as goal
 
 pub renumbered-requires : goal.renumbered-requires
-renumbered-requires c = subst⁻¹ (λ n. AllMarked c.args.number.now (parts n)) c.node_at-node.ensures c.requires.all_marked
+renumbered-requires c = subst⁻¹ (λ n. AllMarked c.args.numbering.now.number (parts n)) c.node_at-node.ensures c.requires.all_marked
 
 pub returns : goal.returns
-returns c = c.renumbered.ensures ∙ ap (rename (number_in c.args.number.now)) c.node_at-node.ensures
+returns c = c.renumbered.ensures ∙ ap (rename (number_in c.args.numbering.now.number)) c.node_at-node.ensures

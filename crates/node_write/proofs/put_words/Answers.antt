@@ -9,7 +9,7 @@ use Rattle.node_write.proofs.put_words.Goals as goal
 pub loop-m-init : goal.loop-m-init
 loop-m-init c =
     no_entries_put words_put
-    (entry_by (node_in c.args.kinds.now c.args.words.now) c.args.number.now c.args.order.now) c.args.n
+    (entry_by (node_in c.args.kinds.now c.args.words.now) c.args.numbering.now) c.args.numbering.now.done
     c.args.first _
 
 pub entry-requires : goal.entry-requires
@@ -31,13 +31,6 @@ overflow_add-first c =
 pub put_bytes-requires : goal.put_bytes-requires
 put_bytes-requires c =
     omega (arith, c.loop-m.invariant.long, c.requires.n_in_bounds, c.loop-m-test.true)
-
-pub overflow_add-m : goal.overflow_add-m
-overflow_add-m c =
-    omega (arith, c.requires.listed.few, c.loop-m-test.true)
-
-pub loop-m-smaller : goal.loop-m-smaller
-loop-m-smaller c = omega (arith, c.loop-m-test.true)
 
 pub loop-m-preserved : goal.loop-m-preserved
 loop-m-preserved c =
