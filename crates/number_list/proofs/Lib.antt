@@ -1,4 +1,2 @@
-pub mod Equal
-pub mod Room
 pub mod Runs
 pub mod Values

@@ -1,37 +1,42 @@
--- Runs of digits and of other bytes, and the numbers they are, read byte by byte from a place on.
+-- Runs of digits and of other bytes: each ends at the first byte of the other kind.
 -- Assumes nothing.
-use mathlib.Core.Path.{◌≡◌, ap, sym, ◌∙◌}
-use mathlib.Core.Bool.{Bool, true, false, cond}
-use mathlib.Core.List.{List, ◌∷◌}
-use Prim.Native.Nat.{ℕ, suc, ◌+◌, ◌≤◌, ◌<◌}
-use native.Mathlib.Numerals.{add-one}
+use Rattle.std.proofs.Common.{◌≡◌, ◌≤◌, refl, Bool, true, false, not, cond, ℕ, List, [], ◌∷◌, length}
 use native.Mathlib.Omega.{arith}
-use lib.ListN.{length, get_or, drop, drop_of_length-le}
-use lib.Seq.{drop-cons}
-use Rattle.number_list.specs.Numbers.{belongs_to, run}
+use Prim.Native.Nat.{suc, ◌+◌}
+use borrow.Author.Tests.{ltb-false}
+use Rattle.std.proofs.Common.{nat_lt}
+use Rattle.std.proofs.lemmas.List.Sums.{prefix_len-le-length}
+use Rattle.std.specs.Prelude.{Option, Some, None}
+use Rattle.std.specs.Option.{unwrap_or}
+use Rattle.std.specs.List.{position, position_or_len}
+use Rattle.std.specs.Char.{is_ascii_digit}
+use Rattle.number_list.specs.Numbers.{run}
 
--- what is left from a place on starts with the byte there
-pub here : (text : List ℕ) (i : ℕ) → i < length text → drop i text ≡ get_or text i 0 ∷ drop (i + 1) text
-here text i h = drop-cons text i 0 h ∙ ap (λ (j : ℕ). get_or text i 0 ∷ drop j text) (sym (add-one i))
+pub within : (p : ℕ → Bool) (bs : List ℕ) → position_or_len p bs ≤ length bs
+within p bs = prefix_len-le-length (λ b. not (p b)) bs
 
--- the run goes on from i to where it ends
-abbrev pub Running : List ℕ → Bool → ℕ → ℕ → Type 0
-Running text d from i = i + run d (drop i text) ≡ from + run d (drop from text)
+-- the first byte of the other kind, or the length
+pub before_of : (bs : List ℕ) → run false bs ≡ position_or_len is_ascii_digit bs
+unfolding run
+before_of [] = refl
+before_of (b ∷ bs) = go (is_ascii_digit b) (before_of bs)
+  where
+    go : (t : Bool) → run false bs ≡ position_or_len is_ascii_digit bs → cond (not t) (suc (run false bs)) 0 ≡ cond (not t) (1 + position_or_len is_ascii_digit bs) 0
+    go true e = refl
+    go false e = omega arith
 
-module _ (text : List ℕ) (d : Bool) (from i : ℕ) (r : Running text d from i) where
-  at : (t : Bool) → i < length text → t ≡ belongs_to d (get_or text i 0) → i + cond t (suc (run d (drop (i + 1) text))) 0 ≡ from + run d (drop from text)
-  unfolding run
-  at t h e =
-      ap (λ (s : Bool). i + cond s (suc (run d (drop (i + 1) text))) 0) e
-      ∙ ap (λ (l : List ℕ). i + run d l) (sym (here text i h))
-      ∙ r
+pub digits_of : (bs : List ℕ) → run true bs ≡ position_or_len (λ b. not (is_ascii_digit b)) bs
+unfolding run
+digits_of [] = refl
+digits_of (b ∷ bs) = go (is_ascii_digit b) (digits_of bs)
+  where
+    go : (t : Bool) → run true bs ≡ position_or_len (λ b. not (is_ascii_digit b)) bs → cond t (suc (run true bs)) 0 ≡ cond (not (not t)) (1 + position_or_len (λ b. not (is_ascii_digit b)) bs) 0
+    go true e = omega arith
+    go false e = refl
 
-  pub stops : {t : Bool} → i < length text → t ≡ belongs_to d (get_or text i 0) → t ≡ false → i ≡ from + run d (drop from text)
-  stops {t} h e f = let p = at false h (sym f ∙ e) in omega arith
-
-  pub goes_on : {t : Bool} → i < length text → t ≡ belongs_to d (get_or text i 0) → t ≡ true → Running text d from (i + 1)
-  goes_on {t} h e f = let p = at true h (sym f ∙ e) in omega arith
-
-  pub ends : length text ≤ i → i ≡ from + run d (drop from text)
-  unfolding run
-  ends h = let p : i + 0 ≡ from + run d (drop from text) = ap (λ (l : List ℕ). i + run d l) (sym (drop_of_length-le text h)) ∙ r in omega arith
+pub or_len : (p : ℕ → Bool) (bs : List ℕ) (r : Option ℕ) → r ≡ position p bs → unwrap_or r (length bs) ≡ position_or_len p bs
+or_len p bs r e = rw e (go (nat_lt (position_or_len p bs) (length bs)) refl)
+  where
+    go : (t : Bool) → nat_lt (position_or_len p bs) (length bs) ≡ t → unwrap_or (cond t (Some (position_or_len p bs)) None) (length bs) ≡ position_or_len p bs
+    go true e = refl
+    go false e = let w = within p bs in let g = ltb-false _ _ e in omega arith

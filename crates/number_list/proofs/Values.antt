@@ -1,13 +1,24 @@
--- The value of digits, read from left to right: what the digits passed have given goes on to the same value.
+-- The value of digits, read from left to right: what the digits passed have given, cut off at the greatest number, goes on to the same value, cut off.
 -- Assumes nothing.
 use mathlib.Core.Path.{◌≡◌, refl, ap, sym, ◌∙◌}
 use mathlib.Core.Bool.{Bool, true, false, cond}
 use mathlib.Core.List.{List, [], ◌∷◌}
 use Prim.Native.Nat.{ℕ, ◌+◌, ◌*◌, ◌-◌, ◌≤◌, ◌<◌}
 use native.Mathlib.Omega.{arith}
+use native.Mathlib.Numerals.{add-one}
+use borrow.Author.Tests.{leb-true, leb-false}
+use lib.Dec.{leb}
 use lib.ListN.{length, get_or, drop, drop_of_length-le}
+use lib.Seq.{drop-cons}
+use Rattle.std.proofs.Common.{min}
 use Rattle.number_list.specs.Numbers.{greatest_number, is_digit, value, Reads}
-use Rattle.number_list.proofs.Runs.{here}
+
+abbrev pub cut : ℕ → ℕ
+cut n = min n greatest_number
+
+-- a number that was cut off is read as it should be
+pub cut_reads : (n v : ℕ) → n ≡ cut v → Reads n v
+cut_reads n v e = record { fits = λ h. omega arith; above = λ h. omega arith }
 
 -- digits only make a number greater
 grows : (n : ℕ) (bs : List ℕ) → n ≤ value n bs
@@ -19,37 +30,28 @@ grows n (b ∷ bs) = go (is_digit b) (grows (10 * n + (b - 48)) bs)
     go true h = omega arith
     go false h = omega arith
 
--- the digits before i gave n, and those from i on go on from it
-pub record Reading (text : List ℕ) (from n i : ℕ) : Type 0 where
-  pub small : n ≤ greatest_number
-  pub gives : value n (drop i text) ≡ value 0 (drop from text)
+-- cutting off on the way changes nothing of the value that is cut off
+pub cut_before : (n m : ℕ) (bs : List ℕ) → n ≡ cut m → cut (value n bs) ≡ cut (value m bs)
+cut_before n m bs e = go (leb m greatest_number) refl
+  where
+    go : (t : Bool) → leb m greatest_number ≡ t → cut (value n bs) ≡ cut (value m bs)
+    go true k = let h = leb-true m greatest_number k in let same : n ≡ m = omega arith in rw same refl
+    go false k = let h = leb-false m greatest_number k in let a = grows n bs in let b = grows m bs in omega arith
 
-pub starts : (text : List ℕ) (from : ℕ) → Reading text from 0 from
-starts text from = record { small = omega arith; gives = refl }
+-- what is left from a place on starts with the byte there
+step : (bs : List ℕ) (i n : ℕ) (t : Bool) → i < length bs → is_digit (get_or bs i 0) ≡ t → value n (drop i bs) ≡ cond t (value (10 * n + (get_or bs i 0 - 48)) (drop (i + 1) bs)) n
+unfolding value
+step bs i n t h d =
+    let here : drop i bs ≡ get_or bs i 0 ∷ drop (i + 1) bs = drop-cons bs i 0 h ∙ ap (λ (j : ℕ). get_or bs i 0 ∷ drop j bs) (sym (add-one i)) in
+    ap (value n) here ∙ ap (λ (s : Bool). cond s (value (10 * n + (get_or bs i 0 - 48)) (drop (i + 1) bs)) n) d
 
-module _ (text : List ℕ) (from n i : ℕ) (r : Reading text from n i) where
-  at : (t : Bool) → i < length text → t ≡ is_digit (get_or text i 0) → cond t (value (10 * n + (get_or text i 0 - 48)) (drop (i + 1) text)) n ≡ value 0 (drop from text)
-  unfolding value
-  at t h e =
-      ap (λ (s : Bool). cond s (value (10 * n + (get_or text i 0 - 48)) (drop (i + 1) text)) n) e
-      ∙ ap (value n) (sym (here text i h))
-      ∙ r.gives
+-- the turn of a digit, and the end
+pub turn : (bs : List ℕ) (i n r : ℕ) → i < length bs → is_digit (get_or bs i 0) ≡ true → r ≡ cut (10 * n + (get_or bs i 0 - 48)) → cut (value n (drop i bs)) ≡ cut (value 0 bs) → cut (value r (drop (i + 1) bs)) ≡ cut (value 0 bs)
+turn bs i n r h d e k = cut_before r (10 * n + (get_or bs i 0 - 48)) (drop (i + 1) bs) e ∙ ap cut (sym (step bs i n true h d)) ∙ k
 
-  as_it_is : n ≡ value 0 (drop from text) → Reads n (value 0 (drop from text))
-  as_it_is e = let s = r.small in record { fits = λ h. e; above = λ h. absurd (omega arith) }
+pub stops : (bs : List ℕ) (i n : ℕ) → n ≤ greatest_number → i < length bs → is_digit (get_or bs i 0) ≡ false → cut (value n (drop i bs)) ≡ cut (value 0 bs) → Reads n (value 0 bs)
+stops bs i n s h d k = cut_reads n (value 0 bs) (let e : value n (drop i bs) ≡ n = step bs i n false h d in omega arith)
 
-  pub stops : {t : Bool} → i < length text → t ≡ is_digit (get_or text i 0) → t ≡ false → Reads n (value 0 (drop from text))
-  stops {t} h e f = as_it_is (at false h (sym f ∙ e))
-
-  pub ends : length text ≤ i → Reads n (value 0 (drop from text))
-  unfolding value
-  ends h = as_it_is (ap (value n) (sym (drop_of_length-le text h)) ∙ r.gives)
-
-  pub goes_on : {t : Bool} → i < length text → t ≡ is_digit (get_or text i 0) → t ≡ true → 10 * n + (get_or text i 0 - 48) ≤ greatest_number → Reading text from (10 * n + (get_or text i 0 - 48)) (i + 1)
-  goes_on {t} h e f room = record { small = room; gives = at true h (sym f ∙ e) }
-
-  pub too_long : {t : Bool} → i < length text → t ≡ is_digit (get_or text i 0) → t ≡ true → greatest_number < 10 * n + (get_or text i 0 - 48) → Reads greatest_number (value 0 (drop from text))
-  too_long {t} h e f over =
-      let p = at true h (sym f ∙ e) in
-      let g = grows (10 * n + (get_or text i 0 - 48)) (drop (i + 1) text) in
-      record { fits = λ k. absurd (omega arith); above = λ k. refl }
+pub ends : (bs : List ℕ) (i n : ℕ) → n ≤ greatest_number → length bs ≤ i → cut (value n (drop i bs)) ≡ cut (value 0 bs) → Reads n (value 0 bs)
+unfolding value
+ends bs i n s h k = cut_reads n (value 0 bs) (let e : value n (drop i bs) ≡ n = ap (value n) (drop_of_length-le bs h) in omega arith)

@@ -23,16 +23,16 @@ unfoldable pub value : ℕ → List ℕ → ℕ
 value n [] = n
 value n (b ∷ bs) = cond (is_digit b) (value (10 * n + (b - 48)) bs) n
 
--- the place of the first digit from a place on
-abbrev pub first_digit : List ℕ → ℕ → ℕ
-first_digit text at = at + run false (drop at text)
+-- what is left of a text from its first digit on
+abbrev pub from_digit : List ℕ → List ℕ
+from_digit text = drop (run false text) text
 
--- the next number, and the place behind it
-abbrev pub decimal_at : List ℕ → ℕ → ℕ
-decimal_at text at = value 0 (drop (first_digit text at) text)
+-- the next number, and what is left behind it
+abbrev pub next_number : List ℕ → ℕ
+next_number text = value 0 (from_digit text)
 
-abbrev pub place_after : List ℕ → ℕ → ℕ
-place_after text at = first_digit text at + run true (drop (first_digit text at) text)
+abbrev pub behind_number : List ℕ → List ℕ
+behind_number text = drop (run true (from_digit text)) (from_digit text)
 
 -- a number of 64 bits is read as it is; a greater one, which no list has, as the greatest
 pub record Reads (r v : ℕ) : Type 0 where
