@@ -64,9 +64,9 @@ module _ (P₀ : Pool) (ks : List ℕ) where
   lift_tame : {run : Run} → Growing run → ((P : Pool) → Among ks (of_out (run P))) → Tame (lift run)
   lift_tame {run} g r = record { tame = λ S p. lifted_tame S p (run S.pool) (g.grows S.pool) (r S.pool) }
 
-  once_tame : (visit : ℕ → Walk) (i r : ℕ) → Tame (visit i) → Tame (once visit i r)
-  once_tame visit i zero g = record { tame = (g >>= keep_tame i).tame }
-  once_tame visit i (suc r) g = yield_tame r
+  once_tame : (visit : ℕ → Walk) (i : ℕ) (m : Option ℕ) → Tame (visit i) → Tame (once visit i m)
+  once_tame visit i None g = record { tame = (g >>= keep_tame i).tame }
+  once_tame visit i (Some r) g = yield_tame r
 
   built_only : (w : Went) → Stays w → Among ks (of_out (built w))
   built_only (done i T) g = tt
@@ -84,7 +84,7 @@ module _ (P₀ : Pool) (ks : List ℕ) where
     unfolding walk_below
     walking =
         record {
-          visits = λ b l g. record { tame = λ S p. rw (eq-eqb b b refl) ((once_tame (visit (walk_below visit b)) b (get_or S.kept b 0) (visit_tame (walk_below visit b) b l g)).tame S p) };
+          visits = λ b l g. record { tame = λ S p. rw (eq-eqb b b refl) ((once_tame (visit (walk_below visit b)) b (get_or S.kept b None) (visit_tame (walk_below visit b) b l g)).tame S p) };
           passes = λ b i n g. record { tame = λ S p. rw (ne_eqb i b n) (g.tame S p) };
           at = at;
         }
@@ -92,7 +92,7 @@ module _ (P₀ : Pool) (ks : List ℕ) where
     -- a whole walk
     walk_refuses : KeepsRules P₀ → (root : ℕ) → root < P₀.count → Among ks (of_out (walk_from visit root P₀))
     walk_refuses k root l =
-        let S = state P₀ (replicate limit 0) in
+        let S = state P₀ (replicate limit None) in
         built_only (walk_below visit (suc root) root S) ((throughout k walking root l).tame S (grown_by_nothing P₀))
 
 -- ---- substitution

@@ -1,5 +1,6 @@
 -- A walk from a node is the same below every bound above the node, and is refused below any other.
 -- Assumes nothing.
+use Rattle.std.specs.Prelude.{None}
 use mathlib.Core.Path.{◌≡◌, refl, sym, ap, ◌∙◌}
 use mathlib.Core.Logic.{◌⊎◌, inl, inr}
 use Prim.Native.Nat.{ℕ, zero, suc, ◌+◌, ◌≤◌, ◌<◌}
@@ -13,12 +14,12 @@ use Rattle.pool.specs.Pool.{refused}
 use Rattle.walks.specs.Walk.{State, Walk, once, walk_below}
 
 module _ (visit : (ℕ → Walk) → ℕ → Walk) (S : State) where
-  here : (i : ℕ) → walk_below visit (suc i) i S ≡ once (visit (walk_below visit i)) i (get_or S.kept i 0) S
+  here : (i : ℕ) → walk_below visit (suc i) i S ≡ once (visit (walk_below visit i)) i (get_or S.kept i None) S
   unfolding walk_below
   here i = rw (eq-eqb i i refl)
 
   -- at the bound's last node it is visited, once
-  pub walk_here : (i : ℕ) → walk_below visit (i + 1) i S ≡ once (visit (walk_below visit i)) i (get_or S.kept i 0) S
+  pub walk_here : (i : ℕ) → walk_below visit (i + 1) i S ≡ once (visit (walk_below visit i)) i (get_or S.kept i None) S
   walk_here i = rw (add-one i) (here i)
 
   elsewhere : (k a : ℕ) → a < k → walk_below visit (suc k) a S ≡ walk_below visit k a S

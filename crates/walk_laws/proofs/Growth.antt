@@ -1,5 +1,6 @@
 -- Every walk only appends, if what it does at a node does: one step after another, a constructor called by a walk, and a result that is kept; the rest is induction on the bound.
 -- Assumes nothing.
+use Rattle.std.specs.Prelude.{Option, Some, None}
 use mathlib.Core.Bool.{Bool, true, false, cond}
 use Prim.Native.Nat.{ℕ, zero, suc}
 use lib.Dec.{eqb}
@@ -41,9 +42,9 @@ lift_grows {run} g = record { grows = λ S. lifted_grows S (run S.pool) (g.grows
 keep_grows : (i r : ℕ) → Growing (keep i r)
 keep_grows i r = record { grows = λ S. grown_by_nothing S.pool }
 
-once_grows : (visit : ℕ → Walk) (i r : ℕ) → Growing (visit i) → Growing (once visit i r)
-once_grows visit i zero g = record { grows = (g >>= keep_grows i).grows }
-once_grows visit i (suc r) g = yield_grows r
+once_grows : (visit : ℕ → Walk) (i : ℕ) (m : Option ℕ) → Growing (visit i) → Growing (once visit i m)
+once_grows visit i None g = record { grows = (g >>= keep_grows i).grows }
+once_grows visit i (Some r) g = yield_grows r
 
 -- what is done at a node only appends, if the walk of its parts does
 abbrev pub GrowsAt : ((ℕ → Walk) → ℕ → Walk) → Type 0
@@ -55,8 +56,8 @@ module _ {visit : (ℕ → Walk) → ℕ → Walk} (at : GrowsAt visit) where
   unfolding walk_below
   more_grows k less i = record { grows = λ S. go S (eqb i k) }
     where
-      go : (S : State) (here : Bool) → Grows S (cond here (once (visit (walk_below visit k)) k (get_or S.kept k 0) S) (walk_below visit k i S))
-      go S true = (once_grows (visit (walk_below visit k)) k (get_or S.kept k 0) (at (walk_below visit k) less k)).grows S
+      go : (S : State) (here : Bool) → Grows S (cond here (once (visit (walk_below visit k)) k (get_or S.kept k None) S) (walk_below visit k i S))
+      go S true = (once_grows (visit (walk_below visit k)) k (get_or S.kept k None) (at (walk_below visit k) less k)).grows S
       go S false = (less i).grows S
 
   pub walk_below_grows : (k i : ℕ) → Growing (walk_below visit k i)
@@ -70,7 +71,7 @@ module _ {visit : (ℕ → Walk) → ℕ → Walk} (at : GrowsAt visit) where
 
   -- a whole walk
   pub walk_grows : (root : ℕ) → runs.Growing (walk_from visit root)
-  walk_grows root = record { grows = λ P. from P (state P (replicate limit 0)) }
+  walk_grows root = record { grows = λ P. from P (state P (replicate limit None)) }
     where
       from : (P : Pool) (S : State) → pools.Grows S.pool (built (walk_below visit (suc root) root S))
       from P S = built_grows S (walk_below visit (suc root) root S) ((walk_below_grows (suc root) root).grows S)

@@ -1,5 +1,6 @@
 -- A walk that builds gives at each node a result that meets the node's aim, if what it does at a node does; results that are kept meet theirs all along.
 -- Assumes nothing.
+use Rattle.std.specs.Prelude.{Option, Some, None}
 use mathlib.Core.Path.{◌≡◌, refl, sym, subst}
 use mathlib.Core.Bool.{Bool, true, false, cond}
 use Prim.Native.Nat.{ℕ, zero, suc}
@@ -16,22 +17,22 @@ use Rattle.constructor_laws.proofs.Giving.{Aims, Gives, gave, ended, set_entry}
 -- from the pool P₀ on, with the aim of each node of it
 module _ (W : Aims ℕ) (P₀ : Pool) (goal : ℕ → W.Aim) where
   -- a result that is kept for node j: none, or one that meets its aim
-  abbrev Kept_for : Pool → ℕ → ℕ → Type 0
-  Kept_for P j zero = Unit {0}
-  Kept_for P j (suc r) = W.Meets (goal j) P r
+  abbrev Kept_for : Pool → ℕ → Option ℕ → Type 0
+  Kept_for P j None = Unit {0}
+  Kept_for P j (Some r) = W.Meets (goal j) P r
 
   pub record Good (S : State) : Type 0 where
     pub keeps : Keeps S.pool
     pub grown : Grown P₀ S.pool
-    pub results : (j : ℕ) → Kept_for S.pool j (get_or S.kept j 0)
+    pub results : (j : ℕ) → Kept_for S.pool j (get_or S.kept j None)
 
   -- in a grown pool a kept result stays right
-  kept_later : {P Q : Pool} → Keeps P → Grown P Q → (j r : ℕ) → Kept_for P j r → Kept_for Q j r
-  kept_later k g j zero h = tt
-  kept_later k g j (suc r) h = W.later k g h
+  kept_later : {P Q : Pool} → Keeps P → Grown P Q → (j : ℕ) (m : Option ℕ) → Kept_for P j m → Kept_for Q j m
+  kept_later k g j None h = tt
+  kept_later k g j (Some r) h = W.later k g h
 
   -- and at first none is kept
-  none_kept : (n m j : ℕ) → Kept_for P₀ j (get_or (replicate n 0) m 0)
+  none_kept : (n m j : ℕ) → Kept_for P₀ j (get_or (replicate n None) m None)
   none_kept zero m j = tt
   none_kept (suc n) zero j = tt
   none_kept (suc n) (suc m) j = none_kept n m j
@@ -74,7 +75,7 @@ module _ {W : Aims ℕ} {P₀ : Pool} {goal : ℕ → W.Aim} where
 
   lifted_walked : {S : State} {a : W.Aim} {o : Out} → Good W P₀ goal S → Gives S.pool (W.Meets a) o → Walked W P₀ goal S a (lifted S.kept o)
   lifted_walked {S} good (gave k g m) =
-      came_to (record { keeps = k; grown = grown_by_both good.grown g; results = λ j. kept_later W P₀ goal good.keeps g j (get_or S.kept j 0) (good.results j) }) g m
+      came_to (record { keeps = k; grown = grown_by_both good.grown g; results = λ j. kept_later W P₀ goal good.keeps g j (get_or S.kept j None) (good.results j) }) g m
   lifted_walked good ended = ended_walk
 
   -- a constructor called by a walk
@@ -83,11 +84,11 @@ module _ {W : Aims ℕ} {P₀ : Pool} {goal : ℕ → W.Aim} where
 
   keep_walked : {S : State} (i r : ℕ) → Good W P₀ goal S → W.Meets (goal i) S.pool r → Walked W P₀ goal S (goal i) (keep i r S)
   keep_walked {S} i r good m =
-      came_to (record { keeps = good.keeps; grown = good.grown; results = set_entry 0 (Kept_for W P₀ goal S.pool) S.kept i (suc r) m good.results }) (grown_by_nothing S.pool) m
+      came_to (record { keeps = good.keeps; grown = good.grown; results = set_entry None (Kept_for W P₀ goal S.pool) S.kept i (Some r) m good.results }) (grown_by_nothing S.pool) m
 
-  once_walked : (visit : ℕ → Walk) {S : State} (i r : ℕ) → Good W P₀ goal S → Kept_for W P₀ goal S.pool i r → Walked W P₀ goal S (goal i) (visit i S) → Walked W P₀ goal S (goal i) (once visit i r S)
-  once_walked visit i zero good h w = walked_next w (λ r T good_T g m. keep_walked i r good_T m)
-  once_walked visit i (suc r) good h w = walked_here good h
+  once_walked : (visit : ℕ → Walk) {S : State} (i : ℕ) (kept : Option ℕ) → Good W P₀ goal S → Kept_for W P₀ goal S.pool i kept → Walked W P₀ goal S (goal i) (visit i S) → Walked W P₀ goal S (goal i) (once visit i kept S)
+  once_walked visit i None good h w = walked_next w (λ r T good_T g m. keep_walked i r good_T m)
+  once_walked visit i (Some r) good h w = walked_here good h
 
   -- ---- walks
 
@@ -101,10 +102,10 @@ module _ {W : Aims ℕ} {P₀ : Pool} {goal : ℕ → W.Aim} where
     unfolding walk_below
     more_walked k less i c S good = go (eqb i k) refl
       where
-        go : (t : Bool) → eqb i k ≡ t → Walked W P₀ goal S (goal i) (cond t (once (visit (walk_below visit k)) k (get_or S.kept k 0) S) (walk_below visit k i S))
+        go : (t : Bool) → eqb i k ≡ t → Walked W P₀ goal S (goal i) (cond t (once (visit (walk_below visit k)) k (get_or S.kept k None) S) (walk_below visit k i S))
         go true e =
-            subst (λ j. Walked W P₀ goal S (goal j) (once (visit (walk_below visit k)) k (get_or S.kept k 0) S)) (sym (eqb-true i k e))
-            (once_walked (visit (walk_below visit k)) k (get_or S.kept k 0) good (good.results k) (at (walk_below visit k) less k (subst C (eqb-true i k e) c) S good))
+            subst (λ j. Walked W P₀ goal S (goal j) (once (visit (walk_below visit k)) k (get_or S.kept k None) S)) (sym (eqb-true i k e))
+            (once_walked (visit (walk_below visit k)) k (get_or S.kept k None) good (good.results k) (at (walk_below visit k) less k (subst C (eqb-true i k e) c) S good))
         go false e = less i c S good
 
     walk_below_walked : (k : ℕ) → Walks W P₀ goal C (walk_below visit k)
@@ -115,4 +116,4 @@ module _ {W : Aims ℕ} {P₀ : Pool} {goal : ℕ → W.Aim} where
     -- a whole walk
     pub walk_gives : Keeps P₀ → (root : ℕ) → C root → Gives P₀ (W.Meets (goal root)) (walk_from visit root P₀)
     walk_gives k root c =
-        built_gives (walk_below_walked (suc root) root c (state P₀ (replicate limit 0)) (record { keeps = k; grown = grown_by_nothing P₀; results = λ j. none_kept W P₀ goal limit j j }))
+        built_gives (walk_below_walked (suc root) root c (state P₀ (replicate limit None)) (record { keeps = k; grown = grown_by_nothing P₀; results = λ j. none_kept W P₀ goal limit j j }))
