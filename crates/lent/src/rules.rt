@@ -14,12 +14,10 @@ fn nodes_keep(table: &[u64; ROWS], kinds: &[u8], words: &[u64], count: usize) ->
     requires table_value { table.now ≡ row_numbers }
     ensures { result ≡ each count (λ i. entry_keeps count i (get_or kinds.now i 0) (get_or words.now i 0)) }
 {
-    let mut i = 0;
-    while i < count {
+    for i in 0..count {
         if !keeps_at(table, i as u32, kinds[i], words[i]) {
             return false;
         }
-        i += 1;
     }
     true
 }
@@ -31,10 +29,8 @@ fn kinds_rest(kinds: &[u8], from: usize) -> bool
     ensures { result ≡ each limit (zero_at from kinds.now) }
 {
     let mut bits = 0u8;
-    let mut i = from;
-    while i < LIMIT {
-        bits = bits | kinds[i];
-        i += 1;
+    for i in from..LIMIT {
+        bits |= kinds[i];
     }
     bits == 0
 }
@@ -49,10 +45,8 @@ fn word_bits(words: &[u64], from: usize, to: usize) -> u64
     ensures { eqb result 0 ≡ each to (zero_at from words.now) }
 {
     let mut bits = 0u64;
-    let mut i = from;
-    while i < to {
-        bits = bits | words[i];
-        i += 1;
+    for i in from..to {
+        bits |= words[i];
     }
     bits
 }
@@ -63,11 +57,10 @@ fn words_rest(words: &[u64], from: usize) -> bool
     requires words_len { length words.now ≡ limit }
     ensures { result ≡ each limit (zero_at from words.now) }
 {
-    let mut i = BLOCK * ((from + (BLOCK - 1)) / BLOCK);
-    let mut bits = word_bits(words, from, i);
-    while i < LIMIT {
-        bits = bits | word_bits(words, i, i + BLOCK);
-        i += BLOCK;
+    let first = (from + (BLOCK - 1)) / BLOCK;
+    let mut bits = word_bits(words, from, BLOCK * first);
+    for block in first..LIMIT / BLOCK {
+        bits |= word_bits(words, BLOCK * block, BLOCK * block + BLOCK);
     }
     bits == 0
 }

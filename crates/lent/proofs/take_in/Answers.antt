@@ -1,28 +1,38 @@
--- `lent::take_in` meets its contract: a pool is copied, and where it is none nothing is said of the copies.
+-- `lent::take_in` meets its contract: a pool is copied up to its count, and is 0 from there on.
 -- Assumes nothing.
 use mathlib.Core.Path.{sym, ◌∙◌}
-use Rattle.lent.proofs.Taken.{not_taken, taken, may_copy_kinds, may_copy_words}
+use native.Mathlib.Omega.{arith}
+use lib.Seq.{length-take-le}
+use Rattle.lent.proofs.Finishing.{pool_sized}
+use Rattle.lent.proofs.Taken.{kinds_taken, words_taken, as_many_kinds, as_many_words, whole}
 use Rattle.lent.proofs.take_in.Goals as goal
 
-pub returns-then-not-is_pool : goal.returns-then-not-is_pool
-returns-then-not-is_pool c =
+pub slice_bounds-copy_from_slice-end-3 : goal.slice_bounds-copy_from_slice-end-3
+slice_bounds-copy_from_slice-end-3 c =
     let a = c.args in
-    not_taken a.kinds.now a.words.now a.count _ _ (sym (c.if-not-is_pool.true) ∙ c.is_pool.ensures)
+    let s = pool_sized a.kinds.now a.words.now a.count (sym c.is_pool.ensures ∙ c.if-not-is_pool.false) in
+    sym (length-take-le a.count a.kinds.now (omega (arith, s.kinds_long, s.small)))
 
-pub copy_kinds-requires : goal.copy_kinds-requires
-copy_kinds-requires c =
+pub copy_from_slice-requires : goal.copy_from_slice-requires
+copy_from_slice-requires c =
     let a = c.args in
-    let h = may_copy_kinds a.kinds.now a.words.now a.count (sym c.is_pool.ensures ∙ c.if-not-is_pool.false) c.requires.k_value in
-    record { n_le_limit = h.0; same_but = h.1 }
+    rw c.requires.pool_value (as_many_kinds a.kinds.now a.words.now a.count (sym c.is_pool.ensures ∙ c.if-not-is_pool.false))
 
-pub copy_words-requires : goal.copy_words-requires
-copy_words-requires c =
+pub slice_bounds-copy_from_slice-end-6 : goal.slice_bounds-copy_from_slice-end-6
+slice_bounds-copy_from_slice-end-6 c =
     let a = c.args in
-    let h = may_copy_words a.kinds.now a.words.now a.count (sym c.is_pool.ensures ∙ c.if-not-is_pool.false) c.requires.w_value in
-    record { n_le_limit = h.0; same_but = h.1 }
+    let s = pool_sized a.kinds.now a.words.now a.count (sym c.is_pool.ensures ∙ c.if-not-is_pool.false) in
+    sym (length-take-le a.count a.words.now (omega (arith, s.words_long, s.small)))
 
-pub returns : goal.returns
-returns c =
+pub copy_from_slice-requires-2 : goal.copy_from_slice-requires-2
+copy_from_slice-requires-2 c =
     let a = c.args in
-    taken a.kinds.now a.words.now a.count _ _ (sym (c.if-not-is_pool.false) ∙ c.is_pool.ensures)
-    c.copy_kinds.ensures c.copy_words.ensures
+    rw c.requires.pool_value (as_many_words a.kinds.now a.words.now a.count (sym c.is_pool.ensures ∙ c.if-not-is_pool.false))
+
+pub returns-clause-taken : goal.returns-clause-taken
+returns-clause-taken c =
+    let a = c.args in
+    let p = sym c.is_pool.ensures ∙ c.if-not-is_pool.false in
+    let k = kinds_taken a.kinds.now a.words.now a.count p in
+    let w = words_taken a.kinds.now a.words.now a.count p in
+    rw (c.requires.pool_value, c.copy_from_slice.ensures.after, c.copy_from_slice-2.ensures.after, k, w) (whole a.kinds.now a.words.now a.count)

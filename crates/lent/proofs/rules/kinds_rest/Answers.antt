@@ -12,12 +12,6 @@ loop-i-init c = (omega arith, (c.requires.from_le_limit, none_yet _ c.args.kinds
 pub bounds-kinds-i : goal.bounds-kinds-i
 bounds-kinds-i c = omega (arith, c.loop-i-test.true, c.requires.kinds_len)
 
-pub overflow_add-i : goal.overflow_add-i
-overflow_add-i c = omega (arith, c.loop-i-test.true)
-
-pub loop-i-smaller : goal.loop-i-smaller
-loop-i-smaller c = omega (arith, c.loop-i-test.true)
-
 pub loop-i-preserved : goal.loop-i-preserved
 loop-i-preserved c =
     let turn = c.loop-i-test.true in (

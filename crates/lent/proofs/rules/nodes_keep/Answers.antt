@@ -29,12 +29,6 @@ returns-then-not-keeps_at c =
     let stands = c.keeps_at.ensures in
     sym (each_fails _ _ i turn (entry_before args.kinds.now args.words.now _ i turn ∙ sym stands ∙ c.if-not-keeps_at.true))
 
-pub overflow_add-i : goal.overflow_add-i
-overflow_add-i c = omega (arith, c.loop-i-test.true, c.ranges.count.fits)
-
-pub loop-i-smaller : goal.loop-i-smaller
-loop-i-smaller c = omega (arith, c.loop-i-test.true)
-
 pub loop-i-preserved : goal.loop-i-preserved
 loop-i-preserved c =
     let args = c.args in

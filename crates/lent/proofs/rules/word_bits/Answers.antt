@@ -14,12 +14,6 @@ offset_bounds-words-i c = record { fits = omega (arith, c.loop-i-test.true) }
 pub bounds-words-i : goal.bounds-words-i
 bounds-words-i c = omega (arith, c.loop-i-test.true, c.requires.words_len)
 
-pub overflow_add-i : goal.overflow_add-i
-overflow_add-i c = omega (arith, c.loop-i-test.true)
-
-pub loop-i-smaller : goal.loop-i-smaller
-loop-i-smaller c = omega (arith, c.loop-i-test.true)
-
 pub loop-i-preserved : goal.loop-i-preserved
 loop-i-preserved c =
     let turn = c.loop-i-test.true in (
