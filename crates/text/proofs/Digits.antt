@@ -11,7 +11,7 @@ use lib.ListN.{length, drop, set, length-append, length-set}
 use borrow.Author.Tests.{lt-ltb, le-ltb}
 use mir.Syntax.{w64}
 use mir.Val.{bits}
-use Rattle.text.specs.Text.{digit, digits_within, most_digits, decimal, Contains, room}
+use Rattle.text.specs.Text.{digit, digits_within, most_digits, decimal, room}
 use Rattle.text.proofs.Fronts.{one_more_in_front, one_byte}
 
 pub one_digit : (k n : ℕ) → n < 10 → digits_within (suc k) n ≡ digit n ∷ []
@@ -53,9 +53,9 @@ at_first n bytes h e =
       enough = omega arith;
       space = omega arith;
       inside = omega arith;
-      whole = (one_byte bytes (digit (n % 10)) e).whole;
+      whole = length-set bytes (room - 1) (digit (n % 10)) ∙ e;
       later = [];
-      here = (one_byte bytes (digit (n % 10)) e).text;
+      here = one_byte bytes (digit (n % 10)) e;
       gives = append-nil (digits_within most_digits n);
     }
 
@@ -83,17 +83,12 @@ module _ (n : ℕ) (bytes : List ℕ) (start rest : ℕ) where
   pub after_a_turn : Remains n bytes start rest → 10 ≤ rest → Remains n (set bytes (start - 1) (digit (rest / 10 % 10))) (start - 1) (rest / 10)
   after_a_turn r h = turn r r.more refl h
 
-  pub at_last : Remains n bytes start rest → rest < 10 → Contains (record { bytes = bytes; start = start }) (decimal n)
+  pub at_last : Remains n bytes start rest → rest < 10 → drop start bytes ≡ decimal n
   at_last r h =
-      record {
-        text =
-            r.here
-            ∙ ap (λ (d : ℕ). digit d ∷ r.later) (small rest h)
-            ∙ ap (λ (l : List ℕ). l ++ r.later) (sym (one_digit r.more rest h))
-            ∙ r.gives;
-        within = omega (arith, r.inside);
-        whole = r.whole;
-      }
+      r.here
+      ∙ ap (λ (d : ℕ). digit d ∷ r.later) (small rest h)
+      ∙ ap (λ (l : List ℕ). l ++ r.later) (sym (one_digit r.more rest h))
+      ∙ r.gives
     where
       small : (m : ℕ) → m < 10 → m % 10 ≡ m
       small m h = omega arith

@@ -1,9 +1,8 @@
 -- Decimal numbers as document 01 prints them, and `Var`'s Display of src/ppl.rs, as bytes.
 -- Assumes nothing.
-use Rattle.std.specs.Prelude.{◌≡◌, cond, List, [], ◌∷◌, ◌++◌, ℕ, zero, suc, ◌+◌, ◌/◌, ◌%◌, ◌≤◌, ltb, length, drop, ℤ, pos, negsuc}
+use Rattle.std.specs.Prelude.{cond, List, [], ◌∷◌, ◌++◌, ℕ, zero, suc, ◌+◌, ◌/◌, ◌%◌, ltb, ℤ, pos, negsuc}
 use Prim.Native.String as String
 use Prim.Native.Char.{code}
-use Rattle.text.specs.declared.Text.{Text}
 
 -- the bytes of a text
 abbrev pub bytes : String.String → List ℕ
@@ -57,13 +56,3 @@ display v = cond (ltb v letters) ((letter_a + v) ∷ []) (letter_x ∷ underscor
 -- how many bytes a short text has room for
 abbrev pub room : ℕ
 room = 24
-
--- the bytes from the start on
-abbrev pub content : Text → List ℕ
-content t = drop t.start t.bytes
-
--- a short text holds these bytes
-pub record Contains (t : Text) (bytes : List ℕ) : Type 0 where
-  pub text : content t ≡ bytes
-  pub within : t.start ≤ room
-  pub whole : length t.bytes ≡ room

@@ -1,8 +1,10 @@
 // Numbers and variables as text, byte by byte.
 #![tactic(auto)]
 
-ghost use Rattle.std.specs.Prelude.{◌≡◌, ◌∷◌, ◌+◌, ◌<◌};
-ghost use Rattle.text.specs.Text.{Contains, content, decimal, signed_decimal, display, letters, letter_a};
+ghost use Rattle.std.specs.Prelude.{◌≡◌, ◌∷◌, ◌+◌, ◌<◌, length};
+ghost use Rattle.text.specs.Text.{decimal, signed_decimal, display, letters, letter_a, room};
+
+use std::marker::Model;
 
 // Room for every text: the longest, `x_` and 20 digits, has 22 bytes.
 pub const ROOM: usize = 24;
@@ -10,16 +12,45 @@ pub const ROOM: usize = 24;
 // How many variables have a letter for a name.
 pub const LETTERS: u64 = 26;
 
-// The bytes of a short text stand at the end of the array, from start on.
-#[derive(Clone, Copy)]
+// A short text: its bytes stand at the end of the array, from start on. A contract sees the bytes alone.
+#[derive(Drop)]
 pub struct Text {
-    pub bytes: [u8; ROOM],
-    pub start: usize,
+    bytes: [u8; ROOM],
+    start: usize,
+}
+
+impl Model for Text {
+    ghost use Rattle.std.specs.Prelude.{ℕ, List, ◌≡◌, ◌≤◌, length, drop};
+    ghost use Rattle.text.specs.Text.{room};
+
+    ghost Value = { List ℕ };
+
+    ghost view = { λ t. drop t.start t.bytes };
+
+    ghost invariant = { λ t. (t.start ≤ room) × (length t.bytes ≡ room) };
+}
+
+impl Text {
+    pub fn as_bytes(&self) -> &[u8]
+        ensures { result.now ≡ self.now }
+    {
+        &self.bytes[self.start..]
+    }
+
+    // One byte more in front.
+    fn prefixed(mut self, byte: u8) -> Text
+        requires { length self < room }
+        ensures { result ≡ byte ∷ self }
+    {
+        self.start -= 1;
+        self.bytes[self.start] = byte;
+        self
+    }
 }
 
 // The decimal digits, written from the last to the first.
 pub fn decimal_text(n: u64) -> Text
-    ensures { Contains result (decimal n) }
+    ensures { result ≡ decimal n }
 {
     let mut bytes = [0u8; ROOM];
     let mut start = ROOM - 1;
@@ -33,23 +64,11 @@ pub fn decimal_text(n: u64) -> Text
     Text { bytes, start }
 }
 
-// One byte more in front.
-fn prefixed(byte: u8, text: Text) -> Text
-    requires { (0 < text.start) × Contains text (content text) }
-    ensures { Contains result (byte ∷ content text) }
-{
-    let mut out = text;
-    let at = out.start - 1;
-    out.bytes[at] = byte;
-    out.start = at;
-    out
-}
-
 pub fn signed_text(z: i64) -> Text
-    ensures { Contains result (signed_decimal z) }
+    ensures { result ≡ signed_decimal z }
 {
     if z < 0 {
-        return prefixed(b'-', decimal_text(literal::size(z)));
+        return decimal_text(literal::size(z)).prefixed(b'-');
     }
     decimal_text(literal::size(z))
 }
@@ -64,7 +83,7 @@ pub fn letter(v: u64) -> u8
 
 // `Var`'s Display.
 pub fn variable_text(v: u64) -> Text
-    ensures { Contains result (display v) }
+    ensures { result ≡ display v }
 {
     if v < LETTERS {
         let mut bytes = [0u8; ROOM];
@@ -74,5 +93,5 @@ pub fn variable_text(v: u64) -> Text
             start: ROOM - 1,
         };
     }
-    prefixed(b'x', prefixed(b'_', decimal_text(v)))
+    decimal_text(v).prefixed(b'_').prefixed(b'x')
 }
