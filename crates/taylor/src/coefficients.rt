@@ -1,5 +1,5 @@
 // The coefficients of an expansion: 1 to 25 node numbers, coefficient 0 first. Contracts see the list of them.
-ghost use Rattle.std.specs.Prelude.{◌≡◌, ◌≤◌, ◌<◌, [], ◌∷◌, ◌++◌, length, slice_set, take};
+ghost use Rattle.std.specs.Prelude.{◌≡◌, ◌≤◌, ◌<◌, [], ◌∷◌, ◌++◌, length, drop, take};
 ghost use Rattle.taylor.specs.Coefficients.{terms, at};
 
 use std::marker::Model;
@@ -78,10 +78,22 @@ impl Coefficients {
         self.len += 1;
     }
 
-    // Another coefficient 0.
-    pub fn set_first(&mut self, c: u32)
-        ensures { self.new ≡ slice_set self.old 0 c }
+    // Coefficient 0.
+    pub fn first(&self) -> u32
+        ensures { self.now ≡ result ∷ drop 1 self.now }
     {
-        self.entries[0] = c;
+        self.entries[0]
+    }
+
+    // The list with another coefficient 0.
+    pub fn with_first(&self, c: u32) -> Coefficients
+        ensures { result ≡ c ∷ drop 1 self.now }
+    {
+        let mut entries = self.entries;
+        entries[0] = c;
+        Coefficients {
+            len: self.len,
+            entries,
+        }
     }
 }
