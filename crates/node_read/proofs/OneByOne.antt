@@ -2,17 +2,12 @@
 -- Assumes nothing.
 use mathlib.Core.Path.{◌≡◌, sym, ap, ◌∙◌, subst, subst⁻¹}
 use mathlib.Core.Logic.{⊎_elim}
-use mathlib.Core.List.{List}
 use Prim.Native.Nat.{ℕ, zero, suc, ◌+◌, ◌<◌, ◌≤◌}
 use native.Mathlib.Numerals.{add-one}
 use native.Mathlib.Nat.{not-suc-le-zero}
 use native.Mathlib.Omega.{arith}
-use Rattle.pool.specs.Pool.{limit, Pool, done, refused, append, bind}
-use Rattle.pool.specs.Made.{made, pool_of}
+use Rattle.pool.specs.Pool.{limit, Pool, Out, done, refused, append, bind}
 use Rattle.pool.specs.declared.node.Node.{Node}
-use Rattle.pool.specs.declared.table.Made.{Made}
-use Rattle.pool.specs.declared.table.Made.TheVariants as Made_as
-use Rattle.pool.specs.declared.table.Room.{Room}
 use Rattle.shape.specs.Shape.{rename}
 use Rattle.shape.specs.File.{append_first}
 use Rattle.shape.specs.Walked.{Falls}
@@ -32,9 +27,9 @@ pub none_appended : (q : ℕ → Node) (P : Pool) (n : ℕ) {last : ℕ} → las
 unfolding append_first
 none_appended q P n e = record { few = omega arith; is = rw e }
 
--- an entry with its parts shifted by the room's next number
-pub shifted_by : (p : ℕ → Node) (i : ℕ) {x y : Node} {by next : ℕ} → by ≡ next → y ≡ p i → x ≡ rename (λ j. by + j) y → x ≡ rename (λ j. next + j) (p i)
-shifted_by p i b e h = rw (b, e) at h
+-- an entry with its parts shifted
+pub shifted_by : (p : ℕ → Node) (i by : ℕ) {x y : Node} → y ≡ p i → x ≡ rename (λ j. by + j) y → x ≡ rename (λ j. by + j) (p i)
+shifted_by p i by e h = rw e at h
 
 stays_refused : (q : ℕ → Node) (P : Pool) (k m n : ℕ) → suc m ≤ n → append_first (suc m) q P ≡ refused k → append_first n q P ≡ refused k
 unfolding append_first
@@ -45,16 +40,16 @@ stays_refused q P k m (suc n) l e =
     (λ other. ap (λ o. bind o (λ before. append (q n))) (stays_refused q P k m n (omega arith) e))
     (same_or_not m n)
 
-module _ {q : ℕ → Node} {P : Pool} {n i last : ℕ} {Q : Pool} (h : Appended q P n i last Q) (l : i < n) {x : Node} (e : x ≡ q i) (r : Made) (ks ws : List ℕ) (a : made r ks ws ≡ append x Q) where
-  next : append_first (suc i) q P ≡ made r ks ws
+module _ {q : ℕ → Node} {P : Pool} {n i last : ℕ} {Q : Pool} (h : Appended q P n i last Q) (l : i < n) {x : Node} (e : x ≡ q i) where
+  next : {out : Out} → out ≡ append x Q → append_first (suc i) q P ≡ out
   unfolding append_first
-  next = ap (λ o. bind o (λ before. append (q i))) h.is ∙ sym (ap (λ y. append y Q) e) ∙ sym a
+  next a = ap (λ o. bind o (λ before. append (q i))) h.is ∙ sym (ap (λ y. append y Q) e) ∙ sym a
 
-  pub one_appended : {number : ℕ} {room : Room} → r ≡ Made_as.Node number room → Appended q P n (i + 1) number (pool_of ks ws room)
-  one_appended g = record { few = omega arith; is = ap (λ j. append_first j q P) (add-one i) ∙ next ∙ ap (λ y. made y ks ws) g }
+  pub one_appended : {number : ℕ} {R : Pool} → done number R ≡ append x Q → Appended q P n (i + 1) number R
+  one_appended a = record { few = omega arith; is = ap (λ j. append_first j q P) (add-one i) ∙ next a }
 
-  pub none_more : {k : ℕ} → r ≡ Made_as.Refused k → made r ks ws ≡ append_first n q P
-  none_more {k} g = ap (λ y. made y ks ws) g ∙ sym (stays_refused q P k i n (omega arith) (next ∙ ap (λ y. made y ks ws) g))
+  pub none_more : {k : ℕ} → refused k ≡ append x Q → refused k ≡ append_first n q P
+  none_more {k} a = sym (stays_refused q P k i n (omega arith) (next a))
 
 pub all_appended : {q : ℕ → Node} {P : Pool} {n i last : ℕ} {Q : Pool} → Appended q P n i last Q → n ≤ i → done last Q ≡ append_first n q P
 all_appended {q} {P} {n} {i} h l = sym h.is ∙ ap (λ j. append_first j q P) (same i n h.few l)

@@ -2,68 +2,55 @@
 #![tactic(auto)]
 
 ghost use Rattle.std.specs.Prelude.{◌≡◌, ◌+◌, ◌≤◌, eqb, get_or};
-ghost use Rattle.pool.specs.Pool.{limit, node_in, each};
-ghost use Rattle.pool.specs.Made.{next_of, made, pool_of};
+ghost use Rattle.refusals.specs.Numbers.{numbered};
+ghost use Rattle.pool.specs.Pool.{limit, empty, node_at, each};
+ghost use Rattle.pool.specs.Made.{made};
 ghost use Rattle.pool.specs.Rows.{row_numbers};
 ghost use Rattle.shape.specs.Shape.{rename};
 ghost use Rattle.shape.specs.File.{are_in_order, append_shifted, read_file};
 ghost use Rattle.shape.specs.Demand.{Below};
 ghost use Rattle.shape.specs.Walked.{Falls};
-ghost use Rattle.node_read.specs.Reads.{accepted_size, HasEntries, Zeros, Entered, FileTested, PartsBelow};
+ghost use Rattle.node_read.specs.Reads.{size_tested, HasEntries, Entered, FileTested, PartsBelow};
 
-use pool::{LIMIT, Made, Node, Parts, ROWS, Room};
+use node_walk::Numbering;
+use pool::{LIMIT, Node, Parts, Pool, ROWS};
+use refusals::Refusal;
 
-// What the test of a node file gives: how many entries it has, or the refusal number.
-#[derive(Clone, Copy)]
-pub enum Tested {
-    Entries(usize),
-    Refused(u32),
-}
-
-// A file's n, or 0 where its length is wrong.
-fn size_of(bytes: &[u8]) -> usize
-    ensures { result ≡ accepted_size bytes.now }
+// A file's n, or 7.
+fn size_of(file: &[u8]) -> Result<usize, Refusal>
+    ensures { numbered result ≡ size_tested file.now }
 {
-    let length = bytes.len();
+    let length = file.len();
     if length < 4 {
-        return 0;
+        return Err(Refusal::WrongLength);
     }
-    let n = low_bytes::number_at(bytes, 0, 4);
-    if (LIMIT as u64) < n {
-        return 0;
+    let n = low_bytes::number_at(file, 0, 4);
+    if n == 0 || (LIMIT as u64) < n {
+        return Err(Refusal::WrongLength);
     }
     let size = n as usize;
     if length != 4 + 9 * size {
-        return 0;
+        return Err(Refusal::WrongLength);
     }
-    size
+    Ok(size)
 }
 
 // Whether each of n entries, their kinds from the place `first` on, is a node that may stand at its place. Where they are, they are copied, in the one pass
 // that looks at them.
-fn entries_in(
-    table: &[u64; ROWS],
-    bytes: &[u8],
-    first: usize,
-    n: usize,
-    k: &mut [u8; LIMIT],
-    w: &mut [u64; LIMIT],
-) -> bool
-    requires has_entries { HasEntries first n bytes.now }
-    requires zeros { Zeros k.old × Zeros w.old }
+fn entries_in(table: &[u64; ROWS], file: &[u8], first: usize, n: usize, entries: &mut Pool) -> bool
+    requires has_entries { HasEntries first n file.now }
+    requires none { entries.old ≡ empty }
     requires table_value { table.now ≡ row_numbers }
-    ensures { Entered result first n bytes.now k.new w.new }
+    ensures { Entered result first n file.now entries.new }
 {
-    let mut i = 0;
-    while i < n {
-        let kind = bytes[first + i];
-        let word = low_bytes::number_at(bytes, first + n + 8 * i, 8);
+    for i in 0..n {
+        let kind = file[first + i];
+        let word = low_bytes::number_at(file, first + n + 8 * i, 8);
         if !pool::keeps_at(table, i as u32, kind, word) {
             return false;
         }
-        k[i] = kind;
-        w[i] = word;
-        i += 1;
+        entries.kinds[i] = kind;
+        entries.words[i] = word;
     }
     true
 }
@@ -73,48 +60,39 @@ fn in_place(number: &[u32; LIMIT], n: usize) -> bool
     requires { n ≤ limit }
     ensures { result ≡ each n (λ i. eqb (get_or number.now i 0) (i + 1)) }
 {
-    let mut i = 0;
-    while i < n {
-        let mark = number[i];
-        if mark != (i as u32) + 1 {
+    for i in 0..n {
+        if number[i] != i as u32 + 1 {
             return false;
         }
-        i += 1;
     }
     true
 }
 
 // Whether the walk over the roots numbers each of the n entries by its place.
-fn in_order(k: &[u8; LIMIT], w: &[u64; LIMIT], roots: &[u64], n: usize) -> bool
+fn in_order(entries: &Pool, roots: &[u64], n: usize) -> bool
     requires n_le_limit { (n ≤ limit) × Below limit roots.now }
-    requires falls { Falls (node_in k.now w.now) }
-    ensures { result ≡ are_in_order (node_in k.now w.now) roots.now n }
+    requires falls { Falls (node_at entries.now) }
+    ensures { result ≡ are_in_order (node_at entries.now) roots.now n }
 {
-    let mut number = [0u32; LIMIT];
-    let mut order = [0u32; LIMIT];
-    node_walk::number_all(k, w, roots, &mut number, &mut order);
-    in_place(&number, n)
+    let mut numbering = Numbering::none();
+    numbering.number_all(&entries.kinds, &entries.words, roots);
+    in_place(&numbering.number, n)
 }
 
-// The test of a node file, 7, 8 and 9: where it passes, the two tables have its entries.
-pub fn test_file(bytes: &[u8], k: &mut [u8; LIMIT], w: &mut [u64; LIMIT]) -> Tested
-    requires { Zeros k.old × Zeros w.old }
-    ensures { FileTested result bytes.now k.new w.new }
+// The test of a node file, 7, 8 and 9: where it passes, the tables have its entries; how many they are is the answer.
+pub fn test_file(file: &[u8], entries: &mut Pool) -> Result<usize, Refusal>
+    requires { entries.old ≡ empty }
+    ensures { FileTested (numbered result) file.now entries.new }
 {
-    let n = size_of(bytes);
-    if n == 0 {
-        return Tested::Refused(refusals::WRONG_LENGTH);
-    }
+    let n = size_of(file)?;
     let table = pool::TABLE;
-    if !entries_in(&table, bytes, 4, n, k, w) {
-        return Tested::Refused(refusals::WRONG_ENTRY);
+    if !entries_in(&table, file, 4, n, entries) {
+        return Err(Refusal::WrongEntry);
     }
-    let last = (n - 1) as u64;
-    let roots = [last];
-    if !in_order(k, w, &roots, n) {
-        return Tested::Refused(refusals::WRONG_SEQUENCE);
+    if !in_order(entries, &[n as u64 - 1], n) {
+        return Err(Refusal::WrongSequence);
     }
-    Tested::Entries(n)
+    Ok(n)
 }
 
 // The node with its parts shifted.
@@ -130,56 +108,25 @@ fn shifted(node: Node, by: u32) -> Node
 }
 
 // The n entries appended one after the other, their parts shifted by the count; the last is the root.
-fn append_entries(
-    k: &[u8; LIMIT],
-    w: &[u64; LIMIT],
-    n: usize,
-    kinds: &mut [u8; LIMIT],
-    words: &mut [u64; LIMIT],
-    room: Room,
-) -> Made
-    requires n_le_limit { (n ≤ limit) × (next_of room ≤ limit) }
-    requires falls { Falls (node_in k.now w.now) }
-    ensures { made result kinds.new words.new ≡ append_shifted n (node_in k.now w.now) (pool_of kinds.old words.old room) }
+fn append_entries(entries: &Pool, n: usize, pool: &mut Pool) -> Result<u32, Refusal>
+    requires n_le_limit { (n ≤ limit) × (pool.old.count ≤ limit) }
+    requires falls { Falls (node_at entries.now) }
+    ensures { made result pool.new ≡ append_shifted n (node_at entries.now) pool.old }
 {
-    let by = pool::next_of(room);
-    let mut rest = room;
+    let by = pool.count;
     let mut last = by;
-    let mut i = 0;
-    while i < n {
-        let node = shifted(pool::node_at(k, w, i as u32), by);
-        let appended = pool::append(kinds, words, rest, node);
-        let Made::Node {
-            node: number,
-            room: after,
-        } = appended
-        else {
-            return appended;
-        };
-        last = number;
-        rest = after;
-        i += 1;
+    for i in 0..n {
+        last = pool.append(shifted(entries.node(i as u32), by))?;
     }
-    Made::Node {
-        node: last,
-        room: rest,
-    }
+    Ok(last)
 }
 
 // A node file read into the pool: its test, then its nodes appended.
-pub fn read_file(
-    bytes: &[u8],
-    kinds: &mut [u8; LIMIT],
-    words: &mut [u64; LIMIT],
-    room: Room,
-) -> Made
-    requires { next_of room ≤ limit }
-    ensures { made result kinds.new words.new ≡ read_file bytes.now (pool_of kinds.old words.old room) }
+pub fn read_file(file: &[u8], pool: &mut Pool) -> Result<u32, Refusal>
+    requires { pool.old.count ≤ limit }
+    ensures { made result pool.new ≡ read_file file.now pool.old }
 {
-    let mut k = [0u8; LIMIT];
-    let mut w = [0u64; LIMIT];
-    match test_file(bytes, &mut k, &mut w) {
-        Tested::Entries(n) => append_entries(&k, &w, n, kinds, words, room),
-        Tested::Refused(number) => Made::Refused(number),
-    }
+    let mut entries = Pool::empty();
+    let n = test_file(file, &mut entries)?;
+    append_entries(&entries, n, pool)
 }

@@ -1,25 +1,17 @@
 -- `node_read::read_file` meets its contract: the test, and then the entries are appended.
 -- Assumes nothing.
+use Rattle.std.proofs.lemmas.Result.{err_from_is_err_and}
 use mathlib.Core.Path.{refl}
-use Rattle.pool.specs.Pool.{limit}
-use Rattle.pool.specs.Made.{pool_of}
-use Rattle.node_read.proofs.Entering.{zeros_are_zeros}
 use Rattle.node_read.proofs.Accepting.{read_refused, few_entries, read_appended}
 use Rattle.node_read.proofs.read_file.Goals as goal
 
-pub test_file-requires : goal.test_file-requires
-test_file-requires c = (zeros_are_zeros limit refl, zeros_are_zeros limit refl)
+pub returns-in_err-n : goal.returns-in_err-n
+returns-in_err-n c =
+    let p = err_from_is_err_and c.from_residual.result c.from_residual.ensures.1 in
+    rw (p.1, p.2) (read_refused c.in_err-n.ensures c.args.pool.now refl)
 
-pub append_entries-requires : goal.append_entries-requires
-append_entries-requires c =
-    let test = c.test_file.ensures in
-    record { n_le_limit = (few_entries test c.in-Entries.is, c.requires); falls = test.falls _ c.in-Entries.is }
+pub append_entries-requires-clause-n_le_limit : goal.append_entries-requires-clause-n_le_limit
+append_entries-requires-clause-n_le_limit c = (few_entries c.in_ok-n.ensures refl, c.requires)
 
-pub returns-in-Entries : goal.returns-in-Entries
-returns-in-Entries c =
-    read_appended c.test_file.ensures c.in-Entries.is (pool_of c.args.kinds.now c.args.words.now c.args.room)
-    c.append_entries.ensures
-
-pub returns-in-Refused : goal.returns-in-Refused
-returns-in-Refused c =
-    read_refused c.test_file.ensures (pool_of c.args.kinds.now c.args.words.now c.args.room) c.in-Refused.is
+pub returns : goal.returns
+returns c = read_appended c.in_ok-n.ensures refl c.args.pool.now c.append_entries.ensures
