@@ -16,28 +16,16 @@ pub enum Test {
     ExpOrLog,
 }
 
-// The first kind with parts, and those that are looked for, by document 01's table.
+// The first kind with parts, by document 01's table.
 const ADD: u8 = 3;
-
-const EXP: u8 = 6;
-
-const LOG: u8 = 7;
-
-const MAX: u8 = 9;
 
 // Whether a node is one that is looked for.
 fn meets(test: Test, node: Node) -> bool
     ensures { result ≡ test_of test node }
 {
-    let kind = pool::kind_of(node);
     match test {
-        Test::Max => kind == MAX,
-        Test::ExpOrLog => {
-            if kind == EXP {
-                return true;
-            }
-            kind == LOG
-        }
+        Test::Max => matches!(node, Node::Max(_, _)),
+        Test::ExpOrLog => matches!(node, Node::Exp(_) | Node::Log(_)),
     }
 }
 
@@ -46,10 +34,7 @@ fn kept(found: &[bool; LIMIT], i: u32, a: u32) -> bool
     requires { i ≤ limit }
     ensures { result ≡ kept_below found.now i a }
 {
-    if a < i {
-        return found[a as usize];
-    }
-    false
+    a < i && found[a as usize]
 }
 
 // What was found of any part of a node.
@@ -60,12 +45,7 @@ fn kept_of_parts(found: &[bool; LIMIT], i: u32, node: Node) -> bool
     match pool::parts_of(node) {
         Parts::None => false,
         Parts::One(a) => kept(found, i, a),
-        Parts::Two(a, b) => {
-            if kept(found, i, a) {
-                return true;
-            }
-            kept(found, i, b)
-        }
+        Parts::Two(a, b) => kept(found, i, a) || kept(found, i, b),
     }
 }
 
@@ -89,11 +69,8 @@ fn fill(kinds: &[u8; LIMIT], words: &[u64; LIMIT], test: Test, found: &mut [bool
     requires end_le_limit { end ≤ limit }
     ensures { FoundBelow (test_of test) (node_in kinds.now words.now) end found.new }
 {
-    let mut i = 0;
-    while i < end {
-        let answer = node_reaches(found, i, test, pool::node_at(kinds, words, i));
-        found[i as usize] = answer;
-        i += 1;
+    for i in 0..end {
+        found[i as usize] = node_reaches(found, i, test, pool::node_at(kinds, words, i));
     }
 }
 

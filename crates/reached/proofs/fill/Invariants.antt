@@ -1,12 +1,8 @@
 -- `reached::fill` meets its contract: after each turn the table has the answers of the nodes that were passed.
 -- Assumes nothing.
-use Prim.Native.Nat.{◌≤◌, ◌-◌}
 use Rattle.pool.specs.Pool.{node_in}
 use Rattle.reached.specs.Kept.{test_of, FoundBelow}
 use Rattle.reached.proofs.fill.Given as goal
 
 abbrev pub invariant-loop-i : goal.invariant-loop-i
-invariant-loop-i l = (l.i ≤ l.end) × FoundBelow (test_of l.test) (node_in l.kinds l.words) l.i l.found
-
-abbrev pub decreases-loop-i : goal.decreases-loop-i
-decreases-loop-i l = l.end - l.i
+invariant-loop-i l = FoundBelow (test_of l.test) (node_in l.kinds l.words) l.i l.found
