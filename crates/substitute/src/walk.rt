@@ -1,6 +1,6 @@
-// The walk: a kept result is given again, else the node is visited, its parts first.
+// The walk: a kept result is given again, else the node is visited, its parts first. That of `derive` is nearly the same, and stands by itself: one walk for both was slower.
 ghost use Rattle.std.specs.Prelude.{◌≡◌, ◌+◌, ◌<◌, length};
-ghost use Rattle.pool.specs.Made.{made, pool_of};
+ghost use Rattle.pool.specs.Made.{made};
 ghost use Rattle.walks.specs.Walk.{walk_below};
 ghost use Rattle.walks.specs.Substitute.{substitute_at, substitute_var};
 ghost use Rattle.walk_laws.specs.Walked.{walked, state_of};
@@ -8,172 +8,120 @@ ghost use Rattle.substitute.specs.Rebuild.{substitute_two, substitute_one};
 
 use crate::work::{Work, work_of};
 use constructor_calls::{One, Two};
-use pool::{HALF, LIMIT, Made, Room};
+use pool::{LIMIT, Pool};
+use refusals::Refusal;
 use walk_laws::FEW;
 
 // `substitute_var`: the expression at `root` with the node `value` for the variable `var`.
-pub fn substitute_in(
-    kinds: &mut [u8; LIMIT],
-    words: &mut [u64; LIMIT],
-    room: Room,
-    root: u32,
-    var: u32,
-    value: u32,
-) -> Made
-    ensures { made result kinds.new words.new ≡ substitute_var root var value (pool_of kinds.old words.old room) }
+pub fn substitute_in(pool: &mut Pool, root: u32, var: u32, value: u32) -> Result<u32, Refusal>
+    ensures { made result pool.new ≡ substitute_var root var value pool.old }
 {
     if (root as usize) < FEW {
-        let mut few = [0u64; FEW];
-        return walk_at(kinds, words, &mut few, room, root, var, value);
+        let mut few: [Option<u32>; FEW] = [None; FEW];
+        return walk_at(pool, &mut few, root, var, value);
     }
     if (root as usize) < LIMIT {
-        let mut kept = [0u64; LIMIT];
-        return walk_at(kinds, words, &mut kept, room, root, var, value);
+        let mut kept: [Option<u32>; LIMIT] = [None; LIMIT];
+        return walk_at(pool, &mut kept, root, var, value);
     }
-    Made::Refused(refusals::BROKEN_POOL)
+    Err(Refusal::BrokenPool)
 }
 
-// From a node: its result is kept, as one more than its number.
+// From a node: its result is kept.
 #[cycle(walk)]
 fn walk_at(
-    kinds: &mut [u8; LIMIT],
-    words: &mut [u64; LIMIT],
-    kept: &mut [u64],
-    room: Room,
+    pool: &mut Pool,
+    kept: &mut [Option<u32>],
     term: u32,
     var: u32,
     value: u32,
-) -> Made
+) -> Result<u32, Refusal>
     requires { term < length kept.old }
-    ensures { walked result kinds.new words.new kept.new ≡ walk_below (substitute_at var value) (term + 1) term (state_of kinds.old words.old kept.old room) }
+    ensures { walked result pool.new kept.new ≡ walk_below (substitute_at var value) (term + 1) term (state_of pool.old kept.old) }
 {
     let at = term as usize;
-    let word = kept[at];
-    if word != 0 {
-        return Made::Node {
-            node: ((word - 1) % HALF) as u32,
-            room,
-        };
+    if let Some(result) = kept[at] {
+        return Ok(result);
     }
-    let visited = walk_node(kinds, words, kept, room, term, var, value);
-    let Made::Node {
-        node: result,
-        room: rest,
-    } = visited
-    else {
-        return visited;
-    };
-    kept[at] = (result as u64) + 1;
-    Made::Node {
-        node: result,
-        room: rest,
-    }
+    let result = walk_node(pool, kept, term, var, value)?;
+    kept[at] = Some(result);
+    Ok(result)
 }
 
 // At a node, by its kind.
 #[cycle(walk)]
 fn walk_node(
-    kinds: &mut [u8; LIMIT],
-    words: &mut [u64; LIMIT],
-    kept: &mut [u64],
-    room: Room,
+    pool: &mut Pool,
+    kept: &mut [Option<u32>],
     term: u32,
     var: u32,
     value: u32,
-) -> Made
+) -> Result<u32, Refusal>
     requires { term < length kept.old }
-    ensures { walked result kinds.new words.new kept.new ≡ substitute_at var value (walk_below (substitute_at var value) term) term (state_of kinds.old words.old kept.old room) }
+    ensures { walked result pool.new kept.new ≡ substitute_at var value (walk_below (substitute_at var value) term) term (state_of pool.old kept.old) }
 {
-    let node = pool::node_at(kinds, words, term);
-    let work = work_of(node, term, var, value);
+    let node = pool.node(term);
+    let work = work_of(node, term, var, value)?;
     match work {
-        Work::Refused(k) => Made::Refused(k),
-        Work::Leaf(i) => Made::Node { node: i, room },
-        Work::One(op, a) => walk_one(kinds, words, kept, room, term, op, a, var, value),
-        Work::Two(op, a, b) => walk_two(kinds, words, kept, room, term, op, a, b, var, value),
+        Work::Leaf(i) => Ok(i),
+        Work::One(op, a) => walk_one(pool, kept, term, op, a, var, value),
+        Work::Two(op, a, b) => walk_two(pool, kept, term, op, a, b, var, value),
     }
 }
 
 // A node of two parts, left before right.
 #[cycle(walk)]
 fn walk_two(
-    kinds: &mut [u8; LIMIT],
-    words: &mut [u64; LIMIT],
-    kept: &mut [u64],
-    room: Room,
+    pool: &mut Pool,
+    kept: &mut [Option<u32>],
     term: u32,
     op: Two,
     a: u32,
     b: u32,
     var: u32,
     value: u32,
-) -> Made
+) -> Result<u32, Refusal>
     requires { term < length kept.old }
-    ensures { walked result kinds.new words.new kept.new ≡ substitute_two (walk_below (substitute_at var value) term) term op a b (state_of kinds.old words.old kept.old room) }
+    ensures { walked result pool.new kept.new ≡ substitute_two (walk_below (substitute_at var value) term) term op a b (state_of pool.old kept.old) }
 {
-    let left = walk_part(kinds, words, kept, room, term, a, var, value);
-    let Made::Node {
-        node: a2,
-        room: more,
-    } = left
-    else {
-        return left;
-    };
-    let right = walk_part(kinds, words, kept, more, term, b, var, value);
-    let Made::Node {
-        node: b2,
-        room: rest,
-    } = right
-    else {
-        return right;
-    };
-    crate::rebuild::rebuild_two(kinds, words, rest, term, op, a, b, a2, b2)
+    let a2 = walk_part(pool, kept, term, a, var, value)?;
+    let b2 = walk_part(pool, kept, term, b, var, value)?;
+    crate::rebuild::rebuild_two(pool, term, op, a, b, a2, b2)
 }
 
 // A node of one part.
 #[cycle(walk)]
 fn walk_one(
-    kinds: &mut [u8; LIMIT],
-    words: &mut [u64; LIMIT],
-    kept: &mut [u64],
-    room: Room,
+    pool: &mut Pool,
+    kept: &mut [Option<u32>],
     term: u32,
     op: One,
     a: u32,
     var: u32,
     value: u32,
-) -> Made
+) -> Result<u32, Refusal>
     requires { term < length kept.old }
-    ensures { walked result kinds.new words.new kept.new ≡ substitute_one (walk_below (substitute_at var value) term) term op a (state_of kinds.old words.old kept.old room) }
+    ensures { walked result pool.new kept.new ≡ substitute_one (walk_below (substitute_at var value) term) term op a (state_of pool.old kept.old) }
 {
-    let part = walk_part(kinds, words, kept, room, term, a, var, value);
-    let Made::Node {
-        node: a2,
-        room: rest,
-    } = part
-    else {
-        return part;
-    };
-    crate::rebuild::rebuild_one(kinds, words, rest, term, op, a, a2)
+    let a2 = walk_part(pool, kept, term, a, var, value)?;
+    crate::rebuild::rebuild_one(pool, term, op, a, a2)
 }
 
 // A part, which has a smaller number than the node.
 #[cycle(walk)]
 fn walk_part(
-    kinds: &mut [u8; LIMIT],
-    words: &mut [u64; LIMIT],
-    kept: &mut [u64],
-    room: Room,
+    pool: &mut Pool,
+    kept: &mut [Option<u32>],
     term: u32,
     a: u32,
     var: u32,
     value: u32,
-) -> Made
+) -> Result<u32, Refusal>
     requires { term < length kept.old }
-    ensures { walked result kinds.new words.new kept.new ≡ walk_below (substitute_at var value) term a (state_of kinds.old words.old kept.old room) }
+    ensures { walked result pool.new kept.new ≡ walk_below (substitute_at var value) term a (state_of pool.old kept.old) }
 {
     if a < term {
-        return walk_at(kinds, words, kept, room, a, var, value);
+        return walk_at(pool, kept, a, var, value);
     }
-    Made::Refused(refusals::BROKEN_POOL)
+    Err(Refusal::BrokenPool)
 }
