@@ -1,19 +1,18 @@
 -- Expansions in C's terms: an order, and an array of 25 beside it.
 -- Assumes nothing.
-use Rattle.std.specs.Prelude.{Bool, true, false, List, ℕ, eqb, Ok, Err}
+use Rattle.std.specs.Prelude.{List, ℕ, Ok, Err}
 use Rattle.lent.specs.Call.{Returned, returned}
 use Rattle.lent_series.specs.declared.series.Series.{Series}
-use Rattle.lent_series.specs.declared.call.Outcome.{Outcome}
+use Rattle.lent_series.specs.Call.{Outcome}
 use Rattle.engine_given.specs.Read.{Counted}
-use Rattle.c_answers.specs.Interface.{ValueInC, value_in_c}
+use Rattle.c_answers.specs.Interface.{ValueInC, answer_in_c}
 
 abbrev pub series : ℕ → List ℕ → Series
 series order coeffs = record { order = order; coeffs = coeffs }
 
 -- how many coefficients, or what stood there before
 abbrev pub count_in_c : ℕ → Counted → ValueInC
-count_in_c before (Ok n) = value_in_c 0 n
-count_in_c before (Err k) = value_in_c k before
+count_in_c = answer_in_c
 
 -- a call that gives an expansion: its order and coefficients, or what stood there before
 pub record OutcomeInC : Type 0 where
@@ -24,12 +23,9 @@ pub record OutcomeInC : Type 0 where
 abbrev pub outcome_returned_in_c : ℕ → ℕ → List ℕ → OutcomeInC
 outcome_returned_in_c r n cs = record { answer = r; order = n; coeffs = cs }
 
-abbrev pub chosen : Bool → ℕ → List ℕ → Outcome → OutcomeInC
-chosen true n cs o = outcome_returned_in_c 0 o.series.order o.series.coeffs
-chosen false n cs o = outcome_returned_in_c o.number n cs
-
 abbrev pub outcome_in_c : ℕ → List ℕ → Outcome → OutcomeInC
-outcome_in_c n cs o = chosen (eqb o.number 0) n cs o
+outcome_in_c n cs (Ok s) = outcome_returned_in_c 0 s.order s.coeffs
+outcome_in_c n cs (Err k) = outcome_returned_in_c k n cs
 
 -- the same of a call that works on the pool
 abbrev pub series_returned_in_c : ℕ → List ℕ → List ℕ → ℕ → ℕ → List ℕ → Returned OutcomeInC

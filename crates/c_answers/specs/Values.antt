@@ -5,12 +5,11 @@ use Rattle.std.specs.Float.{binary64}
 use Rattle.std.specs.Float.Ieee.{to_bits}
 use Rattle.double.specs.Double.{Valued}
 use Rattle.residue.specs.Residue.{Divided}
-use Rattle.c_answers.specs.Interface.{ValueInC, value_in_c}
+use Rattle.c_answers.specs.Interface.{ValueInC, value_in_c, answer_in_c}
 
 abbrev pub bits_in_c : ℕ → Valued → ValueInC
 bits_in_c before (Ok x) = value_in_c 0 (to_bits binary64 x)
 bits_in_c before (Err k) = value_in_c k before
 
 abbrev pub residue_in_c : ℕ → Divided → ValueInC
-residue_in_c before (Ok x) = value_in_c 0 x
-residue_in_c before (Err k) = value_in_c k before
+residue_in_c = answer_in_c
