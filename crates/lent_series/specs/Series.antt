@@ -1,12 +1,9 @@
 -- "An expansion is a constant, or a list of 1 to 25 node numbers", as a caller lends and gets it: an array of 25 with its order beside it.
 -- Assumes nothing.
-use Rattle.std.specs.Prelude.{◌≡◌, Bool, true, false, ◌&&◌, ◌||◌, cond, List, ◌∷◌, ◌++◌, ℕ, ◌-◌, min, ◌<◌, eqb, leb, length, get_or, take, replicate}
-use Rattle.pool.specs.Pool.{limit}
-use Rattle.taylor.specs.Work.{at}
+use Rattle.std.specs.Prelude.{Bool, ◌&&◌, ◌||◌, cond, List, ◌∷◌, ◌++◌, ℕ, ◌-◌, min, eqb, leb, length, take, replicate}
+use Rattle.taylor.specs.Coefficients.{terms, at}
 use Rattle.taylor.specs.Expansion.{Expansion, order, endless}
 use Rattle.taylor.specs.declared.expansion.Expansion.TheVariants.{Constant, Polynomial}
-use Rattle.taylor_base.specs.Answers.{terms, constant_or, expansion_of, Tidy}
-use Rattle.taylor_base.specs.declared.answer.Expansion as coded
 use Rattle.lent_series.specs.declared.series.Series.{Series}
 
 -- `order` of a constant
@@ -26,7 +23,7 @@ length_ok s = is_constant s || (leb 1 s.order && leb s.order terms)
 
 -- the expansion that is given
 abbrev pub given : Series → Expansion
-given s = constant_or (is_constant s) (at s.coeffs 0) (take s.order s.coeffs)
+given s = cond (is_constant s) (Constant (at s.coeffs 0)) (Polynomial (take s.order s.coeffs))
 
 -- an expansion as an answer: "0 past the list's end in answers"
 abbrev pub coeffs_of : Expansion → List ℕ
@@ -35,19 +32,3 @@ coeffs_of (Polynomial cs) = cs ++ replicate (terms - length cs) 0
 
 abbrev pub series_of : Expansion → Series
 series_of e = record { order = order e; coeffs = coeffs_of e }
-
--- what may be worked on: numbers that are nodes, and a length
-pub record Usable (s : Series) : Type 0 where
-  pub numbers : (i : ℕ) → i < entries s → get_or s.coeffs i 0 < limit
-  pub length_ok_lem : length_ok s ≡ true
-
--- a list as the code has it
-abbrev pub listed : Series → coded.Expansion
-listed s = record { constant = false; len = s.order; coeffs = s.coeffs }
-
--- the expansion that is given, as the code has it
-pub record Narrowed (s : Series) (e : coded.Expansion) : Type 0 where
-  pub is : expansion_of e ≡ given s
-  pub tidy : Tidy e
-  pub kind : e.constant ≡ is_constant s
-  pub long : is_constant s ≡ false → e.len ≡ s.order

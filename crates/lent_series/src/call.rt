@@ -1,67 +1,41 @@
 // The end of a call that gives an expansion.
 ghost use Rattle.std.specs.Prelude.{◌≡◌, true};
+ghost use Rattle.refusals.specs.Refusals.{wrong_order};
+ghost use Rattle.refusals.specs.Numbers.{numbered};
 ghost use Rattle.pool.specs.Pool.{is_pool};
+ghost use Rattle.taylor.specs.Answered.{answered};
+ghost use Rattle.lent.specs.Lent.{demanded};
 ghost use Rattle.lent.specs.Call.{returned, leaves, Appended};
-ghost use Rattle.taylor_base.specs.Answers.{Tidy, expanded};
-ghost use Rattle.lent_series.specs.Call.{status_made, accepted, refused_outcome};
+ghost use Rattle.lent_series.specs.Call.{accepted, refused_outcome};
 
-use crate::series::{Series, series_of};
-use lent::Answer;
-use pool::{LIMIT, Made};
-use taylor_base::{Expanded, Status, TERMS};
+use crate::series::Series;
+use pool::Pool;
+use refusals::Refusal;
+use taylor::Expansion;
 
-// 0 and an expansion, or the refusal number and zeros.
-#[derive(Clone, Copy)]
-pub struct Outcome {
-    pub number: u32,
-    pub series: Series,
-}
-
-// A refusal.
-pub fn refused(number: u32) -> Outcome
-    ensures { result ≡ refused_outcome number }
+// 5, where an order, a length or an index does not fit.
+pub fn order_given(fits: bool) -> Result<(), Refusal>
+    ensures { numbered result ≡ demanded fits wrong_order }
 {
-    Outcome {
-        number,
-        series: Series {
-            order: 0,
-            coeffs: [0u64; TERMS],
-        },
+    if fits {
+        return Ok(());
     }
+    Err(Refusal::WrongOrder)
 }
 
-// The room that is left, or the refusal number, for what puts the new entries back.
-fn made_of(status: Status) -> Made
-    ensures { result ≡ status_made status }
-{
-    match status {
-        Status::Done(room) => Made::Node { node: 0, room },
-        Status::Refused(number) => Made::Refused(number),
-    }
-}
-
-// After the work: an accepted call's new entries and count are put back, a refusal leaves all as it was.
+// After the work: what an accepted call has appended is put back, a refusal leaves all as it was.
 pub fn finish(
     kinds: &mut [u8],
     words: &mut [u64],
     count: &mut u64,
-    k: &[u8; LIMIT],
-    w: &[u64; LIMIT],
-    res: Expanded,
-) -> Outcome
+    pool: &Pool,
+    res: Result<Expansion, Refusal>,
+) -> Result<Series, Refusal>
     requires count_value { is_pool kinds.old words.old count.old ≡ true }
-    requires appended { Appended kinds.old words.old count.old (expanded res k.now w.now) }
-    requires tidy { Tidy res.expansion }
-    ensures { returned result kinds.new words.new count.new ≡ leaves accepted refused_outcome kinds.old words.old count.old (expanded res k.now w.now) }
+    requires appended { Appended kinds.old words.old count.old (answered res pool.now) }
+    ensures { returned (numbered result) kinds.new words.new count.new ≡ leaves accepted refused_outcome kinds.old words.old count.old (answered res pool.now) }
 {
-    let status = res.status;
-    let made = made_of(status);
-    let answer = lent::finish(kinds, words, count, k, w, made);
-    match answer {
-        Answer::Node(_) => Outcome {
-            number: 0,
-            series: series_of(res.expansion),
-        },
-        Answer::Refused(number) => refused(number),
-    }
+    let e = res?;
+    lent::put_back(kinds, words, count, pool);
+    Ok(Series::from(e))
 }

@@ -4,5 +4,5 @@
 mod call;
 mod series;
 
-pub use call::{Outcome, finish, refused};
-pub use series::{ENDLESS, Series, expansion_of, has_length, nodes_below, series_of};
+pub use call::{finish, order_given};
+pub use series::{ENDLESS, Series};

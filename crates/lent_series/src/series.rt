@@ -1,112 +1,96 @@
 // An expansion as a caller has it: its length and an array of node numbers.
-ghost use Rattle.std.specs.Prelude.{◌≡◌, ℕ, ◌≤◌, ◌<◌, get_or};
+ghost use Rattle.std.specs.Prelude.{◌≡◌, true, Ok, Err};
+ghost use Rattle.refusals.specs.Refusals.{unknown_node, wrong_order};
+ghost use Rattle.refusals.specs.Numbers.{numbered};
+ghost use Rattle.refusals.specs.Demand.{demand};
 ghost use Rattle.pool.specs.Pool.{limit};
 ghost use Rattle.pool.specs.Nodes.{all_below};
-ghost use Rattle.taylor_base.specs.Answers.{terms, expansion_of, Tidy, Tidied};
-ghost use Rattle.lent_series.specs.Series.{entries, nodes_of, length_ok, listed, Usable, Narrowed, series_of};
+ghost use Rattle.lent.specs.Lent.{demanded};
+ghost use Rattle.lent_series.specs.Series.{entries, nodes_of, length_ok, given, series_of};
 
-use taylor_base::{Expansion, TERMS};
+use refusals::Refusal;
+use taylor::{Coefficients, Expansion, TERMS};
 
 // The length of a constant.
 pub const ENDLESS: u64 = 0xffff_ffff_ffff_ffff;
 
-// A list of `order` coefficients, or a constant, which stands in coeffs[0] and whose order is ENDLESS.
+// A list of `order` coefficients, or a constant, which stands in coeffs[0] and whose order is ENDLESS: the C interface has expansions so.
 #[derive(Clone, Copy)]
 pub struct Series {
     pub order: u64,
     pub coeffs: [u64; TERMS],
 }
 
-// How many node numbers are given.
-fn entries_of(s: Series) -> usize
-    ensures { result ≡ entries s }
-{
-    let n = s.order;
-    if n == ENDLESS {
-        return 1;
-    }
-    if n < TERMS as u64 {
-        return n as usize;
-    }
-    TERMS
-}
-
-// Whether the node numbers given are below the count.
-pub fn nodes_below(count: u64, s: Series) -> bool
-    ensures { result ≡ all_below count (nodes_of s) }
-{
-    let end = entries_of(s);
-    let mut i = 0;
-    while i < end {
-        if s.coeffs[i] >= count {
-            return false;
+impl Series {
+    // How many node numbers are given.
+    fn entries(&self) -> usize
+        ensures { result ≡ entries self.now }
+    {
+        if self.order == ENDLESS {
+            return 1;
         }
-        i += 1;
+        self.order.min(TERMS as u64) as usize
     }
-    true
+
+    // Whether the node numbers given are below the count.
+    fn nodes_below(&self, count: u64) -> bool
+        ensures { result ≡ all_below count (nodes_of self.now) }
+    {
+        self.coeffs[..self.entries()].iter().all(|c| *c < count)
+    }
+
+    // The node numbers given are below the count, or 2.
+    pub fn nodes_given(&self, count: u64) -> Result<(), Refusal>
+        ensures { numbered result ≡ demanded (all_below count (nodes_of self.now)) unknown_node }
+    {
+        if self.nodes_below(count) {
+            return Ok(());
+        }
+        Err(Refusal::UnknownNode)
+    }
+
+    // The expansion that is given, a constant or a list of 1 to 25 entries, or 5.
+    pub fn expansion(&self) -> Result<Expansion, Refusal>
+        requires { all_below limit (nodes_of self.now) ≡ true }
+        ensures { numbered result ≡ demand Err (length_ok self.now) wrong_order (Ok (given self.now)) }
+    {
+        if self.order == ENDLESS {
+            return Ok(Expansion::Constant(self.coeffs[0] as u32));
+        }
+        if self.order == 0 || self.order > TERMS as u64 {
+            return Err(Refusal::WrongOrder);
+        }
+        let mut list = Coefficients::one(self.coeffs[0] as u32);
+        for i in 1..self.order as usize {
+            list.push(self.coeffs[i] as u32);
+        }
+        Ok(Expansion::Polynomial(list))
+    }
 }
 
-// Whether it is a constant or a list of 1 to 25 entries.
-pub fn has_length(s: Series) -> bool
-    ensures { result ≡ length_ok s }
-{
-    let n = s.order;
-    if n == ENDLESS {
-        return true;
-    }
-    if n == 0 {
-        return false;
-    }
-    n <= TERMS as u64
-}
+// An expansion as an answer: zeros stand past the list's end.
+impl From<Expansion> for Series {
+    ghost from_gives = { λ e s. s ≡ series_of e };
 
-// A list of node numbers.
-fn list_of(s: Series) -> Expansion
-    requires le_order { (1 ≤ s.order) × (s.order ≤ terms) }
-    requires by_index { (i : ℕ) → i < s.order → get_or s.coeffs i 0 < limit }
-    ensures { Tidied (listed s) result }
-{
-    let mut coeffs = [0u32; TERMS];
-    let n = s.order;
-    let end = n as usize;
-    let mut i = 0;
-    while i < end {
-        let c = s.coeffs[i];
-        coeffs[i] = c as u32;
-        i += 1;
+    fn from(e: Expansion) -> Series {
+        let mut coeffs = [0; TERMS];
+        match e {
+            Expansion::Constant(c) => {
+                coeffs[0] = c as u64;
+                Series {
+                    order: ENDLESS,
+                    coeffs,
+                }
+            }
+            Expansion::Polynomial(list) => {
+                for k in 0..list.len() {
+                    coeffs[k as usize] = list.at(k) as u64;
+                }
+                Series {
+                    order: list.len() as u64,
+                    coeffs,
+                }
+            }
+        }
     }
-    Expansion {
-        constant: false,
-        len: n as u32,
-        coeffs,
-    }
-}
-
-// The expansion that is given.
-pub fn expansion_of(s: Series) -> Expansion
-    requires { Usable s }
-    ensures { Narrowed s result }
-{
-    let n = s.order;
-    if n == ENDLESS {
-        let c = s.coeffs[0];
-        return taylor_base::constant_of(c as u32);
-    }
-    list_of(s)
-}
-
-// An expansion as an answer.
-pub fn series_of(e: Expansion) -> Series
-    requires { Tidy e }
-    ensures { result ≡ series_of (expansion_of e) }
-{
-    let order = taylor_base::order_of(e);
-    let mut coeffs = [0u64; TERMS];
-    let mut i = 0;
-    while i < TERMS {
-        let c = e.coeffs[i];
-        coeffs[i] = c as u64;
-        i += 1;
-    }
-    Series { order, coeffs }
 }

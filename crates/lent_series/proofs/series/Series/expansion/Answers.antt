@@ -1,0 +1,14 @@
+-- `Series::expansion` meets its contract: the entries of the list are nodes.
+-- Assumes nothing.
+use borrow.Author.Rules.{rules}
+use native.Mathlib.Omega.{arith}
+use mathlib.Core.Path.{◌≡◌}
+use lib.ListN.{length}
+use Rattle.taylor.specs.Coefficients.{terms}
+use Rattle.lent_series.proofs.Numbers.{list_node}
+use Rattle.lent_series.proofs.series.Series.expansion.Goals as goal
+
+pub overflow_cast-self-in-loop-i : goal.overflow_cast-self-in-loop-i
+overflow_cast-self-in-loop-i c =
+    let long : length c.args.self.now.coeffs ≡ terms = search rules in
+    record { fits = omega (arith, list_node c.args.self.now long c.requires c.if-self.false c.if-self-2.false c.loop-i.i c.loop-i-test.true) }
