@@ -2,22 +2,13 @@
 -- Assumes nothing.
 use mathlib.Core.Path.{◌≡◌, refl, ap, ◌∙◌}
 use mathlib.Core.List.{List, ◌++◌}
-use Prim.Native.Nat.{ℕ, ◌-◌, ◌<◌, ◌≤◌}
+use Prim.Native.Nat.{ℕ, ◌<◌, ◌≤◌}
 use native.Mathlib.Omega.{arith}
 use lib.ListN.{length, take, drop}
-use lib.Seq.{length-sets, take_all, take-append_seam}
-use Rattle.text.specs.Text.{Contains, content, room}
-use Rattle.text.specs.declared.Text.{Text}
-use Rattle.text.proofs.Fronts.{written_length}
+use lib.Seq.{length-sets, take-append_seam}
 use Rattle.low_bytes.specs.Output.{Wrote, longest_text}
 use Rattle.low_bytes.proofs.Writing.{counted, in_place}
 use Rattle.print.specs.Output.{Printed}
-
--- a short text from its start on
-pub rest_of_text : {at to : ℕ} {l l' : List ℕ} (t : Text) → Contains t (content t) → Wrote at l (take (room - t.start) (content t)) to l' → Wrote at l (content t) to l'
-rest_of_text t h w =
-    let short : length (content t) ≤ room - t.start = omega (arith, written_length t (content t) h) in
-    rw (take_all (room - t.start) (content t) short) at w
 
 module _ {text : List ℕ} {to : ℕ} {kept kept' : List ℕ} (w : Wrote 0 kept text to kept') (out : List ℕ) where
   pub not_put_too_long : longest_text < to → Printed text out to out

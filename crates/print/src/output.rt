@@ -1,21 +1,9 @@
 // Numbers, names of variables and exponents written to an output.
 ghost use Rattle.std.specs.Prelude.{◌≤◌};
-ghost use Rattle.text.specs.Text.{Contains, content, decimal, signed_decimal, display};
+ghost use Rattle.text.specs.Text.{decimal, signed_decimal, display};
 ghost use Rattle.low_bytes.specs.Output.{Wrote, past_longest};
 
 use low_bytes::{put, write};
-use text::Text;
-
-// A short text, of which the bytes from its start on are written.
-fn write_text(out: &mut [u8], at: usize, text: Text) -> usize
-    requires at_le_past_longest { at ≤ past_longest }
-    requires contains { Contains text (content text) }
-    ensures { Wrote at out.old (content text) result out.new }
-{
-    let bytes = text.bytes;
-    let start = text.start;
-    write(out, at, &bytes[start..])
-}
 
 // The digits of a number. One or two, as most numbers have, are put byte by byte: they take no text of their own.
 fn write_decimal(out: &mut [u8], at: usize, n: u64) -> usize
@@ -29,7 +17,7 @@ fn write_decimal(out: &mut [u8], at: usize, n: u64) -> usize
         let tens = put(out, at, (48 + n / 10) as u8);
         return put(out, tens, (48 + n % 10) as u8);
     }
-    write_text(out, at, text::decimal_text(n))
+    write(out, at, text::decimal_text(n).as_bytes())
 }
 
 // A variable's name. Most variables are a letter, which takes no text of its own.
@@ -41,7 +29,7 @@ pub fn write_variable(out: &mut [u8], at: usize, v: u32) -> usize
     if number < text::LETTERS {
         return put(out, at, text::letter(number));
     }
-    write_text(out, at, text::variable_text(number))
+    write(out, at, text::variable_text(number).as_bytes())
 }
 
 // A literal: its sign where it is below 0, and its size.

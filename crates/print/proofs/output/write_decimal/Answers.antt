@@ -1,6 +1,7 @@
 -- `print::output::write_decimal` meets its contract: one digit or two are the whole decimal, and else the short text is the definition's.
 -- Assumes nothing.
 use native.Mathlib.Omega.{arith}
+use mathlib.Core.Path.{◌∙◌}
 use Rattle.low_bytes.proofs.Writing.{written_after, written_as}
 use Rattle.print.proofs.ShortNumbers.{of_one_digit, of_two_digits}
 use Rattle.print.proofs.output.write_decimal.Goals as goal
@@ -15,4 +16,4 @@ returns-then-n-lt100 c =
     (written_after c.put-tens.ensures c.put-then-n-lt100.ensures)
 
 pub returns : goal.returns
-returns c = written_as _ _ c.decimal_text.ensures.text c.write_text.ensures
+returns c = written_as _ _ (c.as_bytes.ensures ∙ c.decimal_text.ensures) c.write.ensures
