@@ -1,15 +1,16 @@
 // What is done to the entries of one or two lists, entry by entry.
-ghost use Rattle.std.specs.Prelude.{◌≡◌, []};
-ghost use Rattle.pool.specs.Made.{made, pool_of};
-ghost use Rattle.taylor.specs.Work.{fill};
-ghost use Rattle.taylor_base.specs.Answers.{list_of, Lists};
-ghost use Rattle.taylor_base.specs.Entries.{entry_work, entry_at, Entries};
+ghost use Rattle.std.specs.Prelude.{◌≡◌};
+ghost use Rattle.pool.specs.Made.{made};
+ghost use Rattle.taylor.specs.Work.{each, each_two};
+ghost use Rattle.taylor.specs.Answered.{answered};
+ghost use Rattle.taylor_base.specs.Entries.{entry_work};
 
-use crate::answer::{Expanded, Expansion, Status, TERMS};
 use constructors::DEPTH;
-use pool::{LIMIT, Made, Room};
+use pool::Pool;
+use refusals::Refusal;
+use taylor::Coefficients;
 
-// What to make of an entry u of the one list and w of the other.
+// What to make of an entry u of the one list and w of the other: a value and not a closure, so that a contract names what is made.
 #[derive(Clone, Copy)]
 pub enum Entry {
     // w + u
@@ -24,58 +25,41 @@ pub enum Entry {
     Over(u32),
 }
 
-pub fn entry_in(
-    kinds: &mut [u8; LIMIT],
-    words: &mut [u64; LIMIT],
-    room: Room,
-    rule: Entry,
-    u: u32,
-    w: u32,
-) -> Made
-    ensures { made result kinds.new words.new ≡ entry_work rule u w (pool_of kinds.old words.old room) }
+pub fn entry_in(pool: &mut Pool, rule: Entry, u: u32, w: u32) -> Result<u32, Refusal>
+    ensures { made result pool.new ≡ entry_work rule u w pool.old }
 {
     match rule {
-        Entry::Sum => adds::add_in(kinds, words, room, DEPTH, w, u),
-        Entry::Difference => crate::answer::sub_nodes(kinds, words, room, u, w),
-        Entry::Negative => muls::neg_in(kinds, words, room, DEPTH, u),
-        Entry::Times(c) => muls::mul_in(kinds, words, room, DEPTH, u, c),
-        Entry::Over(c) => logs::div_in(kinds, words, room, DEPTH, u, c),
+        Entry::Sum => adds::add_in(pool, DEPTH, w, u),
+        Entry::Difference => crate::nodes::sub_nodes(pool, u, w),
+        Entry::Negative => muls::neg_in(pool, DEPTH, u),
+        Entry::Times(c) => muls::mul_in(pool, DEPTH, u, c),
+        Entry::Over(c) => logs::div_in(pool, DEPTH, u, c),
     }
 }
 
-// The list of n entries, each made of those at its place in both lists.
-pub fn entries_in(
-    kinds: &mut [u8; LIMIT],
-    words: &mut [u64; LIMIT],
-    room: Room,
+// Both lists side by side, up to the shorter length.
+pub fn pairs_in(
+    pool: &mut Pool,
     rule: Entry,
-    us: Expansion,
-    ws: Expansion,
-    n: u32,
-) -> Expanded
-    requires { Entries us ws n }
-    ensures { Lists result kinds.new words.new (fill (entry_at rule (list_of us) (list_of ws)) n [] (pool_of kinds.old words.old room)) }
+    us: &Coefficients,
+    ws: &Coefficients,
+) -> Result<Coefficients, Refusal>
+    ensures { answered result pool.new ≡ each_two (entry_work rule) us.now ws.now pool.old }
 {
-    let mut left = room;
-    let mut coeffs = [0u32; TERMS];
-    let mut k = 0;
-    while k < n {
-        let u = crate::answer::at(us, k);
-        let w = crate::answer::at(ws, k);
-        let entry = entry_in(kinds, words, left, rule, u, w);
-        let Made::Node { node, room: rest } = entry else {
-            return crate::answer::answer_of(entry);
-        };
-        coeffs[k as usize] = node;
-        left = rest;
-        k += 1;
+    let end = us.len().min(ws.len());
+    let first = entry_in(pool, rule, us.at(0), ws.at(0))?;
+    let mut list = Coefficients::one(first);
+    for k in 1..end {
+        let entry = entry_in(pool, rule, us.at(k), ws.at(k))?;
+        list.push(entry);
     }
-    Expanded {
-        status: Status::Done(left),
-        expansion: Expansion {
-            constant: false,
-            len: n,
-            coeffs,
-        },
-    }
+    Ok(list)
+}
+
+// Each entry of a list.
+#[tactic(auto, using(crate::proofs::Entrywise::each_is_two))]
+pub fn each_in(pool: &mut Pool, rule: Entry, us: &Coefficients) -> Result<Coefficients, Refusal>
+    ensures { answered result pool.new ≡ each (λ u. entry_work rule u u) us.now pool.old }
+{
+    pairs_in(pool, rule, us, us)
 }
