@@ -7,4 +7,5 @@ use Rattle.lent_series.proofs.series.SeriesFromExpansion.from.Goals as goal
 
 pub loop-k-preserved : goal.loop-k-preserved
 loop-k-preserved c =
-    rw (c.loop-k.invariant, c.at.ensures) (filled_more c.in-Polynomial.list terms c.loop-k.k (omega arith) (omega arith))
+    let more = filled_more c.in-Polynomial.list terms c.loop-k.k (omega arith) (omega arith) in
+    cc (more, c.loop-k.invariant)
