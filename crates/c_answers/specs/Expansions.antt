@@ -1,17 +1,16 @@
 -- Expansions in C's terms: an order, and an array of 25 beside it.
 -- Assumes nothing.
-use Rattle.std.specs.Prelude.{List, ℕ, Ok, Err}
+use Rattle.std.specs.Prelude.{List, ℕ, Result, Ok, Err}
 use Rattle.lent.specs.Call.{Returned, returned}
 use Rattle.lent_series.specs.declared.series.Series.{Series}
 use Rattle.lent_series.specs.Call.{Outcome}
-use Rattle.engine_given.specs.Read.{Counted}
 use Rattle.c_answers.specs.Interface.{ValueInC, answer_in_c}
 
 abbrev pub series : ℕ → List ℕ → Series
 series order coeffs = record { order = order; coeffs = coeffs }
 
 -- how many coefficients, or what stood there before
-abbrev pub count_in_c : ℕ → Counted → ValueInC
+abbrev pub count_in_c : ℕ → Result ℕ ℕ → ValueInC
 count_in_c = answer_in_c
 
 -- a call that gives an expansion: its order and coefficients, or what stood there before

@@ -9,7 +9,7 @@ ghost use Rattle.c_answers.specs.Expansions.{outcome_returned_in_c, outcome_in_c
 
 use lent_series::Series;
 use refusals::Refusal;
-use taylor_base::TERMS;
+use taylor::TERMS;
 
 // A node number, a length, a residue: any answer that has one place.
 pub fn answered<T: Copy>(answer: Result<T, Refusal>, place: &mut T) -> u32
