@@ -1,18 +1,14 @@
 -- The strip of a node, by its parts as the code has them: the parts' strips in turn, and then the own code.
 -- Assumes nothing.
-use mathlib.Core.Path.{◌≡◌, refl, sym, ap, ◌∙◌}
-use mathlib.Core.List.{List, [], ◌∷◌}
+use mathlib.Core.Path.{◌≡◌, sym, ap, ◌∙◌}
+use mathlib.Core.List.{List, []}
 use Prim.Native.Nat.{ℕ, ◌<◌}
-use types.Run.{OneOf, miss}
-use denote.Enum.Declared.{tag_of}
 use Rattle.pool.specs.declared.node.Node.{Node}
-use Rattle.pool.specs.declared.node.Node.TheVariants.{Empty, Variable, Lit, Add, Mul, Div, Exp, Log, Pow, Max}
 use Rattle.pool.specs.declared.parts.Parts.{Parts}
 use Rattle.pool.specs.Nodes.{parts}
 use Rattle.pool.specs.Parts.{parts_in}
-use Rattle.pool.specs.contracts.node.Node.{the_type}
 use Rattle.pool.proofs.Folds.{visits, below}
-use Rattle.key_strip.specs.Strip.{operand, own_key, in_turn, node_strip, strip_of}
+use Rattle.key_strip.specs.Strip.{own_key, in_turn, node_strip, strip_of}
 use Rattle.strip_write.specs.Written.{strip_below}
 
 -- n is the node that was read, p its parts as they were told, and x what they were found to be
@@ -26,20 +22,3 @@ module _ (at : ℕ → Node) {i : ℕ} {n : Node} {p x : Parts} (read : n ≡ at
 
   pub part_by_parts : {k : ℕ} → i < k → strip_below at k i ≡ in_turn (strip_below at i) (parts_in x) (own_key n)
   part_by_parts {k} smaller = sym (below [] (strip_of at) k i smaller) ∙ strip_by_parts
-
--- the kinds whose code nothing follows
-abbrev nothing_after : List ℕ
-nothing_after = 0 ∷ 3 ∷ 4 ∷ 5 ∷ 6 ∷ 7 ∷ 9 ∷ []
-
--- which the arm `_` knows: they are all but Variable, Lit and Pow
-pub nothing_follows : (n : Node) → OneOf nothing_after (tag_of the_type n) → [] ≡ operand n
-nothing_follows Empty k = refl
-nothing_follows (Variable v) k = absurd (miss nothing_after 1 tt k)
-nothing_follows (Lit z) k = absurd (miss nothing_after 2 tt k)
-nothing_follows (Add a b) k = refl
-nothing_follows (Mul a b) k = refl
-nothing_follows (Div a b) k = refl
-nothing_follows (Exp a) k = refl
-nothing_follows (Log a) k = refl
-nothing_follows (Pow a e) k = absurd (miss nothing_after 8 tt k)
-nothing_follows (Max a b) k = refl

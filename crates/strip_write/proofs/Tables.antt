@@ -4,9 +4,8 @@ use mathlib.Core.Path.{◌≡◌, sym, ap, ◌∙◌}
 use mathlib.Core.List.{List, [], ◌++◌}
 use Prim.Native.Nat.{ℕ, ◌+◌, ◌<◌, ◌≤◌, min, max}
 use native.Mathlib.Omega.{arith}
-use native.Mathlib.Decide.{ℕ_discrete, dec_lt}
-use lib.ListN.{length, get_or, set, length-set, length-append}
-use lib.Seq.{get_or-set_same, get_or-set_other}
+use native.Mathlib.Decide.{dec_lt}
+use lib.ListN.{length, get_or, length-append}
 use Rattle.low_bytes.specs.Output.{past_longest}
 use Rattle.pool.specs.declared.node.Node.{Node}
 use Rattle.pool.specs.declared.node.Node.TheVariants.{Empty, Variable, Lit, Add, Mul, Div, Exp, Log, Pow, Max}
@@ -20,12 +19,10 @@ use Rattle.pool.proofs.Folds.{visits, below, above}
 use Rattle.walks.proofs.Tables.{none_past_the_limit}
 use Rattle.key_strip.specs.Strip.{own_key, node_strip, strip_of, places_for, node_places, places_of, most_places}
 use Rattle.strip_write.specs.declared.need.Need.{Need}
+use Rattle.strip_write.specs.declared.need.Needs.{Needs}
 use Rattle.strip_write.specs.Need.{Needed}
 use Rattle.strip_write.specs.Kept.{Kept, NeededBelow}
 use Rattle.strip_write.proofs.Strips.{strip_by_parts}
-
-pub own_length_of : {n m : Node} → n ≡ m → length (own_key m) ≡ length (own_key n)
-own_length_of e = sym (ap (λ (n : Node). length (own_key n)) e)
 
 -- a code and what follows it are few bytes
 pub own_is_short : (n : Node) → length (own_key n) ≤ 9
@@ -40,58 +37,29 @@ own_is_short (Log a) = omega arith
 own_is_short (Pow a e) = omega arith
 own_is_short (Max a b) = omega arith
 
-pub none_needed : (at : ℕ → Node) (places lengths : List ℕ) → length places ≡ limit → length lengths ≡ limit → NeededBelow at 0 places lengths
-none_needed at places lengths long_places long_lengths =
-    record {
-      long_places = long_places;
-      long_lengths = long_lengths;
-      places_are = λ j h. absurd (none j h);
-      lengths_are = λ j h. absurd (none j h);
-    }
-  where
-    none : (j : ℕ) → j < 0 → ⊥
-    none j h = omega arith
-
-module _ {at : ℕ → Node} {i : ℕ} {places lengths : List ℕ} (f : NeededBelow at i places lengths) where
-  pub one_more_needed : {need : Need} → i < limit → Needed at i need → NeededBelow at (i + 1) (set places i need.places) (set lengths i need.length)
-  one_more_needed {need} small is =
-      record {
-        long_places = length-set places i need.places ∙ f.long_places;
-        long_lengths = length-set lengths i need.length ∙ f.long_lengths;
-        places_are = λ j h. places_at j h (ℕ_discrete j i);
-        lengths_are = λ j h. lengths_at j h (ℕ_discrete j i);
-      }
-    where
-      places_at : (j : ℕ) → j < i + 1 → Dec (j ≡ i) → get_or (set places i need.places) j 0 ≡ min (places_of at j) (most_places + 1)
-      places_at j h (yes s) = rw s (get_or-set_same places i need.places 0 (omega (arith, f.long_places)) ∙ is.places_are)
-      places_at j h (no n) = get_or-set_other places i j need.places 0 n ∙ f.places_are j (omega arith)
-
-      lengths_at : (j : ℕ) → j < i + 1 → Dec (j ≡ i) → get_or (set lengths i need.length) j 0 ≡ min (length (strip_of at j)) past_longest
-      lengths_at j h (yes s) = rw s (get_or-set_same lengths i need.length 0 (omega (arith, f.long_lengths)) ∙ is.length_is)
-      lengths_at j h (no n) = get_or-set_other lengths i j need.length 0 n ∙ f.lengths_are j (omega arith)
-
-  module _ {a : ℕ} {need : Need} (k : Kept places lengths i a need) where
+module _ {at : ℕ → Node} {i : ℕ} {T : Needs} (f : NeededBelow at i T) where
+  module _ {a : ℕ} {need : Need} (k : Kept T i a need) where
     -- a part needs what the definitions say, as far as it is counted
     pub part_places : need.places ≡ min (under 0 (places_of at) i a) (most_places + 1)
     part_places = k.places_are ∙ go (dec_lt a i)
       where
-        go : Dec (a < i) → under 0 (λ j. get_or places j 0) i a ≡ min (under 0 (places_of at) i a) (most_places + 1)
-        go (yes h) = sym (below 0 (λ j. get_or places j 0) i a h) ∙ f.places_are a h ∙ ap (λ (x : ℕ). min x (most_places + 1)) (below 0 (places_of at) i a h)
-        go (no n) = sym (above 0 (λ j. get_or places j 0) i a (omega arith)) ∙ ap (λ (x : ℕ). min x (most_places + 1)) (above 0 (places_of at) i a (omega arith))
+        go : Dec (a < i) → under 0 (λ j. get_or T.places j 0) i a ≡ min (under 0 (places_of at) i a) (most_places + 1)
+        go (yes h) = sym (below 0 (λ j. get_or T.places j 0) i a h) ∙ f.places_are a h ∙ ap (λ (x : ℕ). min x (most_places + 1)) (below 0 (places_of at) i a h)
+        go (no n) = sym (above 0 (λ j. get_or T.places j 0) i a (omega arith)) ∙ ap (λ (x : ℕ). min x (most_places + 1)) (above 0 (places_of at) i a (omega arith))
 
     pub part_length : need.length ≡ min (length (under [] (strip_of at) i a)) past_longest
     part_length = k.length_is ∙ go (dec_lt a i)
       where
-        go : Dec (a < i) → under 0 (λ j. get_or lengths j 0) i a ≡ min (length (under [] (strip_of at) i a)) past_longest
-        go (yes h) = sym (below 0 (λ j. get_or lengths j 0) i a h) ∙ f.lengths_are a h ∙ ap (λ (x : List ℕ). min (length x) past_longest) (below [] (strip_of at) i a h)
-        go (no n) = sym (above 0 (λ j. get_or lengths j 0) i a (omega arith)) ∙ ap (λ (x : List ℕ). min (length x) past_longest) (above [] (strip_of at) i a (omega arith))
+        go : Dec (a < i) → under 0 (λ j. get_or T.lengths j 0) i a ≡ min (length (under [] (strip_of at) i a)) past_longest
+        go (yes h) = sym (below 0 (λ j. get_or T.lengths j 0) i a h) ∙ f.lengths_are a h ∙ ap (λ (x : List ℕ). min (length x) past_longest) (below [] (strip_of at) i a h)
+        go (no n) = sym (above 0 (λ j. get_or T.lengths j 0) i a (omega arith)) ∙ ap (λ (x : List ℕ). min (length x) past_longest) (above [] (strip_of at) i a (omega arith))
 
     -- and a node before number i itself
     pub node_needs : a < i → Needed at a need
     node_needs h =
         record {
-          places_are = k.places_are ∙ sym (below 0 (λ j. get_or places j 0) i a h) ∙ f.places_are a h;
-          length_is = k.length_is ∙ sym (below 0 (λ j. get_or lengths j 0) i a h) ∙ f.lengths_are a h;
+          places_are = k.places_are ∙ sym (below 0 (λ j. get_or T.places j 0) i a h) ∙ f.places_are a h;
+          length_is = k.length_is ∙ sym (below 0 (λ j. get_or T.lengths j 0) i a h) ∙ f.lengths_are a h;
         }
 
     pub part_is_counted : (need.places ≤ most_places + 1) × (need.length ≤ past_longest)
@@ -113,7 +81,7 @@ module _ {at : ℕ → Node} {i : ℕ} {places lengths : List ℕ} (f : NeededBe
           length_is = omega (arith, is, counted, ap length (strip_by_parts at read told e), own_is_short n);
         }
 
-    pub base_needs : {need base : Need} {a : ℕ} → p ≡ One a → Kept places lengths i a base → need.places ≡ base.places → need.length ≡ min (base.length + own) past_longest → Needed at i need
+    pub base_needs : {need base : Need} {a : ℕ} → p ≡ One a → Kept T i a base → need.places ≡ base.places → need.length ≡ min (base.length + own) past_longest → Needed at i need
     base_needs {a = a} e k same is =
         let joined = ap length (strip_by_parts at read told e) ∙ length-append (under [] (strip_of at) i a) (own_key n) in
         record {
@@ -121,7 +89,7 @@ module _ {at : ℕ → Node} {i : ℕ} {places lengths : List ℕ} (f : NeededBe
           length_is = omega (arith, is, counted, joined, part_length k);
         }
 
-    pub both_need : {need left right : Need} {a b : ℕ} → p ≡ Two a b → Kept places lengths i a left → Kept places lengths i b right
+    pub both_need : {need left right : Need} {a b : ℕ} → p ≡ Two a b → Kept T i a left → Kept T i b right
         → need.places ≡ min (max left.places (right.places + 1)) (most_places + 1) → need.length ≡ min (left.length + right.length + own) past_longest → Needed at i need
     both_need {a = a} {b} e k l most is =
         let right = under [] (strip_of at) i b in

@@ -13,10 +13,10 @@ use Rattle.low_bytes.proofs.Writing.{sets_joined}
 use Rattle.pool.specs.declared.node.Node.{Node}
 use Rattle.pool.specs.declared.parts.Parts.{Parts}
 use Rattle.pool.specs.declared.parts.Parts.TheVariants.{None, One, Two}
-use Rattle.pool.specs.Nodes.{kind_of, parts}
+use Rattle.pool.specs.Nodes.{parts}
 use Rattle.pool.specs.Parts.{parts_in}
 use Rattle.pool.proofs.Folds.{below, above}
-use Rattle.key_strip.specs.Strip.{operand, own_key, strip_of}
+use Rattle.key_strip.specs.Strip.{own_key, strip_of}
 use Rattle.strip_write.specs.Written.{strip_below, WrittenFrom}
 use Rattle.strip_write.proofs.Strips.{part_by_parts}
 
@@ -50,8 +50,15 @@ key_written at code k x {l} e =
       in_place = e ∙ ap (λ (j : ℕ). sets (set l at code) j (low_bytes k x)) (add-one at);
     }
 
-pub own_written : (n : Node) {at to code : ℕ} {l l' bytes : List ℕ} → code ≡ kind_of n → bytes ≡ operand n → WrittenFrom at l (code ∷ bytes) to l' → WrittenFrom at l (own_key n) to l'
-own_written n c b w = rw (c, b) at w
+-- the strips of the parts, one after the other
+abbrev pub parts_strip : (ℕ → List ℕ) → Parts → List ℕ
+parts_strip down None = []
+parts_strip down (One a) = down a
+parts_strip down (Two a b) = down a ++ down b
+
+-- the parts were found to be x, and where their strips end and what is written then were told
+pub parts_written : (down : ℕ → List ℕ) {p x : Parts} {at to end : ℕ} {l l' l'' : List ℕ} → p ≡ x → end ≡ to → l'' ≡ l' → WrittenFrom at l (parts_strip down x) to l' → WrittenFrom at l (parts_strip down p) end l''
+parts_written down e f g w = rw (e, f, g) w
 
 module _ (node : ℕ → Node) where
   -- a part that is not below the bound
@@ -59,15 +66,11 @@ module _ (node : ℕ → Node) where
   nothing_written {k} {a} at l h = written_as (above [] (strip_of node) k a h) record { end = omega arith; in_place = refl }
 
   -- n is the node that was read, and p its parts as they were told: the strips of the parts, and then the own code
-  module _ {k i : ℕ} {n : Node} {p : Parts} (smaller : i < k) (read : n ≡ node i) (told : parts_in p ≡ parts n) where
-    pub leaf_is : p ≡ None → strip_below node k i ≡ own_key n
-    leaf_is found = part_by_parts node read told found smaller
-
-    pub base_is : {a : ℕ} → p ≡ One a → strip_below node k i ≡ strip_below node i a ++ own_key n
-    base_is found = part_by_parts node read told found smaller
-
-    pub both_are : {a b : ℕ} → p ≡ Two a b → strip_below node k i ≡ (strip_below node i a ++ strip_below node i b) ++ own_key n
-    both_are {a} {b} found = part_by_parts node read told found smaller ∙ sym (append_assoc (strip_below node i a) (strip_below node i b) (own_key n))
+  pub strip_is : {k i : ℕ} {n : Node} (p : Parts) → i < k → n ≡ node i → parts_in p ≡ parts n → strip_below node k i ≡ parts_strip (strip_below node i) p ++ own_key n
+  strip_is None smaller read told = part_by_parts node {p = None} read told refl smaller
+  strip_is (One a) smaller read told = part_by_parts node {p = One a} read told refl smaller
+  strip_is {i = i} {n} (Two a b) smaller read told =
+      part_by_parts node {p = Two a b} read told refl smaller ∙ sym (append_assoc (strip_below node i a) (strip_below node i b) (own_key n))
 
   -- the root is below the bound that is one more
   module _ (root : ℕ) (l : List ℕ) where

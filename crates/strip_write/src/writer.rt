@@ -32,7 +32,6 @@ fn put_own(out: &mut [u8], at: usize, node: Node) -> usize
 }
 
 // The strip of a part whose number is below the bound: its left part, its right part, then its own code. Any other part has no strip.
-#[cycle(strip_parts)]
 fn strip_below(
     kinds: &[u8; LIMIT],
     words: &[u64; LIMIT],
@@ -49,35 +48,15 @@ fn strip_below(
         return at;
     }
     let node = pool::node_at(kinds, words, of);
-    match pool::parts_of(node) {
-        Parts::None => put_own(out, at, node),
-        Parts::One(a) => {
-            let base = strip_below(kinds, words, out, at, i, a);
-            put_own(out, base, node)
-        }
+    let own = match pool::parts_of(node) {
+        Parts::None => at,
+        Parts::One(a) => strip_below(kinds, words, out, at, i, a),
         Parts::Two(a, b) => {
-            let both = strip_both(kinds, words, out, at, i, a, b);
-            put_own(out, both, node)
+            let right = strip_below(kinds, words, out, at, i, a);
+            strip_below(kinds, words, out, right, i, b)
         }
-    }
-}
-
-// The strips of two parts of node i, the left one first.
-#[cycle(strip_parts)]
-fn strip_both(
-    kinds: &[u8; LIMIT],
-    words: &[u64; LIMIT],
-    out: &mut [u8],
-    at: usize,
-    i: usize,
-    a: u32,
-    b: u32,
-) -> usize
-    requires { at + (length (strip_below (node_in kinds.now words.now) i a) + length (strip_below (node_in kinds.now words.now) i b)) ≤ length out.old }
-    ensures { WrittenFrom at out.old (strip_below (node_in kinds.now words.now) i a ++ strip_below (node_in kinds.now words.now) i b) result out.new }
-{
-    let left = strip_below(kinds, words, out, at, i, a);
-    strip_below(kinds, words, out, left, i, b)
+    };
+    put_own(out, own, node)
 }
 
 // The strip of a root, from the front of an output that has room for it.

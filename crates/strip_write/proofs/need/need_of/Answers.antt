@@ -1,4 +1,4 @@
--- `strip_write::need::need_of` meets its contract: past the tables there is no node, and what the root needs is in the tables that were filled.
+-- `need::need_of` meets its contract: past the tables there is no node, and what the root needs is in the tables that were filled.
 -- Assumes nothing.
 use mathlib.Core.Path.{refl}
 use native.Mathlib.Omega.{arith}
@@ -9,4 +9,4 @@ pub returns-then-root-ge-LIMIT : goal.returns-then-root-ge-LIMIT
 returns-then-root-ge-LIMIT c = no_node_needs c.args.kinds.now c.args.words.now c.if-root-ge-LIMIT.true refl refl
 
 pub returns : goal.returns
-returns c = node_needs c.fill.ensures c.kept.ensures (omega arith)
+returns c = node_needs c.fill.ensures c.of.ensures (omega arith)
