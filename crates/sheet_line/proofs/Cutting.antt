@@ -10,9 +10,10 @@ use borrow.Author.Tests.{le-leb, lt-leb, leb-true, leb-false}
 use Rattle.literal.specs.Literal.{greatest, is_literal}
 use Rattle.literal.proofs.Sizes.{size_negation}
 use Rattle.pool.specs.Nodes.{greatest_variable}
-use Rattle.taylor.specs.Expand.{Point, none, point, is_point}
+use Rattle.std.specs.Prelude.{Some, None}
+use Rattle.taylor.specs.Expand.{Point, is_point}
 use Rattle.taylor.specs.Expansion.{greatest_order}
-use Rattle.sheet_line.specs.Cut.{cut_at, cut, cut_size, cut_place, point_in}
+use Rattle.sheet_line.specs.Cut.{cut_at, cut, cut_size, cut_whole}
 
 pub cut_within : (n : ℕ) → cut n ≤ cut_at
 cut_within n = omega arith
@@ -64,10 +65,10 @@ pub whole_literal : (z : ℤ) → is_literal z ≡ true → cut_size z ≡ z
 whole_literal (pos n) e = ap pos (whole_within greatest n (omega arith) e)
 whole_literal (negsuc n) e = ap (λ (m : ℕ). neg_ℤ (pos m)) (whole_within greatest (suc n) (omega arith) e)
 
-pub same_point_test : (x : Point) → is_point (point_in (cut_place x)) ≡ is_point x
-same_point_test none = refl
-same_point_test (point z) = same_literal_test z
+pub same_point_test : (x : Point) → is_point (cut_whole x) ≡ is_point x
+same_point_test None = refl
+same_point_test (Some z) = same_literal_test z
 
-pub whole_point : (x : Point) → is_point x ≡ true → point_in (cut_place x) ≡ x
-whole_point none e = refl
-whole_point (point z) e = ap point (whole_literal z e)
+pub whole_point : (x : Point) → is_point x ≡ true → cut_whole x ≡ x
+whole_point None e = refl
+whole_point (Some z) e = ap Some (whole_literal z e)

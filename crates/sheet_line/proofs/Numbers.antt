@@ -9,34 +9,25 @@ use native.Mathlib.Omega.{arith}
 use lib.Dec.{eqb}
 use lib.ListN.{length, get_or, drop, drop_of_length-le}
 use lib.Seq.{drop-cons}
-use borrow.Author.Tests.{le-leb, lt-leb, eq-eqb, ne_eqb}
-use Rattle.sheet_text.specs.Line.{Read, read, when, is_digit, digits_from, decimal_of}
-use Rattle.sheet_line.specs.declared.Number.TheVariants.{None, Value}
+use borrow.Author.Tests.{eq-eqb, ne_eqb}
+use Rattle.sheet_text.specs.Line.{when, is_digit, digits_from, decimal_of}
+use Rattle.std.specs.Prelude.{Option, Some, None}
 use Rattle.sheet_line.specs.Cut.{cut_at, cut, cut_number}
 use Rattle.sheet_line.proofs.Cutting.{cut_within, cut_below, cut_twice, cut_again}
 
 -- digits go on from a number that was cut off as from the number itself
 pub goes_on : (n : ℕ) (bs : List ℕ) → cut_number (digits_from (cut n) bs) ≡ cut_number (digits_from n bs)
 unfolding digits_from
-goes_on n [] = ap Value (cut_twice n)
+goes_on n [] = ap Some (cut_twice n)
 goes_on n (b ∷ bs) =
     go (is_digit b) (digits_from (10 * cut n + (b - 48)) bs) (digits_from (10 * n + (b - 48)) bs)
     (sym (goes_on (10 * cut n + (b - 48)) bs)
     ∙ ap (λ (m : ℕ). cut_number (digits_from m bs)) (cut_again n (b - 48))
     ∙ goes_on (10 * n + (b - 48)) bs)
   where
-    go : (t : Bool) (r s : Read ℕ) → cut_number r ≡ cut_number s → cut_number (when t r) ≡ cut_number (when t s)
+    go : (t : Bool) (r s : Option ℕ) → cut_number r ≡ cut_number s → cut_number (when t r) ≡ cut_number (when t s)
     go true r s e = e
     go false r s e = refl
-
-digit_between : (b : ℕ) → 48 ≤ b → b ≤ 57 → is_digit b ≡ true
-digit_between b h k = rw (le-leb 48 b h, le-leb b 57 k)
-
-not_below : (b : ℕ) → b < 48 → is_digit b ≡ false
-not_below b h = rw (lt-leb 48 b h)
-
-not_above : (b : ℕ) → 57 < b → is_digit b ≡ false
-not_above b h = rw (le-leb 48 b (omega arith), lt-leb b 57 h)
 
 -- from a number on, the digits before i gave n, and those from i on go on from it
 pub record Reading (before : ℕ) (bytes : List ℕ) (n i : ℕ) : Type 0 where
@@ -56,26 +47,21 @@ module _ (before : ℕ) (bytes : List ℕ) (n i : ℕ) (r : Reading before bytes
       ∙ ap (λ (l : List ℕ). cut_number (digits_from n l)) (sym (drop-cons bytes i 0 h))
       ∙ r.gives
 
-  pub turn : i < length bytes → 48 ≤ get_or bytes i 0 → get_or bytes i 0 ≤ 57 → Reading before bytes (cut (10 * n + (get_or bytes i 0 - 48))) (i + 1)
-  turn h low high =
+  pub turn : i < length bytes → is_digit (get_or bytes i 0) ≡ true → Reading before bytes (cut (10 * n + (get_or bytes i 0 - 48))) (i + 1)
+  turn h e =
       record {
         within = omega arith;
         small = cut_within (10 * n + (get_or bytes i 0 - 48));
-        gives =
-            goes_on (10 * n + (get_or bytes i 0 - 48)) (drop (i + 1) bytes)
-            ∙ next h true (digit_between (get_or bytes i 0) low high);
+        gives = goes_on (10 * n + (get_or bytes i 0 - 48)) (drop (i + 1) bytes) ∙ next h true e;
       }
 
-  pub low : i < length bytes → get_or bytes i 0 < 48 → None ≡ cut_number (digits_from before bytes)
-  low h k = next h false (not_below (get_or bytes i 0) k)
+  pub stops : i < length bytes → is_digit (get_or bytes i 0) ≡ false → None ≡ cut_number (digits_from before bytes)
+  stops h e = next h false e
 
-  pub high : i < length bytes → 57 < get_or bytes i 0 → None ≡ cut_number (digits_from before bytes)
-  high h k = next h false (not_above (get_or bytes i 0) k)
-
-  pub ends : length bytes ≤ i → Value n ≡ cut_number (digits_from before bytes)
+  pub ends : length bytes ≤ i → Some n ≡ cut_number (digits_from before bytes)
   unfolding digits_from
   ends h =
-      ap Value (sym (cut_below n r.small))
+      ap Some (sym (cut_below n r.small))
       ∙ ap (λ (l : List ℕ). cut_number (digits_from n l)) (sym (drop_of_length-le bytes h))
       ∙ r.gives
 
@@ -91,7 +77,7 @@ no_digit (b ∷ bs) e = absurd (omega arith)
 pub one_digit : (bytes : List ℕ) → length bytes ≡ 1 → digits_from 0 bytes ≡ decimal_of bytes
 unfolding decimal_of digits_from
 one_digit [] e = absurd (omega arith)
-one_digit (b ∷ []) e = ap (λ (n : ℕ). when (is_digit b) (read n)) (from_zero b)
+one_digit (b ∷ []) e = ap (λ (n : ℕ). when (is_digit b) (Some n)) (from_zero b)
 one_digit (b ∷ c ∷ bs) e = absurd (omega arith)
 
 not_both : (t s : Bool) → s ≡ true → t && not s ≡ false
@@ -102,16 +88,14 @@ both : (t s : Bool) → s ≡ false → t && not s ≡ t
 both true s e = rw e
 both false s e = refl
 
-pub leading_zero : (bytes : List ℕ) → (length bytes ≡ 0 → ⊥) → (length bytes ≡ 1 → ⊥) → get_or bytes 0 0 ≡ 48 → None ≡ cut_number (decimal_of bytes)
+pub leading_zero : (b : ℕ) (bs : List ℕ) → 0 < length bs → b ≡ 48 → None ≡ cut_number (decimal_of (b ∷ bs))
 unfolding decimal_of
-leading_zero [] h k e = absurd (h refl)
-leading_zero (b ∷ []) h k e = absurd (k refl)
-leading_zero (b ∷ c ∷ bs) h k e = ap (λ (t : Bool). cut_number (when t (digits_from (b - 48) (c ∷ bs)))) (sym (not_both (is_digit b) (eqb b 48) (eq-eqb b 48 e)))
+leading_zero b [] h e = absurd (omega arith)
+leading_zero b (c ∷ bs) h e = ap (λ (t : Bool). cut_number (when t (digits_from (b - 48) (c ∷ bs)))) (sym (not_both (is_digit b) (eqb b 48) (eq-eqb b 48 e)))
 
-pub more_digits : (bytes : List ℕ) → (length bytes ≡ 0 → ⊥) → (length bytes ≡ 1 → ⊥) → (get_or bytes 0 0 ≡ 48 → ⊥) → digits_from 0 bytes ≡ decimal_of bytes
+pub more_digits : (b : ℕ) (bs : List ℕ) → 0 < length bs → (b ≡ 48 → ⊥) → digits_from 0 (b ∷ bs) ≡ decimal_of (b ∷ bs)
 unfolding decimal_of digits_from
-more_digits [] h k e = absurd (h refl)
-more_digits (b ∷ []) h k e = absurd (k refl)
-more_digits (b ∷ c ∷ bs) h k e =
+more_digits b [] h e = absurd (omega arith)
+more_digits b (c ∷ bs) h e =
     ap (λ (n : ℕ). when (is_digit b) (digits_from n (c ∷ bs))) (from_zero b)
     ∙ ap (λ (t : Bool). when t (digits_from (b - 48) (c ∷ bs))) (sym (both (is_digit b) (eqb b 48) (ne_eqb b 48 e)))

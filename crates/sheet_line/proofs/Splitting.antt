@@ -1,14 +1,20 @@
 -- The fields of a line are what its content is split into, and a split starts with what stands before the first space.
 -- Assumes nothing.
-use mathlib.Core.Path.{◌≡◌, refl, ap, sym, ◌∙◌}
-use mathlib.Core.Bool.{Bool, true, false, cond}
-use mathlib.Core.List.{List, [], ◌∷◌}
-use Prim.Native.Nat.{ℕ, zero, suc, ◌+◌, ◌-◌, ◌≤◌, ◌<◌}
+use mathlib.Core.Path.{◌≡◌, refl, ap, sym}
+use mathlib.Core.Bool.{Bool, true, false, not, ◌||◌, cond}
+use mathlib.Core.List.{List, [], ◌∷◌, ◌++◌}
+use Prim.Native.Nat.{ℕ, suc, ◌+◌, ◌-◌, ◌≤◌, ◌<◌}
 use native.Mathlib.Numerals.{add-one}
 use native.Mathlib.Omega.{arith}
 use lib.Dec.{eqb}
-use lib.ListN.{length, get_or, take, drop, length-drop, drop_of_length-le}
-use lib.Seq.{drop-cons, take_all}
+use lib.ListN.{length, take, drop, length-drop, length-append}
+use Rattle.std.specs.List.{position, position_or_len}
+use Rattle.std.specs.Prelude.{Option, Some, None}
+use lib.Dec.{ltb}
+use lib.Seq.{take_all}
+use Rattle.std.proofs.Math.Seq.{take-append_seam}
+use Rattle.std.specs.List.{list_any}
+use borrow.Author.Tests.{ltb-true, ltb-false}
 use borrow.Author.Tests.{eq-eqb, ne_eqb}
 use Rattle.sheet_text.specs.Line.{fields, joined}
 use Rattle.sheet_line.specs.Split.{content_length, first_at, first_space, split}
@@ -39,63 +45,62 @@ split_content (b ∷ []) = go (eqb b 10)
     go false = refl
 split_content (b ∷ c ∷ bs) = ap (λ (l : List (List ℕ)). cond (eqb b 32) ([] ∷ l) (joined b l)) (split_content (c ∷ bs))
 
--- k is the index of the last byte
-ended : (bytes : List ℕ) (k : ℕ) → suc k ≡ length bytes → get_or bytes k 0 ≡ 10 → k ≡ content_length bytes
+-- by the last byte
+ended : (content : List ℕ) (b : ℕ) → b ≡ 10 → content_length (content ++ b ∷ []) ≡ length content
 unfolding content_length
-ended [] k e h = absurd (omega arith)
-ended (b ∷ []) zero e h = rw (eq-eqb b 10 h)
-ended (b ∷ []) (suc k) e h = absurd (omega arith)
-ended (b ∷ c ∷ bs) zero e h = absurd (omega arith)
-ended (b ∷ c ∷ bs) (suc k) e h = ap suc (ended (c ∷ bs) k (omega arith) h)
+ended [] b e = rw (eq-eqb b 10 e) refl
+ended (a ∷ []) b e = rw (eq-eqb b 10 e) refl
+ended (a ∷ c ∷ bs) b e = ap suc (ended (c ∷ bs) b e)
 
-unended : (bytes : List ℕ) (k : ℕ) → suc k ≡ length bytes → (get_or bytes k 0 ≡ 10 → ⊥) → suc k ≡ content_length bytes
+unended : (content : List ℕ) (b : ℕ) → (b ≡ 10 → ⊥) → content_length (content ++ b ∷ []) ≡ suc (length content)
 unfolding content_length
-unended [] k e h = absurd (omega arith)
-unended (b ∷ []) zero e h = rw (ne_eqb b 10 h)
-unended (b ∷ []) (suc k) e h = absurd (omega arith)
-unended (b ∷ c ∷ bs) zero e h = absurd (omega arith)
-unended (b ∷ c ∷ bs) (suc k) e h = ap suc (unended (c ∷ bs) k (omega arith) h)
+unended [] b e = rw (ne_eqb b 10 e) refl
+unended (a ∷ []) b e = rw (ne_eqb b 10 e) refl
+unended (a ∷ c ∷ bs) b e = ap suc (unended (c ∷ bs) b e)
 
-pub with_line_end : (bytes : List ℕ) → (length bytes ≡ 0 → ⊥) → get_or bytes (length bytes - 1) 0 ≡ 10 → length bytes - 1 ≡ content_length bytes
-with_line_end bytes some h = ended bytes (length bytes - 1) (omega arith) h
+pub with_line_end : (bytes content : List ℕ) (b : ℕ) → bytes ≡ content ++ b ∷ [] → b ≡ 10 → content ≡ take (content_length bytes) bytes
+with_line_end bytes content b e h = rw (e, ended content b h) (sym (take-append_seam content (b ∷ [])))
 
-pub without_line_end : (bytes : List ℕ) → (length bytes ≡ 0 → ⊥) → (get_or bytes (length bytes - 1) 0 ≡ 10 → ⊥) → length bytes ≡ content_length bytes
-without_line_end bytes some h = let e : suc (length bytes - 1) ≡ length bytes = omega arith in sym e ∙ unended bytes (length bytes - 1) e h
+pub without_line_end : (bytes content : List ℕ) (b : ℕ) → bytes ≡ content ++ b ∷ [] → (b ≡ 10 → ⊥) → bytes ≡ take (content_length bytes) bytes
+without_line_end bytes content b e h =
+    let long : length bytes ≤ content_length bytes = rw (e, unended content b h) (omega (arith, length-append content (b ∷ []))) in
+    sym (take_all (content_length bytes) bytes long)
 
--- the first byte that is the one wanted, from i on
-pub record Seeking (wanted : ℕ) (bytes : List ℕ) (i : ℕ) : Type 0 where
-  pub within : i ≤ length bytes
-  pub first : i + first_at wanted (drop i bytes) ≡ first_at wanted bytes
+-- the first byte that is the one wanted
+pub first_is_position : (wanted : ℕ) (bytes : List ℕ) → first_at wanted bytes ≡ position_or_len (λ b. eqb b wanted) bytes
+unfolding first_at
+first_is_position wanted [] = refl
+first_is_position wanted (b ∷ bs) = go (eqb b wanted) (first_is_position wanted bs)
+  where
+    go : (t : Bool) → first_at wanted bs ≡ position_or_len (λ b. eqb b wanted) bs → cond t 0 (suc (first_at wanted bs)) ≡ cond (not t) (1 + position_or_len (λ b. eqb b wanted) bs) 0
+    go true e = refl
+    go false e = omega arith
 
-pub starts : (wanted : ℕ) (bytes : List ℕ) → Seeking wanted bytes 0
-starts wanted bytes = record { within = omega arith; first = omega arith }
+some_same : {m n : ℕ} → Some m ≡ Some n → m ≡ n
+some_same e = cc
 
-module _ (wanted : ℕ) (bytes : List ℕ) (i : ℕ) (s : Seeking wanted bytes i) where
-  here : i < length bytes → i + first_at wanted (get_or bytes i 0 ∷ drop (i + 1) bytes) ≡ first_at wanted bytes
-  here h =
-      ap (λ (j : ℕ). i + first_at wanted (get_or bytes i 0 ∷ drop j bytes)) (add-one i)
-      ∙ ap (λ (l : List ℕ). i + first_at wanted l) (sym (drop-cons bytes i 0 h))
-      ∙ s.first
+-- what is left from a place on, as a part of a slice has it
+pub rest_of : (bytes : List ℕ) (a : ℕ) → take (length bytes - a) (drop a bytes) ≡ drop a bytes
+rest_of bytes a = take_all (length bytes - a) (drop a bytes) (omega (arith, length-drop a bytes))
 
-  pub found : i < length bytes → get_or bytes i 0 ≡ wanted → i ≡ first_at wanted bytes
-  unfolding first_at
-  found h e =
-      let p : i + cond (eqb (get_or bytes i 0) wanted) 0 (suc (first_at wanted (drop (i + 1) bytes))) ≡ first_at wanted bytes = here h in
-      let q : i + 0 ≡ first_at wanted bytes = rw (eq-eqb (get_or bytes i 0) wanted e) at p in
-      omega arith
+abbrev found : ℕ → List ℕ → Option ℕ
+found wanted bytes = position (λ b. eqb b wanted) bytes
 
-  pub turn : i < length bytes → (get_or bytes i 0 ≡ wanted → ⊥) → Seeking wanted bytes (i + 1)
-  unfolding first_at
-  turn h e =
-      let p : i + cond (eqb (get_or bytes i 0) wanted) 0 (suc (first_at wanted (drop (i + 1) bytes))) ≡ first_at wanted bytes = here h in
-      let q : i + suc (first_at wanted (drop (i + 1) bytes)) ≡ first_at wanted bytes = rw (ne_eqb (get_or bytes i 0) wanted e) at p in
-      record { within = omega arith; first = omega arith }
+pub none_found : (wanted : ℕ) (bytes : List ℕ) → None ≡ found wanted bytes → length bytes ≤ first_at wanted bytes
+none_found wanted bytes e = go (ltb (position_or_len (λ b. eqb b wanted) bytes) (length bytes)) refl e
+  where
+    go : (t : Bool) → ltb (position_or_len (λ b. eqb b wanted) bytes) (length bytes) ≡ t → None ≡ cond t (Some (position_or_len (λ b. eqb b wanted) bytes)) None → length bytes ≤ first_at wanted bytes
+    go true k f = grind arith
+    go false k f = omega (arith, ltb-false _ _ k, first_is_position wanted bytes)
 
-  pub none : length bytes ≤ i → i ≡ first_at wanted bytes
-  unfolding first_at
-  none h =
-      let p : i + first_at wanted [] ≡ first_at wanted bytes = ap (λ (l : List ℕ). i + first_at wanted l) (sym (drop_of_length-le bytes h)) ∙ s.first in
-      omega arith
+pub one_found : (wanted : ℕ) (bytes : List ℕ) {at : ℕ} → Some at ≡ found wanted bytes → (first_at wanted bytes < length bytes) × (take at bytes ≡ take (first_at wanted bytes) bytes) × (take (length bytes - (at + 1)) (drop (at + 1) bytes) ≡ drop (suc (first_at wanted bytes)) bytes)
+one_found wanted bytes {at} e = go (ltb (position_or_len (λ b. eqb b wanted) bytes) (length bytes)) refl e
+  where
+    go : (t : Bool) → ltb (position_or_len (λ b. eqb b wanted) bytes) (length bytes) ≡ t → Some at ≡ cond t (Some (position_or_len (λ b. eqb b wanted) bytes)) None → (first_at wanted bytes < length bytes) × (take at bytes ≡ take (first_at wanted bytes) bytes) × (take (length bytes - (at + 1)) (drop (at + 1) bytes) ≡ drop (suc (first_at wanted bytes)) bytes)
+    go true k f =
+        let same : at ≡ first_at wanted bytes = omega (arith, first_is_position wanted bytes, some_same f) in
+        rw (rest_of bytes (at + 1), add-one at, same) (omega (arith, ltb-true _ _ k, first_is_position wanted bytes), refl, refl)
+    go false k f = grind arith
 
 -- what a split is
 no_space : (bytes : List ℕ) → length bytes ≤ first_space bytes → split bytes ≡ bytes ∷ []
@@ -107,28 +112,17 @@ no_space (b ∷ bs) h = go (eqb b 32) (no_space bs) h
     go true later k = absurd (omega arith)
     go false later k = ap (joined b) (later (omega arith))
 
-pub one_field : (bytes : List ℕ) {end : ℕ} → end ≡ first_space bytes → length bytes ≤ end → split bytes ≡ bytes ∷ []
-one_field bytes e h = no_space bytes (omega arith)
+pub one_field : (bytes : List ℕ) → length bytes ≤ first_space bytes → split bytes ≡ bytes ∷ []
+one_field bytes h = no_space bytes h
 
-split_at_first : (bytes : List ℕ) → first_space bytes < length bytes → split bytes ≡ take (first_space bytes) bytes ∷ split (drop (suc (first_space bytes)) bytes)
+pub first_field : (bytes : List ℕ) → first_space bytes < length bytes → split bytes ≡ take (first_space bytes) bytes ∷ split (drop (suc (first_space bytes)) bytes)
 unfolding split first_at
-split_at_first [] h = absurd (omega arith)
-split_at_first (b ∷ bs) h = go (eqb b 32) (split_at_first bs) h
+first_field [] h = absurd (omega arith)
+first_field (b ∷ bs) h = go (eqb b 32) (first_field bs) h
   where
     go : (t : Bool) → (first_space bs < length bs → split bs ≡ take (first_space bs) bs ∷ split (drop (suc (first_space bs)) bs)) → cond t 0 (suc (first_space bs)) < suc (length bs) → cond t ([] ∷ split bs) (joined b (split bs)) ≡ take (cond t 0 (suc (first_space bs))) (b ∷ bs) ∷ split (drop (suc (cond t 0 (suc (first_space bs)))) (b ∷ bs))
     go true later k = refl
     go false later k = ap (joined b) (later (omega arith))
-
--- what is left from a place on, as a part of a slice has it
-pub rest_of : (bytes : List ℕ) (a : ℕ) → take (length bytes - a) (drop a bytes) ≡ drop a bytes
-rest_of bytes a = take_all (length bytes - a) (drop a bytes) (omega (arith, length-drop a bytes))
-
-pub first_field :
-    (bytes : List ℕ) {end : ℕ}
-    → end ≡ first_space bytes
-    → end < length bytes
-    → split bytes ≡ take end bytes ∷ split (take (length bytes - (end + 1)) (drop (end + 1) bytes))
-first_field bytes {end} e h = rw (rest_of bytes (end + 1), add-one end, e) (split_at_first bytes (omega arith))
 
 pub some_field : (bytes : List ℕ) → 0 < length (split bytes)
 unfolding split
@@ -139,3 +133,26 @@ some_field (b ∷ bs) = go (eqb b 32) (split bs)
     go true l = omega arith
     go false [] = omega arith
     go false (f ∷ fs) = omega arith
+
+-- a space makes two fields, and no space one
+pub two_fields : (bytes : List ℕ) → list_any (λ y. eqb y 32) bytes ≡ true → 1 < length (split bytes)
+unfolding split
+two_fields [] h = let z : ◌≡◌ {A = ℕ} 0 1 = cc in absurd (omega arith)
+two_fields (b ∷ bs) h = go (eqb b 32) (some_field bs) (two_fields bs) h
+  where
+    go : (t : Bool) → 0 < length (split bs) → (list_any (λ y. eqb y 32) bs ≡ true → 1 < length (split bs)) → t || list_any (λ y. eqb y 32) bs ≡ true → 1 < length (cond t ([] ∷ split bs) (joined b (split bs)))
+    go true k later e = omega arith
+    go false k later e = onto (split bs) (later e)
+      where
+        onto : (l : List (List ℕ)) → 1 < length l → 1 < length (joined b l)
+        onto [] j = absurd (omega arith)
+        onto (f ∷ fs) j = omega arith
+
+pub no_space_split : (bytes : List ℕ) → list_any (λ y. eqb y 32) bytes ≡ false → split bytes ≡ bytes ∷ []
+unfolding split
+no_space_split [] h = refl
+no_space_split (b ∷ bs) h = go (eqb b 32) (no_space_split bs) h
+  where
+    go : (t : Bool) → (list_any (λ y. eqb y 32) bs ≡ false → split bs ≡ bs ∷ []) → t || list_any (λ y. eqb y 32) bs ≡ false → cond t ([] ∷ split bs) (joined b (split bs)) ≡ (b ∷ bs) ∷ []
+    go true later e = let z : ◌≡◌ {A = ℕ} 0 1 = cc in absurd (omega arith)
+    go false later e = ap (joined b) (later e)

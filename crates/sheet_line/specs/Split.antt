@@ -1,6 +1,7 @@
 -- The fields of a line as the code finds them: first the line end goes, then each field ends at the next space.
 -- Assumes nothing.
-use Rattle.std.specs.Prelude.{cond, List, [], ◌∷◌, ℕ, suc, eqb}
+use Rattle.std.specs.Prelude.{◌≡◌, cond, List, [], ◌∷◌, ℕ, suc, ◌≤◌, ◌<◌, eqb, length, take, drop, Option, MatchOption}
+use Rattle.std.specs.Borrow.{Bor}
 use Rattle.sheet_text.specs.Line.{joined}
 
 -- the length without a line end that is the last byte
@@ -21,3 +22,10 @@ first_space bytes = first_at 32 bytes
 unfoldable pub split : List ℕ → List (List ℕ)
 split [] = [] ∷ []
 split (b ∷ bs) = cond (eqb b 32) ([] ∷ split bs) (joined b (split bs))
+
+-- cut at the first byte that is the one wanted: what stands before it and what behind it, or nothing where there is none
+abbrev pub IsCutAt : Option (Bor (List ℕ) × Bor (List ℕ)) → ℕ → List ℕ → Type 0
+IsCutAt r wanted bytes =
+    MatchOption r
+    (length bytes ≤ first_at wanted bytes)
+    (λ x. (first_at wanted bytes < length bytes) × (x.0.now ≡ take (first_at wanted bytes) bytes) × (x.1.now ≡ drop (suc (first_at wanted bytes)) bytes))

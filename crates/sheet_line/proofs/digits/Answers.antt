@@ -1,35 +1,20 @@
 -- `sheet_line::digits` meets its contract: the digits passed gave n, and those left go on from it.
 -- Assumes nothing.
-use Prim.Native.Nat.{◌-◌}
-use native.Mathlib.Omega.{arith}
-use Rattle.sheet_line.proofs.Numbers.{starts, turn, low, high, ends}
+use Rattle.std.proofs.Common.{◌∙◌, sym}
+use Rattle.sheet_line.proofs.Numbers.{starts, turn, stops, ends}
 use Rattle.sheet_line.proofs.digits.Goals as goal
 
-pub loop-i-init : goal.loop-i-init
-loop-i-init c = starts c.args.before c.args.bytes.now c.requires
+pub loop-byte-init : goal.loop-byte-init
+loop-byte-init c = starts c.args.before c.args.bytes.now c.requires
 
-pub returns-then-byte-lt48 : goal.returns-then-byte-lt48
-returns-then-byte-lt48 c = low _ _ _ _ c.loop-i.invariant c.loop-i-test.true c.if-byte-lt48.true
-
-pub returns-then-byte-gt57 : goal.returns-then-byte-gt57
-returns-then-byte-gt57 c = high _ _ _ _ c.loop-i.invariant c.loop-i-test.true c.if-byte-gt57.true
-
-pub overflow_mul-n : goal.overflow_mul-n
-overflow_mul-n c = omega (arith, c.loop-i.invariant.small)
-
-pub overflow_cast-byte : goal.overflow_cast-byte
-overflow_cast-byte c = omega (arith, c.type_inv.bytes c.loop-i.i)
-
-pub overflow_add-n : goal.overflow_add-n
-overflow_add-n c = omega (arith, c.loop-i.invariant.small, c.if-byte-gt57.false)
-
-pub cut_off-n-requires : goal.cut_off-n-requires
-cut_off-n-requires c = tt
-
-pub loop-i-preserved : goal.loop-i-preserved
-loop-i-preserved c =
-    rw c.cut_off-n.ensures
-    (turn _ _ _ _ c.loop-i.invariant c.loop-i-test.true c.if-byte-lt48.false c.if-byte-gt57.false)
+pub returns-then-not-is_ascii_digit : goal.returns-then-not-is_ascii_digit
+returns-then-not-is_ascii_digit c =
+    stops _ _ _ _ c.loop-byte.invariant c.loop-byte-test.true (sym c.is_ascii_digit.ensures.value ∙ c.if-not-is_ascii_digit.true)
 
 pub returns : goal.returns
-returns c = ends _ _ _ _ c.loop-i.invariant c.loop-i-test.false
+returns c = ends _ _ _ _ c.loop-byte.invariant c.loop-byte-test.false
+
+pub loop-byte-preserved : goal.loop-byte-preserved
+loop-byte-preserved c =
+    rw (c.min-n.ensures, c.from.ensures)
+    (turn _ _ _ _ c.loop-byte.invariant c.loop-byte-test.true (sym c.is_ascii_digit.ensures.value ∙ c.if-not-is_ascii_digit.false))
