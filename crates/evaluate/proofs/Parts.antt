@@ -2,22 +2,17 @@
 -- Assumes nothing.
 use Rattle.std.specs.Prelude.{Ok, Err}
 use mathlib.Core.Path.{◌≡◌, refl}
-use mathlib.Core.Bool.{Bool, true, false, cond}
 use mathlib.Core.List.{List, [], ◌∷◌, Memᴰ}
 use Prim.Native.Nat.{ℕ, zero, suc, ◌<◌}
 use native.Mathlib.Omega.{arith}
-use lib.Dec.{ltb}
-use lib.Ieee.{Float, binary64, nan, of_int}
+use lib.Ieee.{Float}
 use lib.ListN.{length, get_or, take}
-use Rattle.refusals.specs.Refusals.{not_literal, no_value}
-use Rattle.literal.specs.Literal.{is_literal}
-use Rattle.double.specs.Double.{double_of}
 use Rattle.double.specs.Double.{Valued}
 use Rattle.pool.specs.Nodes.{parts}
 use Rattle.pool.specs.declared.node.Node.{Node}
 use Rattle.pool.specs.declared.node.Node.TheVariants.{Empty, Variable, Lit, Add, Mul, Div, Exp, Log, Pow, Max}
 use Rattle.walks.specs.Evaluate.{one, both, evaluate_node}
-use Rattle.evaluate.specs.Keeps.{in_table, PartsBelow}
+use Rattle.evaluate.specs.Keeps.{PartsBelow}
 
 -- the parts in their order, up to the first that is refused
 abbrev pub in_turn : (ℕ → Valued) → List ℕ → Valued → Valued
@@ -49,15 +44,6 @@ refused_in_turn down last (a ∷ more) (suc j) h done e =
 pub part_below : {n arm : Node} {a k : ℕ} → n ≡ arm → PartsBelow k n → Memᴰ a (parts arm) → a < k
 part_below {a = a} is below m = below a (rw is m)
 
--- a refusal has a number above 0, and so is told from a value
-abbrev pub Numbered : Valued → Type 0
-Numbered (Ok x) = Unit
-Numbered (Err k) = 0 < k
-
-either_numbered : (t : Bool) (x : Float) (k : ℕ) → 0 < k → Numbered (cond t (Ok x) (Err k))
-either_numbered true x k h = tt
-either_numbered false x k h = h
-
 module _ (values : List Float) where
   -- a node comes to its own value once its parts have theirs
   pub parts_first : (down : ℕ → Valued) (n : Node) → evaluate_node values down n ≡ in_turn down (parts n) (evaluate_node values down n)
@@ -71,17 +57,3 @@ module _ (values : List Float) where
   parts_first down (Log a) = one_again (down a) _
   parts_first down (Pow a e) = one_again (down a) _
   parts_first down (Max a b) = both_again (down a) (down b) _
-
-  -- the parts having values
-  pub numbered : (kept : List Float) (n : Node) → Numbered (evaluate_node values (in_table kept) n)
-  unfolding double_of
-  numbered kept Empty = omega arith
-  numbered kept (Variable v) = either_numbered (ltb v (length values)) (get_or values v nan) no_value (omega arith)
-  numbered kept (Lit z) = either_numbered (is_literal z) (of_int binary64 z) not_literal (omega arith)
-  numbered kept (Add a b) = tt
-  numbered kept (Mul a b) = tt
-  numbered kept (Div a b) = tt
-  numbered kept (Exp a) = omega arith
-  numbered kept (Log a) = omega arith
-  numbered kept (Pow a e) = tt
-  numbered kept (Max a b) = tt

@@ -1,6 +1,5 @@
 -- `evaluate::value_at` meets its contract: each part has a smaller number, so that the walk ends; the loop goes over the parts, and what is then joined is the node's value.
 -- Assumes nothing.
-use Prim.Native.Nat.{◌-◌}
 use Rattle.pool.specs.Pool.{node_in}
 use Rattle.evaluate.proofs.Walking.{Turned}
 use Rattle.evaluate.proofs.+value_at.Given as goal
@@ -8,9 +7,6 @@ use Rattle.evaluate.proofs.+value_at.Given as goal
 abbrev pub decreases-value_at : goal.decreases-value_at
 decreases-value_at l = l.i
 
-abbrev pub invariant-loop-j : goal.invariant-loop-j
-invariant-loop-j l =
-    Turned (node_in l.kinds l.words) l.values l.i l.node l.initial.kept l.kept l.seen l.j l.part
-
-abbrev pub decreases-loop-j : goal.decreases-loop-j
-decreases-loop-j l = l.parts.count - l.j
+abbrev pub invariant-loop : goal.invariant-loop
+invariant-loop l =
+    Turned (node_in l.kinds l.words) l.values l.i l.node l.initial.kept l.kept l.seen l.counter l.part
