@@ -16,7 +16,7 @@ use Rattle.constructor_laws.specs.Keeps.{Keeps}
 use Rattle.taylor.specs.Work.{Result, Work, at}
 use Rattle.taylor.specs.Expansion.{Expansion, endless}
 use Rattle.taylor.specs.declared.expansion.Expansion.TheVariants.{Constant, Polynomial}
-use Rattle.taylor_base.specs.Answers.{terms}
+use Rattle.taylor.specs.Coefficients.{terms}
 use Rattle.taylor_rules.specs.Kept.{Fits}
 use Rattle.lent.specs.Call.{Returned, returned, leaves, lent_pool, demand}
 use Rattle.lent.proofs.Finishing.{and_left, and_right}

@@ -23,7 +23,7 @@ use Rattle.taylor.specs.Work.{Result, Work}
 use Rattle.taylor.specs.Expansion.{Expansion, add_to, power}
 use Rattle.taylor.specs.declared.expansion.Expansion.TheVariants.{Constant}
 use Rattle.taylor.specs.Expand.{Kept, State, state, Went, Point, is_point, expand_below, expanded, expand}
-use Rattle.taylor_base.specs.Answers.{terms}
+use Rattle.taylor.specs.Coefficients.{terms}
 use Rattle.taylor_rules.proofs.Theorems.{expand_kept}
 use Rattle.lent.specs.Call.{lent_pool}
 use Rattle.lent_series.specs.declared.call.Outcome.{Outcome}

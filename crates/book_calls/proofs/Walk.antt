@@ -27,7 +27,7 @@ use Rattle.taylor.specs.Work as work
 use Rattle.taylor.specs.Expansion.{Expansion, order, var, add_to, times, quotient, exponential, logarithm, power}
 use Rattle.taylor.specs.declared.expansion.Expansion.TheVariants.{Constant}
 use Rattle.taylor.specs.Expand.{Kept, State, state, Went, Walk, bind, keep, once, lifted, lift, Point, point_node, of_variable, expand_node, expand_at, expand_below}
-use Rattle.taylor_base.specs.Answers.{terms}
+use Rattle.taylor.specs.Coefficients.{terms}
 use Rattle.taylor_rules.specs.Kept.{nodes_of, Fits}
 use Rattle.taylor_rules.proofs.Nodes.{KeptAs, Keeping, next_keeps}
 use Rattle.taylor_rules.proofs.Operations.{Within, Series, var_keeps, add_to_keeps, times_keeps, quotient_keeps, exponential_keeps, logarithm_keeps}

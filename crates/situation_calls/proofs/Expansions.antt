@@ -17,7 +17,7 @@ use Rattle.shape.specs.Demand.{KeepsRules}
 use Rattle.taylor.specs.Work.{Result, Work}
 use Rattle.taylor.specs.Expansion.{Expansion, order, var, coeff, derivative, negate, exponential, logarithm, power, add_to, sub_from, times, quotient, maximum, subst}
 use Rattle.taylor.specs.Expand.{Point, expand}
-use Rattle.taylor_base.specs.Answers.{terms}
+use Rattle.taylor.specs.Coefficients.{terms}
 use Rattle.lent.specs.Call.{leaves, lent_pool, demand, on_pool}
 use Rattle.lent_series.specs.declared.series.Series.{Series}
 use Rattle.lent_series.specs.Series.{nodes_of, length_ok, given}

@@ -7,7 +7,7 @@ use Rattle.pool.specs.Pool.{Run, is_pool}
 use Rattle.constructors.specs.Build.{calls, depth}
 use Rattle.shape.specs.File.{is_sized, are_nodes, is_in_order, read_file}
 use Rattle.taylor.specs.Expansion.{Expansion, coeff, derivative, negate, exponential, logarithm, power, add_to, sub_from, times, quotient, maximum, subst}
-use Rattle.taylor_base.specs.Answers.{terms}
+use Rattle.taylor.specs.Coefficients.{terms}
 use Rattle.lent.specs.Answer.{Answer}
 use Rattle.lent.specs.Answer.{Written}
 use Rattle.lent.specs.Call.{on_pool, given_nodes}

@@ -1,5 +1,6 @@
 -- A walk that builds, from a node that stands in a pool by the rules: it reads only nodes that stood there before the call, so it never comes to no node, and it refuses by what is done at a node only.
 -- So for substitution and derivation. Assumes nothing.
+use Rattle.std.specs.Prelude.{Option, Some, None}
 use mathlib.Core.Path.{refl, subst⁻¹}
 use mathlib.Core.Logic.{inl, inr}
 use mathlib.Core.Bool.{Bool, true, false, ◌&&◌, cond}

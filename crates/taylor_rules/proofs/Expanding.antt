@@ -24,7 +24,7 @@ use Rattle.taylor.specs.Expansion.{Expansion, order, times, pow_from, power, end
 use Rattle.taylor.specs.declared.expansion.Expansion.TheVariants.{Constant}
 use Rattle.taylor.specs.Expand.{State, Went, Walk, bind, lift, Point, point_node, of_variable, expand_node, expand_at, expand}
 use Rattle.taylor_laws.proofs.Walking.{Good, Walked, ended_walk, Walks, walked_next, walked_here, both_walked, lift_walked, expand_gives}
-use Rattle.taylor_base.specs.Answers.{terms}
+use Rattle.taylor.specs.Coefficients.{terms}
 use Rattle.taylor_rules.specs.Kept.{ExpandedOrder}
 use Rattle.taylor_rules.proofs.Nodes.{KeptAs, Keeping, yield_keeps, next_keeps, said_as, node_keeps, lit_keeps, from_keeps}
 use Rattle.taylor_rules.proofs.Nodes as nodes

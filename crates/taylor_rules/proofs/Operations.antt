@@ -15,7 +15,7 @@ use Rattle.constructor_laws.proofs.Rules.{AllBelow, all_below_more}
 use Rattle.taylor.specs.Work.{Work, bind, yield, from, add, mul, at}
 use Rattle.taylor.specs.Expansion.{Expansion, polynomial, constant, var_coeffs, var, coeff, order, derivative, add_to, negate, sub_from, product_at, times, quotient_at, quotient, exp_at, exponential, log_at, logarithm, pow_from, power, maximum, horner, subst, endless}
 use Rattle.taylor.specs.declared.expansion.Expansion.TheVariants.{Constant, Polynomial}
-use Rattle.taylor_base.specs.Answers.{terms}
+use Rattle.taylor.specs.Coefficients.{terms}
 use Rattle.taylor_rules.specs.Kept.{nodes_of, power_order, subst_order}
 use Rattle.taylor_rules.proofs.Nodes.{Keeping, yield_keeps, refuse_keeps, next_keeps, Node, Nodes, at_below, nodes_as, from_keeps, add_keeps, mul_keeps, div_keeps, max_keeps, neg_keeps, sub_keeps, exp_keeps, log_keeps, each_keeps, first_keeps, two_keep, fold_keeps, fill_keeps}
 

@@ -11,7 +11,7 @@ use Rattle.constructor_laws.proofs.Giving.{gave, ended, gives_kept}
 use Rattle.taylor.specs.Work.{Result, Work}
 use Rattle.taylor.specs.Expansion.{Expansion, order, var, coeff, derivative, add_to, negate, sub_from, times, quotient, exponential, logarithm, power, maximum, subst}
 use Rattle.taylor.specs.Expand.{Point, expand}
-use Rattle.taylor_base.specs.Answers.{terms}
+use Rattle.taylor.specs.Coefficients.{terms}
 use Rattle.taylor_rules.specs.Kept.{nodes_of, Fits, KeptBy, NodeKeptBy, power_order, subst_order, ExpandedOrder}
 use Rattle.taylor_rules.proofs.Nodes.{KeptAs, Keeping, Node}
 use Rattle.taylor_rules.proofs.Operations.{Within, Series, var_keeps, coeff_keeps, derivative_keeps, add_to_keeps, negate_keeps, sub_from_keeps, times_keeps, quotient_keeps, exponential_keeps, logarithm_keeps, power_keeps, maximum_keeps, subst_keeps}

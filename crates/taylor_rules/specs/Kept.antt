@@ -9,7 +9,7 @@ use Rattle.constructor_laws.specs.Keeps as nodes
 use Rattle.taylor.specs.Work.{Result}
 use Rattle.taylor.specs.Expansion.{Expansion, order, endless}
 use Rattle.taylor.specs.declared.expansion.Expansion.TheVariants.{Constant, Polynomial}
-use Rattle.taylor_base.specs.Answers.{terms}
+use Rattle.taylor.specs.Coefficients.{terms}
 
 abbrev pub nodes_of : Expansion → List ℕ
 nodes_of (Constant c) = c ∷ []
