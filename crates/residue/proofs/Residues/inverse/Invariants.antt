@@ -1,7 +1,7 @@
 -- `residue::inverse` meets its contract: the loop keeps Euclid's invariant, and its end decides between the inverse and none.
 -- The measure is the second remainder. Assumes nothing.
 use Rattle.residue.proofs.Euclid.{Euclid}
-use Rattle.residue.proofs.inverse.Given as goal
+use Rattle.residue.proofs.Residues.inverse.Given as goal
 
 abbrev pub invariant-loop-r1 : goal.invariant-loop-r1
 invariant-loop-r1 l = Euclid l.m l.d l.r0 l.r1 l.t0 l.t1
