@@ -1,4 +1,3 @@
 pub mod Modulo
-pub mod Numbers
 pub mod Theorems
 pub mod Walk

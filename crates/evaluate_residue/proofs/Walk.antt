@@ -1,6 +1,6 @@
 -- What the walk's code does at a node is what the definition does: the parts are done one after the other, the first refusal ends the node, and what is kept of all parts is joined.
 -- Assumes nothing.
-use Rattle.std.specs.Prelude.{Ok, Err}
+use Rattle.std.specs.Prelude.{Result, Ok, Err}
 use mathlib.Core.Path.{◌≡◌, refl, sym, ap, ◌∙◌}
 use mathlib.Core.List.{List, [], ◌∷◌, Memᴰ}
 use Prim.Native.Nat.{ℕ, zero, suc, ◌+◌, ◌<◌, ◌≤◌}
@@ -25,8 +25,13 @@ use Rattle.walks.proofs.Keeping.{none_kept, one_more_kept}
 use Rattle.evaluate_residue.specs.Residues.{Residues}
 use Rattle.evaluate_residue.specs.Keeps.{Keeps, Marked, kept_of, part_at, Ready, Walked}
 use Rattle.evaluate_residue.proofs.Modulo.{residue_is_below}
-use Rattle.evaluate_residue.proofs.Numbers.{refused_by_number}
 use Rattle.evaluate_residue.proofs.Theorems.{goes_by_parts}
+
+ok_is_no_refusal : {A : Type 0} {x : A} {k : ℕ} → Ok x ≡ Err k → ⊥
+ok_is_no_refusal e = let clash : ◌≡◌ {A = ℕ} 0 1 = cc in omega arith
+
+same_refusal : {A B : Type 0} {k k' : ℕ} → ◌≡◌ {A = Result A ℕ} (Err k) (Err k') → ◌≡◌ {A = Result B ℕ} (Err k) (Err k')
+same_refusal {B = B} {k} {k'} e = let same : k ≡ k' = cc in ap {B = Result B ℕ} Err same
 
 -- what holds at each place of a list holds of each entry
 each_entry : (P : ℕ → Type 0) (l : List ℕ) → ((h : ℕ) → h < length l → P (get_or l h 0)) → (a : ℕ) → Memᴰ a l → P a
@@ -35,9 +40,6 @@ each_entry P (b ∷ l) all a (Memᴰ.head e) = rw e (all 0 (omega arith))
 each_entry P (b ∷ l) all a (Memᴰ.tail more) = each_entry P l (λ h s. all (suc h) (omega arith)) a more
 
 -- a node was matched as an arm's
-pub of_the_arm : {r : Divided} {n arm : Node} (m : ℕ) (values : List ℕ) (down : ℕ → Divided) → n ≡ arm → r ≡ residue_node m values down arm → r ≡ residue_node m values down n
-of_the_arm m values down told h = h ∙ ap (residue_node m values down) (sym told)
-
 pub ready_at : {m : ℕ} {n arm : Node} {kept : List ℕ} → n ≡ arm → Ready m n kept → Ready m arm kept
 ready_at told ready = rw told at ready
 
@@ -96,9 +98,9 @@ pub record Going (m : ℕ) (at : ℕ → Node) (values before : List ℕ) (i : �
 
 module _ {m : ℕ} {at : ℕ → Node} {values kept seen : List ℕ} (i : ℕ) (keeps : Keeps m at values kept seen) where
   -- a node that is marked is done
-  pub kept_before : Marked seen i → Walked m at values seen i 0 kept seen
+  pub kept_before : Marked seen i → Walked m at values seen i (Ok tt) kept seen
   kept_before mark =
-      record { done = λ e. mark; refused = λ other. absurd (other refl); stay = λ a h. h; keeps = keeps }
+      record { done = λ e. mark; refused = λ k e. absurd (ok_is_no_refusal e); stay = λ a h. h; keeps = keeps }
 
   pub first_part : {p : CountedParts} (n : Node) → Counted (parts n) p → Going m at values seen i n p kept seen 0 p.left
   first_part n e =
@@ -119,7 +121,7 @@ module _ {m : ℕ} {at : ℕ → Node} {values before kept seen : List ℕ} {i j
   few_parts = going.listed.few
 
   -- a part is done: on to the right one
-  pub next_part : {r : ℕ} {kept' seen' : List ℕ} → j < p.count → part < i → Walked m at values seen part r kept' seen' → r ≡ 0 → Going m at values before i n p kept' seen' (j + 1) p.right
+  pub next_part : {r : Result Unit ℕ} {kept' seen' : List ℕ} → j < p.count → part < i → Walked m at values seen part r kept' seen' → r ≡ Ok tt → Going m at values before i n p kept' seen' (j + 1) p.right
   next_part {seen' = seen'} less smaller walked e =
       record {
         listed = going.listed;
@@ -152,21 +154,21 @@ module _ {m : ℕ} {at : ℕ → Node} {values before kept seen : List ℕ} {i j
         ∙ first_refusal_lem m values (residue_below m at values i) kept k n j done_is_kept (omega (arith, number_of_parts)) (rw (going.next less) at e)
 
     -- a part whose number is no smaller
-    pub broken : j < p.count → i ≤ part → Walked m at values before i broken_pool kept seen
+    pub broken : j < p.count → i ≤ part → Walked m at values before i (Err broken_pool) kept seen
     broken less h =
         record {
-          done = λ e. absurd (omega arith);
-          refused = λ other. part_refused less (past_the_bound m at values i part h);
+          done = λ e. absurd (ok_is_no_refusal (sym e));
+          refused = λ k e. part_refused less (past_the_bound m at values i part h ∙ same_refusal e);
           stay = going.stay;
           keeps = going.keeps;
         }
 
     -- a part that was refused
-    pub handed_on : {r : ℕ} {kept' seen' : List ℕ} → j < p.count → part < i → Walked m at values seen part r kept' seen' → (r ≡ 0 → ⊥) → Walked m at values before i r kept' seen'
+    pub handed_on : {r : Result Unit ℕ} {k : ℕ} {kept' seen' : List ℕ} → j < p.count → part < i → Walked m at values seen part r kept' seen' → r ≡ Err k → Walked m at values before i (Err k) kept' seen'
     handed_on less smaller walked other =
         record {
-          done = λ e. absurd (other e);
-          refused = λ o. part_refused less (under_the_bound m at values i part smaller (walked.refused o));
+          done = λ e. absurd (ok_is_no_refusal (sym e));
+          refused = λ k e. part_refused less (under_the_bound m at values i part smaller (walked.refused _ (other ∙ e)));
           stay = λ a mark. walked.stay a (going.stay a mark);
           keeps = walked.keeps;
         }
@@ -188,13 +190,13 @@ module _ {m : ℕ} {at : ℕ → Node} {values before kept seen : List ℕ} {i j
             (each_entry (λ a. kept_of kept a ≡ residue_below m at values i a) (parts n) (λ h s. sym (done_is_kept h (omega (arith, number_of_parts)))))
             ∙ visited
 
-        pub newly_kept : {x : ℕ} → found ≡ Ok x → Walked m at values before i 0 (set kept i x) (set seen i 1)
+        pub newly_kept : {x : ℕ} → found ≡ Ok x → Walked m at values before i (Ok tt) (set kept i x) (set seen i 1)
         newly_kept {x} e =
             let keeps = going.keeps in
             let within : i < length seen = omega (arith, keeps.long) in
             record {
               done = λ e. marked_here seen i within;
-              refused = λ other. absurd (other refl);
+              refused = λ k other. absurd (ok_is_no_refusal other);
               stay = λ a mark. marked_still seen i within a (going.stay a mark);
               keeps =
                   record {
@@ -203,22 +205,19 @@ module _ {m : ℕ} {at : ℕ → Node} {values before kept seen : List ℕ} {i j
                   };
             }
 
-        pub node_refused : {k : ℕ} → found ≡ Err k → Walked m at values before i k kept seen
+        pub node_refused : {k : ℕ} → found ≡ Err k → Walked m at values before i (Err k) kept seen
         node_refused e =
             record {
-              done = λ none. absurd (refused_by_number m values kept n e joined none);
-              refused = λ other. sym found_is_the_residue ∙ e;
+              done = λ none. absurd (ok_is_no_refusal (sym none));
+              refused = λ k z. sym found_is_the_residue ∙ e ∙ same_refusal z;
               stay = going.stay;
               keeps = going.keeps;
             }
 
 -- the answer of a whole walk
-module _ {m : ℕ} {at : ℕ → Node} {values before kept seen : List ℕ} {i r : ℕ} (walked : Walked m at values before i r kept seen) where
-  pub answered_kept : i < limit → r ≡ 0 → kept_of kept i ≡ evaluate_residue m at values i
+module _ {m : ℕ} {at : ℕ → Node} {values before kept seen : List ℕ} {i : ℕ} {r : Result Unit ℕ} (walked : Walked m at values before i r kept seen) where
+  pub answered_kept : i < limit → r ≡ Ok tt → kept_of kept i ≡ evaluate_residue m at values i
   answered_kept inside e = sym (walked.keeps.right.marked i 0 inside (walked.done e))
-
-  pub answered_refused : (r ≡ 0 → ⊥) → Err r ≡ evaluate_residue m at values i
-  answered_refused other = sym (walked.refused other)
 
 pub nothing_kept : (m : ℕ) (at : ℕ → Node) (values : List ℕ) → Keeps m at values (replicate limit 0) (replicate limit 0)
 nothing_kept m at values = record { right = none_kept (λ j x. evaluate_residue m at values j ≡ Ok x) 0; long = length-replicate {A = ℕ} limit 0 }

@@ -1,6 +1,6 @@
 -- How the code walks: the tables that it keeps, and what a walk leaves. No public contract cites these.
 -- Assumes nothing.
-use Rattle.std.specs.Prelude.{◌≡◌, List, ℕ, ◌<◌, length, get_or, Ok, Err}
+use Rattle.std.specs.Prelude.{◌≡◌, List, ℕ, ◌<◌, length, get_or, Result, Ok, Err}
 use Rattle.residue.specs.Residue.{Divided}
 use Rattle.pool.specs.Nodes.{parts}
 use Rattle.pool.specs.Pool.{limit}
@@ -28,9 +28,9 @@ pub record Ready (m : ℕ) (n : Node) (kept : List ℕ) : Type 0 where
   pub inside : (h : ℕ) → h < length (parts n) → part_at n h < limit
   pub below : (h : ℕ) → h < length (parts n) → get_or kept (part_at n h) 0 < m
 
--- a walk from node i that answered r, from the marks before to the tables after: 0 says that the residue is kept, another number is the refusal
-pub record Walked (m : ℕ) (at : ℕ → Node) (values before : List ℕ) (i r : ℕ) (kept seen : List ℕ) : Type 0 where
-  pub done : r ≡ 0 → Marked seen i
-  pub refused : (r ≡ 0 → ⊥) → evaluate_residue m at values i ≡ Err r
+-- a walk from node i that answered r, from the marks before to the tables after: the residue is kept, or it is refused
+pub record Walked (m : ℕ) (at : ℕ → Node) (values before : List ℕ) (i : ℕ) (r : Result Unit ℕ) (kept seen : List ℕ) : Type 0 where
+  pub done : r ≡ Ok tt → Marked seen i
+  pub refused : (k : ℕ) → r ≡ Err k → evaluate_residue m at values i ≡ Err k
   pub stay : (j : ℕ) → Marked before j → Marked seen j
   pub keeps : Keeps m at values kept seen

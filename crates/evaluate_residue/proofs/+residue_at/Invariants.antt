@@ -1,6 +1,5 @@
 -- The walk of an evaluation by residues meets its contract: after each part the loop is where the definition is, and what is kept stays right.
 -- Assumes nothing.
-use Prim.Native.Nat.{◌-◌}
 use Rattle.pool.specs.Pool.{node_in}
 use Rattle.evaluate_residue.proofs.Walk.{Going}
 use Rattle.evaluate_residue.proofs.+residue_at.Given as goal
@@ -9,9 +8,6 @@ use Rattle.evaluate_residue.proofs.+residue_at.Given as goal
 abbrev pub decreases-residue_at : goal.decreases-residue_at
 decreases-residue_at l = l.i
 
-abbrev pub invariant-loop-j : goal.invariant-loop-j
-invariant-loop-j l =
-    Going l.m (node_in l.kinds l.words) l.values l.initial.seen l.i l.node l.parts l.kept l.seen l.j l.part
-
-abbrev pub decreases-loop-j : goal.decreases-loop-j
-decreases-loop-j l = l.parts.count - l.j
+abbrev pub invariant-loop : goal.invariant-loop
+invariant-loop l =
+    Going l.m (node_in l.kinds l.words) l.values l.initial.seen l.i l.node l.parts l.kept l.seen l.counter l.part

