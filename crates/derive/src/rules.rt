@@ -1,14 +1,15 @@
 // What is made of the parts of a node and their derivatives, by its kind.
-ghost use Rattle.std.specs.Prelude.{◌≡◌, cond, List, ℕ, ◌-◌, eqb, pos};
-ghost use Rattle.pool.specs.Made.{made, pool_of};
+ghost use Rattle.std.specs.Prelude.{◌≡◌, cond, List, Option, ℕ, eqb, pos};
+ghost use Rattle.pool.specs.Made.{made};
 ghost use Rattle.walks.specs.Walk.{state, lifted};
 ghost use Rattle.walks.specs.Derive.{lit};
 ghost use Rattle.derive.specs.Rules.{product_rule, power_rule, rule_two, rule_one};
 
 use constructors::DEPTH;
-use pool::{LIMIT, Made, Room};
+use pool::Pool;
+use refusals::Refusal;
 
-// The kinds of nodes with two parts that have a derivative.
+// The kinds of nodes with two parts that have a derivative. The constructors' `Two` has Max as well, and would want an arm that is never taken.
 #[derive(Clone, Copy)]
 pub enum Two {
     Add,
@@ -16,7 +17,7 @@ pub enum Two {
     Div,
 }
 
-// The kinds of nodes with one part.
+// The kinds of nodes with one part. The constructors' `One` has Neg as well, which is no kind of node.
 #[derive(Clone, Copy)]
 pub enum One {
     Exp,
@@ -35,126 +36,49 @@ pub fn slope(v: u32, var: u32) -> i64
 }
 
 // lit(z)
-pub fn lit_rule(kinds: &mut [u8; LIMIT], words: &mut [u64; LIMIT], room: Room, z: i64) -> Made
-    ensures { (kept : List ℕ) → lifted kept (made result kinds.new words.new) ≡ lit z (state (pool_of kinds.old words.old room) kept) }
+pub fn lit_rule(pool: &mut Pool, z: i64) -> Result<u32, Refusal>
+    ensures { (kept : List (Option ℕ)) → lifted kept (made result pool.new) ≡ lit z (state pool.old kept) }
 {
-    adds::lit_in(kinds, words, room, literal::fold(z))
+    adds::lit_in(pool, literal::fold(z))
 }
 
 // x = mul(a, db); y = mul(b, da); add(x, y)
-fn product_rule(
-    kinds: &mut [u8; LIMIT],
-    words: &mut [u64; LIMIT],
-    room: Room,
-    a: u32,
-    b: u32,
-    da: u32,
-    db: u32,
-) -> Made
-    ensures { (kept : List ℕ) → lifted kept (made result kinds.new words.new) ≡ product_rule a b da db (state (pool_of kinds.old words.old room) kept) }
+fn product_rule(pool: &mut Pool, a: u32, b: u32, da: u32, db: u32) -> Result<u32, Refusal>
+    ensures { (kept : List (Option ℕ)) → lifted kept (made result pool.new) ≡ product_rule a b da db (state pool.old kept) }
 {
-    let first = muls::mul_in(kinds, words, room, DEPTH, a, db);
-    let Made::Node {
-        node: x,
-        room: more,
-    } = first
-    else {
-        return first;
-    };
-    let second = muls::mul_in(kinds, words, more, DEPTH, b, da);
-    let Made::Node {
-        node: y,
-        room: rest,
-    } = second
-    else {
-        return second;
-    };
-    adds::add_in(kinds, words, rest, DEPTH, x, y)
-}
-
-// exp - 1; no Pow has the exponent 0
-fn one_less(exp: u32) -> u32
-    ensures { result ≡ exp - 1 }
-{
-    if exp == 0 {
-        return 0;
-    }
-    exp - 1
+    let x = muls::mul_in(pool, DEPTH, a, db)?;
+    let y = muls::mul_in(pool, DEPTH, b, da)?;
+    adds::add_in(pool, DEPTH, x, y)
 }
 
 // p = pow(a, exp - 1); tmp = lit(exp); tmp = mul(tmp, da); mul(tmp, p)
-fn power_rule(
-    kinds: &mut [u8; LIMIT],
-    words: &mut [u64; LIMIT],
-    room: Room,
-    a: u32,
-    exp: u32,
-    da: u32,
-) -> Made
-    ensures { (kept : List ℕ) → lifted kept (made result kinds.new words.new) ≡ power_rule a exp da (state (pool_of kinds.old words.old room) kept) }
+fn power_rule(pool: &mut Pool, a: u32, exp: u32, da: u32) -> Result<u32, Refusal>
+    ensures { (kept : List (Option ℕ)) → lifted kept (made result pool.new) ≡ power_rule a exp da (state pool.old kept) }
 {
-    let power = muls::pow_in(kinds, words, room, DEPTH, a, one_less(exp));
-    let Made::Node {
-        node: p,
-        room: room1,
-    } = power
-    else {
-        return power;
-    };
-    let factor = lit_rule(kinds, words, room1, exp as i64);
-    let Made::Node {
-        node: n,
-        room: room2,
-    } = factor
-    else {
-        return factor;
-    };
-    let inner = muls::mul_in(kinds, words, room2, DEPTH, n, da);
-    let Made::Node {
-        node: t,
-        room: room3,
-    } = inner
-    else {
-        return inner;
-    };
-    muls::mul_in(kinds, words, room3, DEPTH, t, p)
+    let p = muls::pow_in(pool, DEPTH, a, exp.saturating_sub(1))?;
+    let n = lit_rule(pool, exp as i64)?;
+    let t = muls::mul_in(pool, DEPTH, n, da)?;
+    muls::mul_in(pool, DEPTH, t, p)
 }
 
 // The rule of a node of two parts.
-pub fn rule_two(
-    kinds: &mut [u8; LIMIT],
-    words: &mut [u64; LIMIT],
-    room: Room,
-    op: Two,
-    a: u32,
-    b: u32,
-    da: u32,
-    db: u32,
-) -> Made
-    ensures { (kept : List ℕ) → lifted kept (made result kinds.new words.new) ≡ rule_two op a b da db (state (pool_of kinds.old words.old room) kept) }
+pub fn rule_two(pool: &mut Pool, op: Two, a: u32, b: u32, da: u32, db: u32) -> Result<u32, Refusal>
+    ensures { (kept : List (Option ℕ)) → lifted kept (made result pool.new) ≡ rule_two op a b da db (state pool.old kept) }
 {
     match op {
-        Two::Add => adds::add_in(kinds, words, room, DEPTH, da, db),
-        Two::Mul => product_rule(kinds, words, room, a, b, da, db),
-        Two::Div => crate::quotient::quotient_rule(kinds, words, room, a, b, da, db),
+        Two::Add => adds::add_in(pool, DEPTH, da, db),
+        Two::Mul => product_rule(pool, a, b, da, db),
+        Two::Div => crate::quotient::quotient_rule(pool, a, b, da, db),
     }
 }
 
 // The rule of a node of one part.
-pub fn rule_one(
-    kinds: &mut [u8; LIMIT],
-    words: &mut [u64; LIMIT],
-    room: Room,
-    op: One,
-    term: u32,
-    a: u32,
-    da: u32,
-) -> Made
-    ensures { (kept : List ℕ) → lifted kept (made result kinds.new words.new) ≡ rule_one op term a da (state (pool_of kinds.old words.old room) kept) }
+pub fn rule_one(pool: &mut Pool, op: One, term: u32, a: u32, da: u32) -> Result<u32, Refusal>
+    ensures { (kept : List (Option ℕ)) → lifted kept (made result pool.new) ≡ rule_one op term a da (state pool.old kept) }
 {
     match op {
-        One::Exp => muls::mul_in(kinds, words, room, DEPTH, da, term),
-        One::Log => logs::div_in(kinds, words, room, DEPTH, da, a),
-        One::Pow(e) => power_rule(kinds, words, room, a, e, da),
+        One::Exp => muls::mul_in(pool, DEPTH, da, term),
+        One::Log => logs::div_in(pool, DEPTH, da, a),
+        One::Pow(e) => power_rule(pool, a, e, da),
     }
 }

@@ -1,6 +1,6 @@
-// The walk: a kept derivative is given again, else the node is visited, its parts first.
+// The walk: a kept derivative is given again, else the node is visited, its parts first. That of `substitute` is nearly the same, and stands by itself: one walk for both was slower.
 ghost use Rattle.std.specs.Prelude.{◌≡◌, ◌+◌, ◌<◌, length};
-ghost use Rattle.pool.specs.Made.{made, pool_of};
+ghost use Rattle.pool.specs.Made.{made};
 ghost use Rattle.walks.specs.Walk.{walk_below};
 ghost use Rattle.walks.specs.Derive.{derive_at, derive};
 ghost use Rattle.walk_laws.specs.Walked.{walked, state_of};
@@ -8,166 +8,105 @@ ghost use Rattle.derive.specs.Rules.{derive_two, derive_one};
 
 use crate::rules::{One, Two};
 use crate::work::{Work, work_of};
-use pool::{HALF, LIMIT, Made, Room};
+use pool::{LIMIT, Pool};
+use refusals::Refusal;
 use walk_laws::FEW;
 
 // `derive`: the derivative by the variable `var` of the expression at `root`.
-pub fn derive_in(
-    kinds: &mut [u8; LIMIT],
-    words: &mut [u64; LIMIT],
-    room: Room,
-    root: u32,
-    var: u32,
-) -> Made
-    ensures { made result kinds.new words.new ≡ derive root var (pool_of kinds.old words.old room) }
+pub fn derive_in(pool: &mut Pool, root: u32, var: u32) -> Result<u32, Refusal>
+    ensures { made result pool.new ≡ derive root var pool.old }
 {
     if (root as usize) < FEW {
-        let mut few = [0u64; FEW];
-        return walk_at(kinds, words, &mut few, room, root, var);
+        let mut few: [Option<u32>; FEW] = [None; FEW];
+        return walk_at(pool, &mut few, root, var);
     }
     if (root as usize) < LIMIT {
-        let mut kept = [0u64; LIMIT];
-        return walk_at(kinds, words, &mut kept, room, root, var);
+        let mut kept: [Option<u32>; LIMIT] = [None; LIMIT];
+        return walk_at(pool, &mut kept, root, var);
     }
-    Made::Refused(refusals::BROKEN_POOL)
+    Err(Refusal::BrokenPool)
 }
 
-// From a node: its result is kept, as one more than its number.
+// From a node: its result is kept.
 #[cycle(walk)]
-fn walk_at(
-    kinds: &mut [u8; LIMIT],
-    words: &mut [u64; LIMIT],
-    kept: &mut [u64],
-    room: Room,
-    term: u32,
-    var: u32,
-) -> Made
+fn walk_at(pool: &mut Pool, kept: &mut [Option<u32>], term: u32, var: u32) -> Result<u32, Refusal>
     requires { term < length kept.old }
-    ensures { walked result kinds.new words.new kept.new ≡ walk_below (derive_at var) (term + 1) term (state_of kinds.old words.old kept.old room) }
+    ensures { walked result pool.new kept.new ≡ walk_below (derive_at var) (term + 1) term (state_of pool.old kept.old) }
 {
     let at = term as usize;
-    let word = kept[at];
-    if word != 0 {
-        return Made::Node {
-            node: ((word - 1) % HALF) as u32,
-            room,
-        };
+    if let Some(result) = kept[at] {
+        return Ok(result);
     }
-    let visited = walk_node(kinds, words, kept, room, term, var);
-    let Made::Node {
-        node: result,
-        room: rest,
-    } = visited
-    else {
-        return visited;
-    };
-    kept[at] = (result as u64) + 1;
-    Made::Node {
-        node: result,
-        room: rest,
-    }
+    let result = walk_node(pool, kept, term, var)?;
+    kept[at] = Some(result);
+    Ok(result)
 }
 
 // At a node, by its kind.
 #[cycle(walk)]
-fn walk_node(
-    kinds: &mut [u8; LIMIT],
-    words: &mut [u64; LIMIT],
-    kept: &mut [u64],
-    room: Room,
-    term: u32,
-    var: u32,
-) -> Made
+fn walk_node(pool: &mut Pool, kept: &mut [Option<u32>], term: u32, var: u32) -> Result<u32, Refusal>
     requires { term < length kept.old }
-    ensures { walked result kinds.new words.new kept.new ≡ derive_at var (walk_below (derive_at var) term) term (state_of kinds.old words.old kept.old room) }
+    ensures { walked result pool.new kept.new ≡ derive_at var (walk_below (derive_at var) term) term (state_of pool.old kept.old) }
 {
-    let node = pool::node_at(kinds, words, term);
-    let work = work_of(node, var);
+    let node = pool.node(term);
+    let work = work_of(node, var)?;
     match work {
-        Work::Refused(k) => Made::Refused(k),
-        Work::Leaf(z) => crate::rules::lit_rule(kinds, words, room, z),
-        Work::One(op, a) => walk_one(kinds, words, kept, room, term, op, a, var),
-        Work::Two(op, a, b) => walk_two(kinds, words, kept, room, term, op, a, b, var),
+        Work::Leaf(z) => crate::rules::lit_rule(pool, z),
+        Work::One(op, a) => walk_one(pool, kept, term, op, a, var),
+        Work::Two(op, a, b) => walk_two(pool, kept, term, op, a, b, var),
     }
 }
 
 // A node of two parts, left before right.
 #[cycle(walk)]
 fn walk_two(
-    kinds: &mut [u8; LIMIT],
-    words: &mut [u64; LIMIT],
-    kept: &mut [u64],
-    room: Room,
+    pool: &mut Pool,
+    kept: &mut [Option<u32>],
     term: u32,
     op: Two,
     a: u32,
     b: u32,
     var: u32,
-) -> Made
+) -> Result<u32, Refusal>
     requires { term < length kept.old }
-    ensures { walked result kinds.new words.new kept.new ≡ derive_two (walk_below (derive_at var) term) op a b (state_of kinds.old words.old kept.old room) }
+    ensures { walked result pool.new kept.new ≡ derive_two (walk_below (derive_at var) term) op a b (state_of pool.old kept.old) }
 {
-    let left = walk_part(kinds, words, kept, room, term, a, var);
-    let Made::Node {
-        node: da,
-        room: more,
-    } = left
-    else {
-        return left;
-    };
-    let right = walk_part(kinds, words, kept, more, term, b, var);
-    let Made::Node {
-        node: db,
-        room: rest,
-    } = right
-    else {
-        return right;
-    };
-    crate::rules::rule_two(kinds, words, rest, op, a, b, da, db)
+    let da = walk_part(pool, kept, term, a, var)?;
+    let db = walk_part(pool, kept, term, b, var)?;
+    crate::rules::rule_two(pool, op, a, b, da, db)
 }
 
 // A node of one part.
 #[cycle(walk)]
 fn walk_one(
-    kinds: &mut [u8; LIMIT],
-    words: &mut [u64; LIMIT],
-    kept: &mut [u64],
-    room: Room,
+    pool: &mut Pool,
+    kept: &mut [Option<u32>],
     term: u32,
     op: One,
     a: u32,
     var: u32,
-) -> Made
+) -> Result<u32, Refusal>
     requires { term < length kept.old }
-    ensures { walked result kinds.new words.new kept.new ≡ derive_one (walk_below (derive_at var) term) term op a (state_of kinds.old words.old kept.old room) }
+    ensures { walked result pool.new kept.new ≡ derive_one (walk_below (derive_at var) term) term op a (state_of pool.old kept.old) }
 {
-    let part = walk_part(kinds, words, kept, room, term, a, var);
-    let Made::Node {
-        node: da,
-        room: rest,
-    } = part
-    else {
-        return part;
-    };
-    crate::rules::rule_one(kinds, words, rest, op, term, a, da)
+    let da = walk_part(pool, kept, term, a, var)?;
+    crate::rules::rule_one(pool, op, term, a, da)
 }
 
 // A part, which has a smaller number than the node.
 #[cycle(walk)]
 fn walk_part(
-    kinds: &mut [u8; LIMIT],
-    words: &mut [u64; LIMIT],
-    kept: &mut [u64],
-    room: Room,
+    pool: &mut Pool,
+    kept: &mut [Option<u32>],
     term: u32,
     a: u32,
     var: u32,
-) -> Made
+) -> Result<u32, Refusal>
     requires { term < length kept.old }
-    ensures { walked result kinds.new words.new kept.new ≡ walk_below (derive_at var) term a (state_of kinds.old words.old kept.old room) }
+    ensures { walked result pool.new kept.new ≡ walk_below (derive_at var) term a (state_of pool.old kept.old) }
 {
     if a < term {
-        return walk_at(kinds, words, kept, room, a, var);
+        return walk_at(pool, kept, a, var);
     }
-    Made::Refused(refusals::BROKEN_POOL)
+    Err(Refusal::BrokenPool)
 }
