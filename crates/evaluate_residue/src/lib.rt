@@ -3,7 +3,6 @@
 
 ghost use Rattle.std.specs.Prelude.{◌≡◌, ◌<◌};
 ghost use Rattle.refusals.specs.Numbers.{numbered};
-ghost use Rattle.residue.specs.Residue.{Modulus};
 ghost use Rattle.pool.specs.Pool.{limit, node_in};
 ghost use Rattle.walks.specs.EvaluateResidue.{value_of_variable, residue_node, evaluate_residue};
 ghost use Rattle.evaluate_residue.specs.Residues.{Residues};
@@ -24,21 +23,25 @@ fn value_of_variable(values: &[u32], v: u32) -> Result<u64, Refusal>
 }
 
 // The residue of a node whose parts' residues are kept. Exp, Log and Max have none.
-fn joined(m: u64, values: &[u32], kept: &[u64; LIMIT], node: Node) -> Result<u64, Refusal>
-    requires modulus { Modulus m }
-    requires ready { Ready m node kept.now }
-    ensures { numbered result ≡ residue_node m values.now (kept_of kept.now) node }
+fn joined(
+    residues: residue::Residues,
+    values: &[u32],
+    kept: &[u64; LIMIT],
+    node: Node,
+) -> Result<u64, Refusal>
+    requires { Ready residues.modulus node kept.now }
+    ensures { numbered result ≡ residue_node residues.modulus values.now (kept_of kept.now) node }
 {
     match node {
         Node::Empty => Err(Refusal::BrokenPool),
         Node::Variable(v) => value_of_variable(values, v),
-        Node::Lit(z) => Ok(residue::residue_of(m, z)),
-        Node::Add(a, b) => Ok(residue::sum(m, kept[a as usize], kept[b as usize])),
-        Node::Mul(a, b) => Ok(residue::product(m, kept[a as usize], kept[b as usize])),
-        Node::Div(a, b) => residue::quotient(m, kept[a as usize], kept[b as usize]),
+        Node::Lit(z) => Ok(residues.residue_of(z)),
+        Node::Add(a, b) => Ok(residues.sum(kept[a as usize], kept[b as usize])),
+        Node::Mul(a, b) => Ok(residues.product(kept[a as usize], kept[b as usize])),
+        Node::Div(a, b) => residues.quotient(kept[a as usize], kept[b as usize]),
         Node::Exp(_) => Err(Refusal::NotEvaluated),
         Node::Log(_) => Err(Refusal::NotEvaluated),
-        Node::Pow(a, e) => Ok(residue::power(m, kept[a as usize], e)),
+        Node::Pow(a, e) => Ok(residues.power(kept[a as usize], e)),
         Node::Max(_, _) => Err(Refusal::NotEvaluated),
     }
 }
@@ -47,17 +50,16 @@ fn joined(m: u64, values: &[u32], kept: &[u64; LIMIT], node: Node) -> Result<u64
 fn residue_at(
     kinds: &[u8; LIMIT],
     words: &[u64; LIMIT],
-    m: u64,
+    residues: residue::Residues,
     values: &[u32],
     kept: &mut [u64; LIMIT],
     seen: &mut [u8; LIMIT],
     i: u32,
 ) -> Result<(), Refusal>
     requires i_lt_limit { i < limit }
-    requires modulus { Modulus m }
-    requires residues { Residues m values.now }
-    requires keeps { Keeps m (node_in kinds.now words.now) values.now kept.old seen.old }
-    ensures { Walked m (node_in kinds.now words.now) values.now seen.old i (numbered result) kept.new seen.new }
+    requires residues { Residues residues.modulus values.now }
+    requires keeps { Keeps residues.modulus (node_in kinds.now words.now) values.now kept.old seen.old }
+    ensures { Walked residues.modulus (node_in kinds.now words.now) values.now seen.old i (numbered result) kept.new seen.new }
 {
     let at = i as usize;
     if seen[at] != 0 {
@@ -70,10 +72,10 @@ fn residue_at(
         if i <= part {
             return Err(Refusal::BrokenPool);
         }
-        residue_at(kinds, words, m, values, kept, seen, part)?;
+        residue_at(kinds, words, residues, values, kept, seen, part)?;
         part = parts.right;
     }
-    let x = joined(m, values, kept, node)?;
+    let x = joined(residues, values, kept, node)?;
     kept[at] = x;
     seen[at] = 1;
     Ok(())
@@ -83,13 +85,12 @@ fn residue_at(
 pub fn evaluate_residue_from(
     kinds: &[u8; LIMIT],
     words: &[u64; LIMIT],
-    m: u64,
+    residues: residue::Residues,
     values: &[u32],
     root: u32,
 ) -> Result<u64, Refusal>
-    requires modulus { Modulus m }
-    requires residues { Residues m values.now }
-    ensures { numbered result ≡ evaluate_residue m (node_in kinds.now words.now) values.now root }
+    requires { Residues residues.modulus values.now }
+    ensures { numbered result ≡ evaluate_residue residues.modulus (node_in kinds.now words.now) values.now root }
 {
     let at = root as usize;
     if LIMIT <= at {
@@ -97,6 +98,6 @@ pub fn evaluate_residue_from(
     }
     let mut kept = [0u64; LIMIT];
     let mut seen = [0u8; LIMIT];
-    residue_at(kinds, words, m, values, &mut kept, &mut seen, root)?;
+    residue_at(kinds, words, residues, values, &mut kept, &mut seen, root)?;
     Ok(kept[at])
 }

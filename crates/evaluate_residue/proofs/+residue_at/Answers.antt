@@ -21,7 +21,7 @@ pub residue_at-requires : goal.residue_at-requires
 residue_at-requires t c =
     let smaller = c.if-i-part.false in
     let keeps = c.loop.invariant.keeps in
-    (omega (arith, c.requires.i_lt_limit, smaller), (omega (arith, c.requires.i_lt_limit, smaller), (c.requires.modulus, (c.requires.residues, keeps))))
+    (omega (arith, c.requires.i_lt_limit, smaller), (omega (arith, c.requires.i_lt_limit, smaller), (c.requires.residues, keeps)))
 
 pub returns-in_err-residue_at : goal.returns-in_err-residue_at
 returns-in_err-residue_at t c =
@@ -34,9 +34,9 @@ pub loop-preserved : goal.loop-preserved
 loop-preserved t c =
     next_part c.loop.invariant c.loop-test.true c.if-i-part.false c.residue_at.ensures (ap numbered c.in_ok-residue_at.was)
 
-pub joined-requires-clause-ready : goal.joined-requires-clause-ready
-joined-requires-clause-ready t c =
-    parts_are_ready c.loop.invariant c.node_at-node.ensures c.requires.i_lt_limit c.loop-test.false c.requires.modulus c.requires.residues
+pub joined-requires : goal.joined-requires
+joined-requires t c =
+    parts_are_ready c.loop.invariant c.node_at-node.ensures c.requires.i_lt_limit c.loop-test.false c.args.residues.is_modulus c.requires.residues
 
 pub returns-in_err-x : goal.returns-in_err-x
 returns-in_err-x t c =

@@ -10,4 +10,4 @@ decreases-residue_at l = l.i
 
 abbrev pub invariant-loop : goal.invariant-loop
 invariant-loop l =
-    Going l.m (node_in l.kinds l.words) l.values l.initial.seen l.i l.node l.parts l.kept l.seen l.counter l.part
+    Going l.residues.modulus (node_in l.kinds l.words) l.values l.initial.seen l.i l.node l.parts l.kept l.seen l.counter l.part
