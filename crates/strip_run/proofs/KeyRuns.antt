@@ -1,6 +1,6 @@
 -- The run of one key in the code gives what the definition gives: the value of the key as a node, put where its parts stood.
 -- Assumes nothing.
-use Rattle.std.specs.Prelude.{Ok, Err}
+use Rattle.std.specs.Prelude.{Result, Ok, Err}
 use mathlib.Core.Path.{◌≡◌, refl, sym, ap, ap₂, ◌∙◌}
 use mathlib.Core.Bool.{Bool, true, false, false≢true}
 use mathlib.Core.List.{List, ◌∷◌}
@@ -24,8 +24,8 @@ use Rattle.evaluate.specs.declared.Binary.TheVariants as binary
 use Rattle.key_strip.specs.Strip.{most_places}
 use Rattle.key_strip.specs.Machine.{following, key_of, keys_within, keys_of, taken, accepts, is_strip, in_place, run_from, run_strip}
 use Rattle.strip_run.specs.Held.{in_use}
-use Rattle.strip_run.specs.Running.{Gives, Running, RanWith, RanTo}
-use Rattle.strip_run.specs.declared.running.Moved.{Moved}
+use Rattle.strip_run.specs.Running.{Running, ran, RanTo}
+use Rattle.strip_run.specs.declared.running.Machine.{Machine}
 use Rattle.strip_run.proofs.Codes.{literal_key, no_literal_key, power_key, no_power_key}
 use Rattle.strip_run.proofs.Cut.{key_of_code, code_cut, code_alone, variable_first, unknown_first}
 use Rattle.strip_run.proofs.Accepting.{is_a_key, enough_there, place_there, rest_accepted}
@@ -83,10 +83,10 @@ module _ {s : List ℕ} {values held : List Float} {at d : ℕ} {top below : Flo
     unfolding run_from
     key_runs = t.so_far ∙ ap (run_from values (in_use top below held d)) first
 
-    ran : at < next → next ≤ length s → (found : Valued) → found ≡ evaluate_node values (in_place (in_use top below held d)) key
+    key_ran : at < next → next ≤ length s → (found : Valued) → found ≡ evaluate_node values (in_place (in_use top below held d)) key
         → (held' : List Float) (below' : Float) (d' : ℕ) → length held' ≡ most_places → d' ≡ d - taken key + 1 → ((x : Float) → in_use x below' held' d' ≡ x ∷ drop (taken key) (in_use top below held d))
-        → RanWith s values at held' below' next d' found
-    ran later within (Ok x) e held' below' d' long after put = (
+        → RanTo s values at held' (ran next d' found below')
+    key_ran later within (Ok x) e held' below' d' long after put = (
       later,
       record {
         within = within;
@@ -99,7 +99,7 @@ module _ {s : List ℕ} {values held : List Float} {at d : ℕ} {top below : Flo
             ∙ ap (λ ps. run_from values ps (keys_of (drop next s))) (sym (put x));
       },
     )
-    ran later within (Err k) e held' below' d' long after put =
+    key_ran later within (Err k) e held' below' d' long after put =
         key_runs ∙ ap (λ v. one v (λ y. run_from values (y ∷ drop (taken key) (in_use top below held d)) (keys_of (drop next s)))) (sym e)
 
     no_key_runs : is_node key ≡ false → ⊥
@@ -109,9 +109,9 @@ module _ {s : List ℕ} {values held : List Float} {at d : ℕ} {top below : Flo
     leaf_room : taken key ≡ 0 → d < most_places
     leaf_room none = omega (arith, place_there d key (keys_of (drop next s)) tested)
 
-    leaf_ran : taken key ≡ 0 → at < next → next ≤ length s → (found : Valued) → found ≡ evaluate_node values (in_place (in_use top below held d)) key → RanWith s values at (set held d below) top next (d + 1) found
+    leaf_ran : taken key ≡ 0 → at < next → next ≤ length s → (found : Valued) → found ≡ evaluate_node values (in_place (in_use top below held d)) key → RanTo s values at (set held d below) (ran next (d + 1) found top)
     leaf_ran none later within found e =
-        ran later within found e (set held d below) top (d + 1) (length-set held d below ∙ t.long) (omega arith)
+        key_ran later within found e (set held d below) top (d + 1) (length-set held d below ∙ t.long) (omega arith)
         (λ x. one_pushed top below held d (omega (arith, t.long, leaf_room none)) x ∙ ap (λ k. x ∷ drop k (in_use top below held d)) (sym none))
 
   module _ (l : at < length s) where
@@ -135,7 +135,7 @@ module _ {s : List ℕ} {values held : List Float} {at d : ℕ} {top below : Flo
         pub variable_room : d < most_places
         variable_room = leaf_room (Variable (number_at 2 s (at + 1))) (at + 1 + 2) first refl
 
-        pub variable_ran : {v : ℕ} → v ≡ number_at 2 s (at + 1) → {found : Valued} → found ≡ value_of_variable values v → RanWith s values at (set held d below) top (at + 1 + 2) (d + 1) found
+        pub variable_ran : {v : ℕ} → v ≡ number_at 2 s (at + 1) → {found : Valued} → found ≡ value_of_variable values v → RanTo s values at (set held d below) (ran (at + 1 + 2) (d + 1) found top)
         variable_ran {v} read {found} e =
             leaf_ran (Variable (number_at 2 s (at + 1))) (at + 1 + 2) first refl (omega arith) variable_there found (e ∙ ap (value_of_variable values) read)
 
@@ -161,7 +161,7 @@ module _ {s : List ℕ} {values held : List Float} {at d : ℕ} {top below : Flo
       pub literal_room : d < most_places
       literal_room = leaf_room (Lit (signed (number_at 8 s (at + 1)))) (at + 1 + 8) literal_first refl
 
-      pub literal_ran : {found : Valued} → found ≡ double_of (signed (number_at 8 s (at + 1))) → RanWith s values at (set held d below) top (at + 1 + 8) (d + 1) found
+      pub literal_ran : {found : Valued} → found ≡ double_of (signed (number_at 8 s (at + 1))) → RanTo s values at (set held d below) (ran (at + 1 + 8) (d + 1) found top)
       literal_ran {found} e = leaf_ran (Lit (signed (number_at 8 s (at + 1)))) (at + 1 + 8) literal_first refl (omega arith) literal_there found e
 
     module _ (op : Binary) (is : get_or s at 0 ≡ code_of op) where
@@ -171,10 +171,10 @@ module _ {s : List ℕ} {values held : List Float} {at d : ℕ} {top below : Flo
       pub pair_there : (2 ≤ d) × (d ≤ most_places)
       pair_there = (rw (pair_takes op) at (enough_there d (pair_of op) (keys_of (drop (at + 1) s)) (tested (pair_of op) (at + 1) pair_first)), t.small)
 
-      pub pair_ran : {found : Valued} → found ≡ applied op below top → RanWith s values at held (get_or held (d - 1) nan) (at + 1) (d - 1) found
+      pub pair_ran : {found : Valued} → found ≡ applied op below top → RanTo s values at held (ran (at + 1) (d - 1) found (get_or held (d - 1) nan))
       pair_ran {found} e =
           let two = pair_there.0 in
-          ran (pair_of op) (at + 1) pair_first (omega arith) (omega arith) found
+          key_ran (pair_of op) (at + 1) pair_first (omega arith) (omega arith) found
           (e ∙ sym (pair_value values (in_use top below held d) op ∙ ap₂ (applied op) (below_topmost top below held d two) (topmost top below held d (omega arith))))
           held (get_or held (d - 1) nan) (d - 1) t.long (omega (arith, pair_takes op))
           (λ x. two_replaced top below held d two x ∙ ap (λ k. x ∷ drop k (in_use top below held d)) (sym (pair_takes op)))
@@ -195,10 +195,10 @@ module _ {s : List ℕ} {values held : List Float} {at d : ℕ} {top below : Flo
           go true e = absurd (no_key_runs Empty (at + 1 + 4) (raised_as Empty (no_power_key (number_at 4 s (at + 1)) (ltb-true (number_at 4 s (at + 1)) least_exponent e))) refl)
           go false e = raised_as (Pow 0 (number_at 4 s (at + 1))) (power_key (number_at 4 s (at + 1)) (ltb-false (number_at 4 s (at + 1)) least_exponent e))
 
-      pub power_ran : {x : ℕ} → x ≡ number_at 4 s (at + 1) → {y : Float} → y ≡ pow_of top x → RanWith s values at held below (at + 1 + 4) d (Ok y)
+      pub power_ran : {x : ℕ} → x ≡ number_at 4 s (at + 1) → {y : Float} → y ≡ pow_of top x → RanTo s values at held (ran (at + 1 + 4) d (Ok y) below)
       power_ran {x} read {y} e =
           let some : 1 ≤ d = enough_there d (Pow 0 (number_at 4 s (at + 1))) (keys_of (drop (at + 1 + 4) s)) (tested (Pow 0 (number_at 4 s (at + 1))) (at + 1 + 4) power_first) in
-          ran (Pow 0 (number_at 4 s (at + 1))) (at + 1 + 4) power_first (omega arith) exponent_there (Ok y)
+          key_ran (Pow 0 (number_at 4 s (at + 1))) (at + 1 + 4) power_first (omega arith) exponent_there (Ok y)
           (ap Ok (e ∙ ap₂ pow_of (sym (topmost top below held d some)) read))
           held below d t.long (omega arith) (one_replaced top below held d some)
 
@@ -220,17 +220,13 @@ module _ {s : List ℕ} {values held : List Float} {at d : ℕ} {top below : Flo
         go true e = eqb-true (get_or s at 0) 9 e
         go false e = absurd (unknown_ran (λ h. omega arith) (λ h. omega arith) no_eight (λ h. omega arith) (λ h. omega arith) (λ h. omega arith) (eqb-false (get_or s at 0) 9 e))
 
--- the answer in the record that the code gives
-pub ran_as : (s : List ℕ) (values : List Float) (at : ℕ) {held held' : List Float} {r : Moved} {found : Valued} {below : Float} {next d : ℕ}
-    → Gives r found below next d → held' ≡ held → RanWith s values at held below next d found → RanTo s values at held' r
-ran_as s values at g h ran = rw (g.finds, g.leaves, g.goes_to, g.uses, h) ran
+-- the answer as the code gives it
+pub ran_as : (s : List ℕ) (values : List Float) (at : ℕ) {held held' : List Float} {r r' : Result Machine ℕ} → r' ≡ r → held' ≡ held → RanTo s values at held r → RanTo s values at held' r'
+ran_as s values at e h ran = rw (e, h) ran
 
-pub went_on : (s : List ℕ) (values : List Float) (at : ℕ) {held : List Float} {r : Moved} {x : Float} → RanTo s values at held r → r.found ≡ Ok x
-    → (at < r.next) × Running s values held r.next r.depth x r.below
+pub went_on : (s : List ℕ) (values : List Float) (at : ℕ) {held : List Float} {r : Result Machine ℕ} {M : Machine} → RanTo s values at held r → r ≡ Ok M
+    → (at < M.at) × Running s values held M.at M.depth M.top M.below
 went_on s values at h e = rw e at h
-
-pub stopped_at : (s : List ℕ) (values : List Float) (at : ℕ) (held : List Float) (r : Moved) {k : ℕ} → RanTo s values at held r → r.found ≡ Err k → r.found ≡ run_strip values s
-stopped_at s values at held r h e = e ∙ sym (rw e at h)
 
 pub all_run : {s : List ℕ} {values held : List Float} {at d : ℕ} {top below : Float} → Running s values held at d top below → length s ≤ at → Ok top ≡ run_strip values s
 unfolding accepts run_from keys_within

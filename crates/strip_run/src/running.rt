@@ -1,152 +1,134 @@
 // The machine runs a strip that was tested. The two topmost values are held by themselves and those below them in an array: so no key waits for a value that was
-// stored just before.
-ghost use Rattle.std.specs.Prelude.{◌≡◌, true, ◌+◌, ◌-◌, ◌<◌, ◌≤◌, length, get_or, set};
+// stored just before. The array stands beside the machine and not in it: a struct with an array that is indexed stays in memory as a whole.
+ghost use Rattle.std.specs.Prelude.{◌≡◌, true, ◌+◌, ◌-◌, ◌<◌, ◌≤◌, length, get_or, set, Ok};
 ghost use Rattle.std.specs.Float.{nan};
+ghost use Rattle.refusals.specs.Numbers.{numbered};
 ghost use Rattle.literal.specs.Literal.{is_literal};
-ghost use Rattle.double.specs.Double.{double_of};
-ghost use Rattle.double.specs.declared.Valued.TheVariants.{Double};
+ghost use Rattle.double.specs.Double.{double_of, pow_of};
 ghost use Rattle.evaluate.specs.Operations.{applied};
 ghost use Rattle.key_strip.specs.Strip.{most_places};
 ghost use Rattle.key_strip.specs.Machine.{is_strip, run_strip};
-ghost use Rattle.strip_run.specs.Running.{Gives, Running, RanTo};
+ghost use Rattle.strip_run.specs.Running.{machine, Running, ran, RanTo};
 
 use crate::operands::{eight_bytes, four_bytes, two_bytes};
-use double::Valued;
 use evaluate::Binary;
 use key_strip::PLACES;
+use refusals::Refusal;
 
 // An array with a place for each of the machine's.
 const HELD: usize = PLACES as usize;
 
-// What a key gives, which is then topmost, the value below it, the place after the key, and the places then in use.
+// The machine before a key: the key's place, how many values are in use, the topmost one and the one below it.
 #[derive(Clone, Copy)]
-pub struct Moved {
-    pub found: Valued,
-    pub below: f64,
-    pub next: usize,
-    pub depth: usize,
-}
-
-// A literal as a double.
-fn exact(z: i64) -> f64
-    requires { is_literal z ≡ true }
-    ensures { Double result ≡ double_of z }
-{
-    z as f64
-}
-
-// A value is pushed: the one that was below the topmost is put into the array.
-fn pushed(
-    held: &mut [f64; HELD],
-    depth: usize,
-    top: f64,
-    below: f64,
-    found: Valued,
-    next: usize,
-) -> Moved
-    requires { depth < most_places }
-    ensures gives { Gives result found top next (depth + 1) }
-    ensures held_after { held.new ≡ set held.old depth below }
-{
-    held[depth] = below;
-    let more = depth + 1;
-    Moved {
-        found,
-        below: top,
-        next,
-        depth: more,
-    }
-}
-
-// The two topmost values are combined, the lower one being the left.
-fn combined(
-    held: &[f64; HELD],
-    depth: usize,
-    top: f64,
-    below: f64,
-    op: Binary,
-    next: usize,
-) -> Moved
-    requires { (2 ≤ depth) × (depth ≤ most_places) }
-    ensures { Gives result (applied op below top) (get_or held.now (depth - 1) nan) next (depth - 1) }
-{
-    let left = depth - 1;
-    let third = held[left];
-    Moved {
-        found: evaluate::apply(op, below, top),
-        below: third,
-        next,
-        depth: left,
-    }
-}
-
-// The key at a place runs. The strip was tested, so a code below 3 that is not 1 is 2, and the last one is 9.
-fn run_key(
-    strip: &[u8],
-    values: &[f64],
-    held: &mut [f64; HELD],
+struct Machine {
     at: usize,
     depth: usize,
     top: f64,
     below: f64,
-) -> Moved
-    requires running { Running strip.now values.now held.old at depth top below }
-    requires at_in_bounds { at < length strip.now }
-    ensures { RanTo strip.now values.now at held.new result }
+}
+
+impl Machine {
+    // A value is pushed: the one that was below the topmost is put into the array.
+    fn pushed(self, held: &mut [f64; HELD], x: f64, next: usize) -> Machine
+        requires { self.depth < most_places }
+        ensures moved { result ≡ machine next (self.depth + 1) x self.top }
+        ensures held_after { held.new ≡ set held.old self.depth self.below }
+    {
+        held[self.depth] = self.below;
+        Machine {
+            at: next,
+            depth: self.depth + 1,
+            top: x,
+            below: self.top,
+        }
+    }
+
+    // The two topmost values are combined, the lower one being the left.
+    fn combined(self, held: &[f64; HELD], op: Binary, next: usize) -> Machine
+        requires { (2 ≤ self.depth) × (self.depth ≤ most_places) }
+        ensures { ran next (self.depth - 1) (applied op self.below self.top) (get_or held.now (self.depth - 1) nan) ≡ Ok result }
+    {
+        let left = self.depth - 1;
+        Machine {
+            at: next,
+            depth: left,
+            top: evaluate::apply(op, self.below, self.top),
+            below: held[left],
+        }
+    }
+
+    // The topmost value is raised.
+    fn raised(self, exponent: u32, next: usize) -> Machine
+        ensures { result ≡ machine next self.depth (pow_of self.top exponent) self.below }
+    {
+        Machine {
+            at: next,
+            top: double::pow(self.top, exponent),
+            ..self
+        }
+    }
+}
+
+// A literal as a double, with no second test of its range.
+fn exact(z: i64) -> f64
+    requires { is_literal z ≡ true }
+    ensures { Ok result ≡ double_of z }
 {
-    let from = at + 1;
-    let code = strip[at];
+    z as f64
+}
+
+// The key at the machine's place runs. The strip was tested, so a code below 3 that is not 1 is 2, and the last one is 9.
+fn run_key(
+    strip: &[u8],
+    values: &[f64],
+    held: &mut [f64; HELD],
+    machine: Machine,
+) -> Result<Machine, Refusal>
+    requires running { Running strip.now values.now held.old machine.at machine.depth machine.top machine.below }
+    requires at_in_bounds { machine.at < length strip.now }
+    ensures { RanTo strip.now values.now machine.at held.new (numbered result) }
+{
+    let from = machine.at + 1;
+    let code = strip[machine.at];
     if code < 3 {
         if code == 1 {
             let v = two_bytes(strip, from);
-            let found = evaluate::value_of_variable(values, v as u32);
-            return pushed(held, depth, top, below, found, from + 2);
+            let x = evaluate::value_of_variable(values, u32::from(v))?;
+            return Ok(machine.pushed(held, x, from + 2));
         }
         let z = literal::from_word(eight_bytes(strip, from));
-        return pushed(held, depth, top, below, Valued::Double(exact(z)), from + 8);
+        return Ok(machine.pushed(held, exact(z), from + 8));
     }
     if code < 6 {
         if code == 4 {
-            return combined(held, depth, top, below, Binary::Mul, from);
+            return Ok(machine.combined(held, Binary::Mul, from));
         }
         if code == 3 {
-            return combined(held, depth, top, below, Binary::Add, from);
+            return Ok(machine.combined(held, Binary::Add, from));
         }
-        return combined(held, depth, top, below, Binary::Div, from);
+        return Ok(machine.combined(held, Binary::Div, from));
     }
     if code == 8 {
         let e = four_bytes(strip, from);
-        let next = from + 4;
-        return Moved {
-            found: Valued::Double(double::pow(top, e)),
-            below,
-            next,
-            depth,
-        };
+        return Ok(machine.raised(e, from + 4));
     }
-    combined(held, depth, top, below, Binary::Max, from)
+    Ok(machine.combined(held, Binary::Max, from))
 }
 
 // A strip that was tested runs.
-pub fn run(strip: &[u8], values: &[f64]) -> Valued
+pub fn run(strip: &[u8], values: &[f64]) -> Result<f64, Refusal>
     requires { is_strip strip.now ≡ true }
-    ensures { result ≡ run_strip values.now strip.now }
+    ensures { numbered result ≡ run_strip values.now strip.now }
 {
     let mut held = [0.0; HELD];
-    let mut at = 0;
-    let mut depth = 0;
-    let mut top = 0.0;
-    let mut below = 0.0;
-    while at < strip.len() {
-        let moved = run_key(strip, values, &mut held, at, depth, top, below);
-        let found = moved.found;
-        let Valued::Double(x) = found else {
-            return found;
-        };
-        top = x;
-        below = moved.below;
-        at = moved.next;
-        depth = moved.depth;
+    let mut machine = Machine {
+        at: 0,
+        depth: 0,
+        top: 0.0,
+        below: 0.0,
+    };
+    while machine.at < strip.len() {
+        machine = run_key(strip, values, &mut held, machine)?;
     }
-    Valued::Double(top)
+    Ok(machine.top)
 }

@@ -7,61 +7,69 @@ use crate::operands::{eight_bytes, four_bytes};
 use key_strip::PLACES;
 use pool::EXPONENT_MIN;
 
-// What the test of a key gives: the place after it and the places then in use, or that it is none, a value is missing or there is no place.
+// A key that passes its test: the place after it, and how many of the machine's places are in use then. It does not pass where it is none, a value is missing or
+// there is no place.
 #[derive(Clone, Copy)]
-pub enum Tested {
-    On { next: usize, depth: usize },
-    Wrong,
+struct Passed {
+    next: usize,
+    depth: usize,
 }
 
 // A key that pushes.
-fn one_place_more(depth: usize, next: usize) -> Tested
+#[tactic(auto, unfolding(crate::specs::Testing::one_place_more))]
+fn one_place_more(depth: usize, next: usize) -> Option<Passed>
     ensures { result ≡ one_place_more depth next }
 {
     if depth < PLACES as usize {
-        let more = depth + 1;
-        return Tested::On { next, depth: more };
+        return Some(Passed {
+            next,
+            depth: depth + 1,
+        });
     }
-    Tested::Wrong
+    None
 }
 
 // A key that combines.
-fn one_place_less(depth: usize, next: usize) -> Tested
+#[tactic(auto, unfolding(crate::specs::Testing::one_place_less))]
+fn one_place_less(depth: usize, next: usize) -> Option<Passed>
     ensures { result ≡ one_place_less depth next }
 {
     if depth < 2 {
-        return Tested::Wrong;
+        return None;
     }
-    let left = depth - 1;
-    Tested::On { next, depth: left }
+    Some(Passed {
+        next,
+        depth: depth - 1,
+    })
 }
 
 // A literal with this word.
-fn literal_tested(word: u64, depth: usize, next: usize) -> Tested
+fn literal_tested(word: u64, depth: usize, next: usize) -> Option<Passed>
     ensures { result ≡ literal_tested word depth next }
 {
     if literal::is_literal(literal::from_word(word)) {
         return one_place_more(depth, next);
     }
-    Tested::Wrong
+    None
 }
 
 // A key that raises by this exponent.
-fn exponent_tested(exponent: u32, depth: usize, next: usize) -> Tested
+#[tactic(auto, unfolding(crate::specs::Testing::exponent_tested))]
+fn exponent_tested(exponent: u32, depth: usize, next: usize) -> Option<Passed>
     ensures { result ≡ exponent_tested exponent depth next }
 {
     if exponent < EXPONENT_MIN {
-        return Tested::Wrong;
+        return None;
     }
     if depth == 0 {
-        return Tested::Wrong;
+        return None;
     }
-    Tested::On { next, depth }
+    Some(Passed { next, depth })
 }
 
 // The test of the key at a place. What follows a code is looked at only where it is not cut off. A processor foresees one comparison after the other better
 // than a jump to one of nine places: so the codes are told apart by halves, here and in the run.
-fn test_key(strip: &[u8], at: usize, depth: usize) -> Tested
+fn test_key(strip: &[u8], at: usize, depth: usize) -> Option<Passed>
     requires testing { Testing strip.now at depth }
     requires at_in_bounds { at < length strip.now }
     ensures { TestedTo strip.now at result }
@@ -72,15 +80,15 @@ fn test_key(strip: &[u8], at: usize, depth: usize) -> Tested
     if code < 3 {
         if code == 1 {
             if left < 2 {
-                return Tested::Wrong;
+                return None;
             }
             return one_place_more(depth, from + 2);
         }
         if code == 0 {
-            return Tested::Wrong;
+            return None;
         }
         if left < 8 {
-            return Tested::Wrong;
+            return None;
         }
         return literal_tested(eight_bytes(strip, from), depth, from + 8);
     }
@@ -89,14 +97,14 @@ fn test_key(strip: &[u8], at: usize, depth: usize) -> Tested
     }
     if code == 8 {
         if left < 4 {
-            return Tested::Wrong;
+            return None;
         }
         return exponent_tested(four_bytes(strip, from), depth, from + 4);
     }
     if code == 9 {
         return one_place_less(depth, from);
     }
-    Tested::Wrong
+    None
 }
 
 // Whether the machine takes the strip: 28 where it does not.
@@ -106,12 +114,11 @@ pub fn is_strip(strip: &[u8]) -> bool
     let mut at = 0;
     let mut depth = 0;
     while at < strip.len() {
-        let tested = test_key(strip, at, depth);
-        let Tested::On { next, depth: after } = tested else {
+        let Some(passed) = test_key(strip, at, depth) else {
             return false;
         };
-        at = next;
-        depth = after;
+        at = passed.next;
+        depth = passed.depth;
     }
     depth == 1
 }

@@ -5,8 +5,8 @@ use lib.ListN.{length}
 use Rattle.strip_run.specs.Running.{Running}
 use Rattle.strip_run.proofs.running.run.Given as goal
 
-abbrev pub invariant-loop-at : goal.invariant-loop-at
-invariant-loop-at l = Running l.strip l.values l.held l.at l.depth l.top l.below
+abbrev pub invariant-loop-machine : goal.invariant-loop-machine
+invariant-loop-machine l = Running l.strip l.values l.held l.machine.at l.machine.depth l.machine.top l.machine.below
 
-abbrev pub decreases-loop-at : goal.decreases-loop-at
-decreases-loop-at l = length l.strip - l.at
+abbrev pub decreases-loop-machine : goal.decreases-loop-machine
+decreases-loop-machine l = length l.strip - l.machine.at

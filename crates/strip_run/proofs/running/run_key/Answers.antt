@@ -1,7 +1,9 @@
 -- `running::run_key` meets its contract: each way runs the key of its code, by the laws of `KeyRuns`. A strip that was tested has no other codes, so the last
 -- ones of each half are known by what they are not.
 -- Assumes nothing.
-use mathlib.Core.Path.{refl, ap, ◌∙◌}
+use Rattle.std.specs.Prelude.{Ok}
+use Rattle.std.proofs.lemmas.Result.{err_from_is_err_and}
+use mathlib.Core.Path.{refl, sym, ap, ◌∙◌}
 use native.Mathlib.Omega.{arith}
 use mir.Syntax.{w64}
 use mir.ValLaws.{to_z-of_z}
@@ -15,14 +17,20 @@ pub two_bytes-v-requires : goal.two_bytes-v-requires
 two_bytes-v-requires c =
     variable_there c.requires.running c.requires.at_in_bounds c.if-code-eq1.true
 
+pub returns-in_err-x : goal.returns-in_err-x
+returns-in_err-x c =
+    let p = err_from_is_err_and c.from_residual.result c.from_residual.ensures.1 in
+    rw (p.1, p.2)
+    (variable_ran c.requires.running c.requires.at_in_bounds c.if-code-eq1.true (λ i. (c.type_inv.strip i).fits) (c.from.ensures ∙ c.two_bytes-v.ensures) c.in_err-x.ensures)
+
 pub pushed-requires : goal.pushed-requires
 pushed-requires c =
     variable_room c.requires.running c.requires.at_in_bounds c.if-code-eq1.true (λ i. (c.type_inv.strip i).fits)
 
 pub returns-then-code-eq1 : goal.returns-then-code-eq1
 returns-then-code-eq1 c =
-    ran_as _ _ _ c.pushed.ensures.gives c.pushed.ensures.held_after
-    (variable_ran c.requires.running c.requires.at_in_bounds c.if-code-eq1.true (λ i. (c.type_inv.strip i).fits) c.two_bytes-v.ensures c.value_of_variable-found.ensures)
+    ran_as _ _ _ (ap Ok c.pushed.ensures.moved) c.pushed.ensures.held_after
+    (variable_ran c.requires.running c.requires.at_in_bounds c.if-code-eq1.true (λ i. (c.type_inv.strip i).fits) (c.from.ensures ∙ c.two_bytes-v.ensures) c.in_ok-x.ensures)
 
 pub eight_bytes-requires : goal.eight_bytes-requires
 eight_bytes-requires c =
@@ -41,7 +49,8 @@ pub returns-then-code-lt3 : goal.returns-then-code-lt3
 returns-then-code-lt3 c =
     let two = two_is_left c.requires.running c.requires.at_in_bounds c.if-code-lt3.true c.if-code-eq1.false in
     let same = to_z-of_z w64 c.from_word-z.result (record { sfits = c.from_word-z.type_inv }) ∙ c.from_word-z.ensures ∙ ap signed c.eight_bytes.ensures in
-    ran_as _ _ _ c.pushed-then-code-lt3.ensures.gives c.pushed-then-code-lt3.ensures.held_after (literal_ran c.requires.running c.requires.at_in_bounds two (c.exact.ensures ∙ ap double_of same))
+    ran_as _ _ _ (ap Ok c.pushed-then-code-lt3.ensures.moved) c.pushed-then-code-lt3.ensures.held_after
+    (literal_ran c.requires.running c.requires.at_in_bounds two (c.exact.ensures ∙ ap double_of same))
 
 pub combined-requires : goal.combined-requires
 combined-requires c =
@@ -49,7 +58,7 @@ combined-requires c =
 
 pub returns-then-code-eq4 : goal.returns-then-code-eq4
 returns-then-code-eq4 c =
-    ran_as _ _ _ c.combined.ensures refl (pair_ran c.requires.running c.requires.at_in_bounds binary.Mul c.if-code-eq4.true refl)
+    ran_as _ _ _ (sym c.combined.ensures) refl (pair_ran c.requires.running c.requires.at_in_bounds binary.Mul c.if-code-eq4.true refl)
 
 pub combined-requires-then-code-eq3 : goal.combined-requires-then-code-eq3
 combined-requires-then-code-eq3 c =
@@ -57,7 +66,7 @@ combined-requires-then-code-eq3 c =
 
 pub returns-then-code-eq3 : goal.returns-then-code-eq3
 returns-then-code-eq3 c =
-    ran_as _ _ _ c.combined-then-code-eq3.ensures refl (pair_ran c.requires.running c.requires.at_in_bounds binary.Add c.if-code-eq3.true refl)
+    ran_as _ _ _ (sym c.combined-then-code-eq3.ensures) refl (pair_ran c.requires.running c.requires.at_in_bounds binary.Add c.if-code-eq3.true refl)
 
 pub combined-requires-then-code-lt6 : goal.combined-requires-then-code-lt6
 combined-requires-then-code-lt6 c =
@@ -65,7 +74,8 @@ combined-requires-then-code-lt6 c =
 
 pub returns-then-code-lt6 : goal.returns-then-code-lt6
 returns-then-code-lt6 c =
-    ran_as _ _ _ c.combined-then-code-lt6.ensures refl (pair_ran c.requires.running c.requires.at_in_bounds binary.Div (omega (arith, c.if-code-lt3.false, c.if-code-lt6.true, c.if-code-eq4.false, c.if-code-eq3.false)) refl)
+    ran_as _ _ _ (sym c.combined-then-code-lt6.ensures) refl
+    (pair_ran c.requires.running c.requires.at_in_bounds binary.Div (omega (arith, c.if-code-lt3.false, c.if-code-lt6.true, c.if-code-eq4.false, c.if-code-eq3.false)) refl)
 
 pub four_bytes-e-requires : goal.four_bytes-e-requires
 four_bytes-e-requires c =
@@ -73,7 +83,7 @@ four_bytes-e-requires c =
 
 pub returns-then-code-eq8 : goal.returns-then-code-eq8
 returns-then-code-eq8 c =
-    power_ran c.requires.running c.requires.at_in_bounds c.if-code-eq8.true c.four_bytes-e.ensures c.pow.ensures
+    ran_as _ _ _ (ap Ok c.raised.ensures) refl (power_ran c.requires.running c.requires.at_in_bounds c.if-code-eq8.true c.four_bytes-e.ensures refl)
 
 pub combined-requires-2 : goal.combined-requires-2
 combined-requires-2 c =
@@ -81,4 +91,5 @@ combined-requires-2 c =
 
 pub returns : goal.returns
 returns c =
-    ran_as _ _ _ c.combined-2.ensures refl (pair_ran c.requires.running c.requires.at_in_bounds binary.Max (nine_is_left c.requires.running c.requires.at_in_bounds c.if-code-lt6.false c.if-code-eq8.false) refl)
+    ran_as _ _ _ (sym c.combined-2.ensures) refl
+    (pair_ran c.requires.running c.requires.at_in_bounds binary.Max (nine_is_left c.requires.running c.requires.at_in_bounds c.if-code-lt6.false c.if-code-eq8.false) refl)
