@@ -59,7 +59,7 @@ one_came : (x : Divided) (next : ℕ → Divided) (r : ℕ) → one x next ≡ O
 one_came (Ok a) next r e = record { only = a; came = refl; last = e }
 one_came (Err k) next r e = not_refused e
 
-residue_inside : {a b : ℕ} → Ok a ≡ Ok b → a ≡ b
+residue_inside : {a b : ℕ} → ◌≡◌ {A = Divided} (Ok a) (Ok b) → a ≡ b
 residue_inside e = cc
 
 module _ (m : ℕ) (some : 2 ≤ m) (values : List ℕ) (small : (v : ℕ) → get_or values v 0 < m) where
