@@ -1,3 +1,2 @@
 pub mod Variable
 pub mod Read
-pub mod First

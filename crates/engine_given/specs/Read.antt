@@ -7,9 +7,8 @@ use Rattle.pool.specs.Nodes.{all_below}
 use Rattle.pool.specs.Pool.{is_pool}
 use Rattle.taylor.specs.Expansion.{order}
 use Rattle.lent_series.specs.declared.series.Series.{Series}
-use Rattle.lent_series.specs.declared.call.Outcome.{Outcome}
 use Rattle.lent_series.specs.Series.{nodes_of, length_ok, given}
-use Rattle.lent_series.specs.Call.{accepted, refused_outcome}
+use Rattle.lent_series.specs.Call.{Outcome, accepted, refused_outcome}
 
 -- 1, then 2 and 5 of the expansion given
 abbrev pub given_to_read : {A : Type 0} → (ℕ → A) → List ℕ → List ℕ → ℕ → Series → A → A

@@ -4,5 +4,5 @@
 mod read;
 mod variable;
 
-pub use read::{Counted, from_coefficients, order};
+pub use read::{from_coefficients, order};
 pub use variable::var;

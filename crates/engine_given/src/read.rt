@@ -1,55 +1,41 @@
 // What is only read of an expansion.
-ghost use Rattle.std.specs.Prelude.{◌≡◌};
-ghost use Rattle.engine_given.specs.Read.{count_of, coefficients_of};
-ghost use Rattle.engine_given.specs.First.{first_refusal};
+ghost use Rattle.std.specs.Prelude.{◌≡◌, Ok, Err};
+ghost use Rattle.refusals.specs.Numbers.{numbered};
+ghost use Rattle.lent_series.specs.Series.{given};
+ghost use Rattle.engine_given.specs.Read.{given_to_read, count_of, coefficients_of};
 
-use lent_series::{Outcome, Series};
+use lent_series::Series;
+use refusals::Refusal;
+use taylor::Expansion;
 
-// A number of coefficients, or the refusal number.
-#[derive(Clone, Copy)]
-pub enum Counted {
-    Count(u64),
-    Refused(u32),
-}
-
-// The first of 1, 2 and 5 that is met, or 0.
-fn refusal_of(kinds: &[u8], words: &[u64], count: u64, s: Series) -> u32
-    ensures { result ≡ first_refusal kinds.now words.now count s }
+// 1, 2 and 5, then the expansion that is given.
+fn expansion_given(kinds: &[u8], words: &[u64], count: u64, s: Series) -> Result<Expansion, Refusal>
+    ensures { numbered result ≡ given_to_read Err kinds.now words.now count s (Ok (given s)) }
 {
     if !lent::is_pool(kinds, words, count) {
-        return refusals::BROKEN_POOL;
+        return Err(Refusal::BrokenPool);
     }
-    if !lent_series::nodes_below(count, s) {
-        return refusals::UNKNOWN_NODE;
-    }
-    if !lent_series::has_length(s) {
-        return refusals::WRONG_ORDER;
-    }
-    0
+    s.nodes_given(count)?;
+    s.expansion()
 }
 
 // How many coefficients there are: 2^64 - 1 of a constant.
-pub fn order(kinds: &[u8], words: &[u64], count: u64, s: Series) -> Counted
-    ensures { result ≡ count_of kinds.now words.now count s }
+pub fn order(kinds: &[u8], words: &[u64], count: u64, s: Series) -> Result<u64, Refusal>
+    ensures { numbered result ≡ count_of kinds.now words.now count s }
 {
-    let number = refusal_of(kinds, words, count, s);
-    if number != 0 {
-        return Counted::Refused(number);
-    }
-    let n = s.order;
-    Counted::Count(n)
+    let e = expansion_given(kinds, words, count, s)?;
+    Ok(e.order())
 }
 
 // The expansion of given coefficients.
-pub fn from_coefficients(kinds: &[u8], words: &[u64], count: u64, s: Series) -> Outcome
-    ensures { result ≡ coefficients_of kinds.now words.now count s }
+pub fn from_coefficients(
+    kinds: &[u8],
+    words: &[u64],
+    count: u64,
+    s: Series,
+) -> Result<Series, Refusal>
+    ensures { numbered result ≡ coefficients_of kinds.now words.now count s }
 {
-    let number = refusal_of(kinds, words, count, s);
-    if number != 0 {
-        return lent_series::refused(number);
-    }
-    Outcome {
-        number: 0,
-        series: lent_series::series_of(lent_series::expansion_of(s)),
-    }
+    let e = expansion_given(kinds, words, count, s)?;
+    Ok(Series::from(e))
 }
