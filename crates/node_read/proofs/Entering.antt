@@ -1,6 +1,6 @@
 -- The entries of a file, tested and copied one after the other into two tables of zeros: then these tables are a pool that holds them.
 -- Assumes nothing.
-use mathlib.Core.Path.{◌≡◌, refl, sym, ap, ap₂, ◌∙◌, subst⁻¹, fun_ext}
+use mathlib.Core.Path.{◌≡◌, sym, ap, ap₂, ◌∙◌, subst⁻¹, fun_ext}
 use mathlib.Core.Logic.{◌⊎◌, ⊎_elim}
 use mathlib.Core.Bool.{true, false, false≢true, cond}
 use mathlib.Core.List.{List}
@@ -93,19 +93,6 @@ module _ (first n : ℕ) (bs : List ℕ) (few_entries : n ≤ limit) where
   module _ {i : ℕ} {E : Pool} (h : Entering first n bs i E) (l : i < n) {word : ℕ} {node : Node} (e : word ≡ word_in first n bs i) (d : node ≡ decode (kind_in first bs i) word) where
     node_is : node ≡ decode (kind_in first bs i) (word_in first n bs i)
     node_is = d ∙ ap (decode (kind_in first bs i)) e
-
-    pub one_entered : may_stand_at i node ≡ true → {F : Pool} → F.kinds ≡ set E.kinds i (kind_in first bs i) → F.words ≡ set E.words i word → Entering first n bs (i + 1) F
-    one_entered t ks ws =
-        record {
-          few = omega arith;
-          passed = λ j m.
-              ⊎_elim
-              (λ same. subst⁻¹ (λ y. may_stand_at y (decode (kind_in first bs y) (word_in first n bs y)) ≡ true) same (ap (may_stand_at i) (sym node_is) ∙ t))
-              (λ other. h.passed j (omega arith))
-              (same_or_not j i);
-          kinds = subst⁻¹ (Filled (i + 1) (kind_in first bs)) ks (one_filled h.kinds (omega arith) refl);
-          words = subst⁻¹ (Filled (i + 1) (word_in first n bs)) ws (one_filled h.words (omega arith) e);
-        }
 
     pub not_entered : may_stand_at i node ≡ false → Entered false first n bs E
     not_entered f =

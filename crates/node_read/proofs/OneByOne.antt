@@ -1,22 +1,16 @@
 -- Nodes appended one after the other in a loop: what is done so far is the definition's, and a refusal ends the whole.
 -- Assumes nothing.
-use mathlib.Core.Path.{◌≡◌, sym, ap, ◌∙◌, subst, subst⁻¹}
+use mathlib.Core.Path.{◌≡◌, sym, ap, ◌∙◌, subst}
 use mathlib.Core.Logic.{⊎_elim}
 use Prim.Native.Nat.{ℕ, zero, suc, ◌+◌, ◌<◌, ◌≤◌}
 use native.Mathlib.Numerals.{add-one}
 use native.Mathlib.Nat.{not-suc-le-zero}
 use native.Mathlib.Omega.{arith}
-use Rattle.pool.specs.Pool.{limit, Pool, Out, done, refused, append, bind}
+use Rattle.pool.specs.Pool.{Pool, Out, done, refused, append, bind}
 use Rattle.pool.specs.declared.node.Node.{Node}
 use Rattle.shape.specs.Shape.{rename}
 use Rattle.shape.specs.File.{append_first}
-use Rattle.shape.specs.Walked.{Falls}
 use Rattle.shape.proofs.Lists.{same_or_not}
-use Rattle.node_read.specs.Reads.{PartsBelow}
-
--- the parts of an entry are small enough to be shifted
-pub all_below_limit : (p : ℕ → Node) → Falls p → (i : ℕ) → i < limit → {x : Node} → x ≡ p i → PartsBelow limit x
-all_below_limit p falls i l e = subst⁻¹ (PartsBelow limit) e (λ j h. let below : j < i = falls i j h in omega arith)
 
 -- the first i of n nodes are appended: the last has the number `last`, and Q is the pool
 pub record Appended (q : ℕ → Node) (P : Pool) (n i last : ℕ) (Q : Pool) : Type 0 where
@@ -50,9 +44,3 @@ module _ {q : ℕ → Node} {P : Pool} {n i last : ℕ} {Q : Pool} (h : Appended
 
   pub none_more : {k : ℕ} → refused k ≡ append x Q → refused k ≡ append_first n q P
   none_more {k} a = sym (stays_refused q P k i n (omega arith) (next a))
-
-pub all_appended : {q : ℕ → Node} {P : Pool} {n i last : ℕ} {Q : Pool} → Appended q P n i last Q → n ≤ i → done last Q ≡ append_first n q P
-all_appended {q} {P} {n} {i} h l = sym h.is ∙ ap (λ j. append_first j q P) (same i n h.few l)
-  where
-    same : (i n : ℕ) → i ≤ n → n ≤ i → i ≡ n
-    same i n a b = omega arith

@@ -2,9 +2,8 @@
 -- Assumes nothing.
 use mathlib.Core.Path.{◌≡◌, sym}
 use mathlib.Core.Bool.{Bool, true, false}
-use Prim.Native.Nat.{ℕ, ◌+◌, ◌<◌, ◌≤◌}
+use Prim.Native.Nat.{ℕ, ◌<◌, ◌≤◌}
 use native.Mathlib.Omega.{arith}
-use borrow.Author.Count.{below_none, below_more}
 use Rattle.pool.specs.Pool.{each}
 use Rattle.shape.proofs.Lists.{not_both, not_true_false}
 use Rattle.shape.proofs.Tests.{each_holds, each_of}
@@ -12,12 +11,6 @@ use Rattle.shape.proofs.Tests.{each_holds, each_of}
 -- those below i have passed
 abbrev pub Passed : (ℕ → Bool) → ℕ → Type 0
 Passed test i = (j : ℕ) → j < i → test j ≡ true
-
-pub none_passed : (test : ℕ → Bool) → Passed test 0
-none_passed test = below_none (λ j. test j ≡ true)
-
-pub one_passed : (test : ℕ → Bool) (i : ℕ) → Passed test i → test i ≡ true → Passed test (i + 1)
-one_passed test i h t = below_more (λ j. test j ≡ true) i h t
 
 pub all_pass : (n : ℕ) (test : ℕ → Bool) (i : ℕ) → n ≤ i → Passed test i → true ≡ each n test
 all_pass n test i l h = sym (each_of n test (λ j m. h j (omega arith)))

@@ -2,26 +2,18 @@
 -- Assumes nothing.
 use mathlib.Core.Path.{◌≡◌, refl}
 use mathlib.Core.Bool.{Bool, true, false, cond}
-use Prim.Native.Nat.{ℕ, ◌^◌, ◌≤◌, ◌<◌}
+use Prim.Native.Nat.{ℕ, ◌≤◌, ◌<◌}
 use native.Mathlib.Omega.{arith}
 use lib.Dec.{eqb}
 use borrow.Author.Tests.{eqb-true, eqb-false, ne_eqb, le-leb, lt-leb}
 use Rattle.literal.specs.Literal.{is_literal, signed}
-use Rattle.pool.specs.Nodes.{decode, is_node, half, pair, low_of, high_of, greatest_variable, least_exponent}
-use Rattle.pool.specs.declared.node.Node.{Node}
+use Rattle.pool.specs.Nodes.{decode, is_node, pair, low_of, high_of, greatest_variable, least_exponent}
 use Rattle.pool.specs.declared.node.Node.TheVariants.{Empty, Variable, Lit, Pow}
 use Rattle.key_strip.specs.Machine.{following, key_of, taken}
-
--- what is done at a code that is known, and at one that is none
-pub at_code : (code m x : ℕ) {n : Node} → code ≡ m → n ≡ key_of m x → n ≡ key_of code x
-at_code code m x e h = rw e h
 
 pub no_code : (code x : ℕ) → (code ≡ 1 → ⊥) → (code ≡ 2 → ⊥) → (code ≡ 8 → ⊥) → (code ≡ 3 → ⊥) → (code ≡ 4 → ⊥) → (code ≡ 5 → ⊥) → (code ≡ 9 → ⊥) → Empty ≡ key_of code x
 unfolding key_of
 no_code code x a b c d e f g = simp (ne_eqb code 1 a, ne_eqb code 2 b, ne_eqb code 8 c, ne_eqb code 3 d, ne_eqb code 4 e, ne_eqb code 5 f, ne_eqb code 9 g)
-
-pub at_width : (code m : ℕ) {k : ℕ} → code ≡ m → k ≡ following m → k ≡ following code
-at_width code m e h = rw e h
 
 pub no_width : (code : ℕ) → (code ≡ 1 → ⊥) → (code ≡ 2 → ⊥) → (code ≡ 8 → ⊥) → 0 ≡ following code
 unfolding following
@@ -37,13 +29,6 @@ few_follow code = go (eqb code 1) (eqb code 2) (eqb code 8)
     go false true c = omega arith
     go false false true = omega arith
     go false false false = omega arith
-
-pub power_fits : {code x : ℕ} → code ≡ 8 → x < 256 ^ following code → x < half
-unfolding following
-power_fits {code} {x} e l = at (rw e at l)
-  where
-    at : x < 256 ^ 4 → x < half
-    at l = omega arith
 
 -- the keys that are leaves, and the one that raises
 pub variable_key : (x : ℕ) → x ≤ greatest_variable → key_of 1 x ≡ Variable x

@@ -8,12 +8,6 @@ use native.Mathlib.Omega.{arith}
 use lib.ListN.{get_or}
 use Rattle.low_bytes.specs.LowBytes.{number_at}
 
-pub two_joined : (bs : List ℕ) (at : ℕ) → get_or bs at 0 + 256 * get_or bs (at + 1) 0 ≡ number_at 2 bs at
-two_joined bs at = rw (next at) (omega arith)
-  where
-    next : (i : ℕ) → i + 1 ≡ suc i
-    next i = omega arith
-
 -- the high part weighs as much as all numbers of the low one's width
 pub number_joined : (m n : ℕ) (bs : List ℕ) (at : ℕ) → number_at m bs at + 256 ^ m * number_at n bs (at + m) ≡ number_at (m + n) bs at
 number_joined zero n bs at = ap₂ (λ i k. 0 + 1 * number_at k bs i) here alone ∙ plain (number_at (zero + n) bs at)

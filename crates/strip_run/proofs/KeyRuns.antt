@@ -22,7 +22,7 @@ use Rattle.evaluate.specs.Operations.{applied}
 use Rattle.evaluate.specs.declared.Binary.{Binary}
 use Rattle.evaluate.specs.declared.Binary.TheVariants as binary
 use Rattle.key_strip.specs.Strip.{most_places}
-use Rattle.key_strip.specs.Machine.{following, key_of, keys_within, keys_of, taken, accepts, is_strip, in_place, run_from, run_strip}
+use Rattle.key_strip.specs.Machine.{following, key_of, keys_within, keys_of, taken, accepts, in_place, run_from, run_strip}
 use Rattle.strip_run.specs.Held.{in_use}
 use Rattle.strip_run.specs.Running.{Running, ran, RanTo}
 use Rattle.strip_run.specs.declared.running.Machine.{Machine}
@@ -30,9 +30,6 @@ use Rattle.strip_run.proofs.Codes.{literal_key, no_literal_key, power_key, no_po
 use Rattle.strip_run.proofs.Cut.{key_of_code, code_cut, code_alone, variable_first, unknown_first}
 use Rattle.strip_run.proofs.Accepting.{is_a_key, enough_there, place_there, rest_accepted}
 use Rattle.strip_run.proofs.Held.{one_pushed, topmost, below_topmost, two_replaced, one_replaced}
-
-pub running_starts : (s : List ℕ) (values held : List Float) (top below : Float) → is_strip s ≡ true → length held ≡ most_places → Running s values held 0 0 top below
-running_starts s values held top below e l = record { within = omega arith; small = omega arith; long = l; takes = e; so_far = refl }
 
 -- the key of a code that combines
 abbrev code_of : Binary → ℕ
@@ -223,10 +220,6 @@ module _ {s : List ℕ} {values held : List Float} {at d : ℕ} {top below : Flo
 -- the answer as the code gives it
 pub ran_as : (s : List ℕ) (values : List Float) (at : ℕ) {held held' : List Float} {r r' : Result Machine ℕ} → r' ≡ r → held' ≡ held → RanTo s values at held r → RanTo s values at held' r'
 ran_as s values at e h ran = rw (e, h) ran
-
-pub went_on : (s : List ℕ) (values : List Float) (at : ℕ) {held : List Float} {r : Result Machine ℕ} {M : Machine} → RanTo s values at held r → r ≡ Ok M
-    → (at < M.at) × Running s values held M.at M.depth M.top M.below
-went_on s values at h e = rw e at h
 
 pub all_run : {s : List ℕ} {values held : List Float} {at d : ℕ} {top below : Float} → Running s values held at d top below → length s ≤ at → Ok top ≡ run_strip values s
 unfolding accepts run_from keys_within

@@ -7,6 +7,7 @@ ghost use Rattle.strip_run.specs.Keys.{KeyAt};
 use pool::{HALF, Node};
 
 // How many bytes follow a code.
+#[tactic(auto, unfolding(key_strip::specs::Machine::following))]
 fn following(code: u8) -> usize
     ensures { result ≡ following code }
 {
@@ -19,6 +20,7 @@ fn following(code: u8) -> usize
 }
 
 // The key that raises, with an exponent of 32 bits.
+#[tactic(auto, unfolding(key_strip::specs::Machine::key_of))]
 fn power(x: u64) -> Node
     requires { x < half }
     ensures { result ≡ key_of 8 x }
@@ -27,6 +29,7 @@ fn power(x: u64) -> Node
 }
 
 // A code and the number that follows it, as a key.
+#[tactic(auto, unfolding(key_strip::specs::Machine::key_of, key_strip::specs::Machine::following, pool::specs::Nodes::decode))]
 fn key_of(code: u8, x: u64) -> Node
     requires { x < 256 ^ following code }
     ensures { result ≡ key_of code x }

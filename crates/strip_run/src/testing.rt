@@ -44,6 +44,7 @@ fn one_place_less(depth: usize, next: usize) -> Option<Passed>
 }
 
 // A literal with this word.
+#[tactic(auto, unfolding(crate::specs::Testing::literal_tested))]
 fn literal_tested(word: u64, depth: usize, next: usize) -> Option<Passed>
     ensures { result ≡ literal_tested word depth next }
 {
