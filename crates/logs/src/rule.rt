@@ -54,7 +54,7 @@ pub fn log_rule(pool: &Pool, arg: u32) -> LogRule
     }
 }
 
-// Lit(a) if a.is_zero()
+// Lit(a) if a.is_zero(). Tried in place of this and the next function, and not proved: chains of `if let`, at whose joins what is known of the node is lost.
 fn is_zero_at(pool: &Pool, i: u32) -> bool
     ensures { result ≡ guarded is_zero (lit_in (node_at pool.now i)) }
 {
