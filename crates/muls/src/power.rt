@@ -37,6 +37,7 @@ pub fn pow_in(pool: &mut Pool, left: u32, base: u32, exp: u32) -> Result<u32, Re
 }
 
 // pow(base, e1 + e2): a sum above the greatest exponent is refused before `pow` is entered.
+#[tactic(auto, unfolding(constructors::specs::Build::build))]
 pub fn pow_sum(pool: &mut Pool, left: u32, base: u32, e1: u32, e2: u32) -> Result<u32, Refusal>
     ensures { made result pool.new ≡ build (calls left) (pow (# base) (e1 + e2)) pool.old }
 {
