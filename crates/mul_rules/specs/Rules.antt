@@ -1,12 +1,19 @@
 -- What the classifier of `mul` answers: each answer is a right side of the table. Below them stand the insides of its arms, each where one function of the code decides.
 -- Assumes nothing.
-use Rattle.std.specs.Prelude.{Option, Some, None, ℕ, ◌+◌, eqb, ℤ, pos, ◌*ℤ◌}
+use Rattle.std.specs.Prelude.{◌≡◌, Option, Some, None, ℕ, ◌+◌, eqb, ℤ, pos, ◌*ℤ◌}
 use Rattle.literal.specs.Literal.{is_zero, is_one}
 use Rattle.pool.specs.declared.node.Node.{Node}
 use Rattle.constructors.specs.Terms.{Term, #, lit, add, mul, exp, pow, Mul, Arm, skip, leave, return, ◌>>=◌, ◌>>◌, ◌&◌, ◌or◌, inside}
 use Rattle.constructors.specs.Tables.{lit?, mul?, exp?, pow?}
+use Rattle.views.specs.Shapes.{shape_of}
+use Rattle.mul_rules.specs.declared.Factors.{Factors}
 use Rattle.mul_rules.specs.declared.MulRule.{MulRule}
 use Rattle.mul_rules.specs.declared.MulRule.TheVariants as rule
+
+-- the shapes that the code holds are those of its two nodes
+pub record Seen (at : ℕ → Node) (f : Factors) : Type 0 where
+  pub left : f.left ≡ shape_of (at f.lhs)
+  pub right : f.right ≡ shape_of (at f.rhs)
 
 -- the term that an answer stands for
 abbrev pub mul_term : MulRule → Term

@@ -3,10 +3,9 @@
 
 ghost use Rattle.std.specs.Prelude.{◌≡◌};
 ghost use Rattle.pool.specs.Pool.{node_at};
-ghost use Rattle.views.specs.Shapes.{shape_of};
 ghost use Rattle.constructors.specs.Terms.{#, Mul, inside, ◌then◌};
 ghost use Rattle.constructors.specs.Tables.{lit?, exp?, mul_lits, mul_exps, mul_left, mul_pows, mul_last, mul_table};
-ghost use Rattle.mul_rules.specs.Rules.{mul_term, arm_of, lit_arm, exp_arm, two_lits, one_lit, one_exp, two_exps, lits_ahead, lit_ahead, two_pows};
+ghost use Rattle.mul_rules.specs.Rules.{Seen, mul_term, arm_of, lit_arm, exp_arm, two_lits, one_lit, one_exp, two_exps, lits_ahead, lit_ahead, two_pows};
 
 use pool::Pool;
 use views::Shape;
@@ -36,6 +35,15 @@ pub enum MulRule {
     Power(u32, u32, u32, u32),
     // the plain node Mul(a, b)
     Plain(u32, u32),
+}
+
+// Two nodes, and how the rules see them.
+#[derive(Clone, Copy)]
+struct Factors {
+    lhs: u32,
+    rhs: u32,
+    left: Shape,
+    right: Shape,
 }
 
 // The literal of a node, if it is one.
@@ -95,10 +103,16 @@ fn one_lit(pool: &Pool, a: i64, other: u32) -> Option<MulRule>
 }
 
 // Literal simplifications.
-fn lits(pool: &Pool, lhs: u32, rhs: u32, left: Shape, right: Shape) -> Option<MulRule>
-    requires { (left ≡ shape_of (node_at pool.now lhs)) × (right ≡ shape_of (node_at pool.now rhs)) }
-    ensures { arm_of result ≡ inside (mul_lits (node_at pool.now) lhs rhs) }
+fn lits(pool: &Pool, factors: Factors) -> Option<MulRule>
+    requires { Seen (node_at pool.now) factors }
+    ensures { arm_of result ≡ inside (mul_lits (node_at pool.now) factors.lhs factors.rhs) }
 {
+    let Factors {
+        lhs,
+        rhs,
+        left,
+        right,
+    } = factors;
     match left {
         Shape::Lit(a) => match right {
             Shape::Lit(b) => two_lits(a, b, lhs, rhs),
@@ -155,10 +169,16 @@ fn two_exps(pool: &Pool, a1: u32, a2: u32, b1: u32, b2: u32) -> Option<MulRule>
 }
 
 // Exp simplifications.
-fn exps(pool: &Pool, lhs: u32, rhs: u32, left: Shape, right: Shape) -> Option<MulRule>
-    requires { (left ≡ shape_of (node_at pool.now lhs)) × (right ≡ shape_of (node_at pool.now rhs)) }
-    ensures { arm_of result ≡ inside (mul_exps (node_at pool.now) lhs rhs) }
+fn exps(pool: &Pool, factors: Factors) -> Option<MulRule>
+    requires { Seen (node_at pool.now) factors }
+    ensures { arm_of result ≡ inside (mul_exps (node_at pool.now) factors.lhs factors.rhs) }
 {
+    let Factors {
+        lhs,
+        rhs,
+        left,
+        right,
+    } = factors;
     match left {
         Shape::Mul(a1, a2) => match right {
             Shape::Exp(b) => one_exp(pool, a1, a2, b),
@@ -191,10 +211,16 @@ fn lit_ahead(pool: &Pool, a1: u32, a2: u32, other: u32) -> Option<MulRule>
 }
 
 // Moving literals left.
-fn ahead(pool: &Pool, lhs: u32, rhs: u32, left: Shape, right: Shape) -> Option<MulRule>
-    requires { (left ≡ shape_of (node_at pool.now lhs)) × (right ≡ shape_of (node_at pool.now rhs)) }
-    ensures { arm_of result ≡ inside (mul_left (node_at pool.now) lhs rhs) }
+fn ahead(pool: &Pool, factors: Factors) -> Option<MulRule>
+    requires { Seen (node_at pool.now) factors }
+    ensures { arm_of result ≡ inside (mul_left (node_at pool.now) factors.lhs factors.rhs) }
 {
+    let Factors {
+        lhs,
+        rhs,
+        left,
+        right,
+    } = factors;
     match left {
         Shape::Mul(a1, a2) => match right {
             Shape::Mul(b1, b2) => lits_ahead(pool, a1, a2, b1, b2),
@@ -224,10 +250,16 @@ fn two_pows(pool: &Pool, a1: u32, a2: u32, b: u32, n: u32) -> Option<MulRule>
 }
 
 // Pow simplifications.
-fn pows(pool: &Pool, lhs: u32, rhs: u32, left: Shape, right: Shape) -> Option<MulRule>
-    requires { (left ≡ shape_of (node_at pool.now lhs)) × (right ≡ shape_of (node_at pool.now rhs)) }
-    ensures { arm_of result ≡ inside (mul_pows (node_at pool.now) lhs rhs) }
+fn pows(pool: &Pool, factors: Factors) -> Option<MulRule>
+    requires { Seen (node_at pool.now) factors }
+    ensures { arm_of result ≡ inside (mul_pows (node_at pool.now) factors.lhs factors.rhs) }
 {
+    let Factors {
+        lhs,
+        rhs,
+        left,
+        right,
+    } = factors;
     let Shape::Mul(a1, a2) = left else {
         return None;
     };
@@ -241,10 +273,16 @@ fn pows(pool: &Pool, lhs: u32, rhs: u32, left: Shape, right: Shape) -> Option<Mu
 }
 
 // The last statements.
-fn last(pool: &Pool, lhs: u32, rhs: u32, right: Shape) -> MulRule
-    requires { right ≡ shape_of (node_at pool.now rhs) }
-    ensures { mul_term result ≡ (mul_last (node_at pool.now) lhs rhs then Mul (# lhs) (# rhs)) }
+fn last(pool: &Pool, factors: Factors) -> MulRule
+    requires { Seen (node_at pool.now) factors }
+    ensures { mul_term result ≡ (mul_last (node_at pool.now) factors.lhs factors.rhs then Mul (# factors.lhs) (# factors.rhs)) }
 {
+    let Factors {
+        lhs,
+        rhs,
+        left: _,
+        right,
+    } = factors;
     let Shape::Lit(_) = right else {
         return MulRule::Plain(lhs, rhs);
     };
@@ -257,17 +295,23 @@ pub fn mul_rule(pool: &Pool, lhs: u32, rhs: u32) -> MulRule
 {
     let left = views::shape_at(pool, lhs);
     let right = views::shape_at(pool, rhs);
-    if let Some(rule) = lits(pool, lhs, rhs, left, right) {
+    let factors = Factors {
+        lhs,
+        rhs,
+        left,
+        right,
+    };
+    if let Some(rule) = lits(pool, factors) {
         return rule;
     }
-    if let Some(rule) = exps(pool, lhs, rhs, left, right) {
+    if let Some(rule) = exps(pool, factors) {
         return rule;
     }
-    if let Some(rule) = ahead(pool, lhs, rhs, left, right) {
+    if let Some(rule) = ahead(pool, factors) {
         return rule;
     }
-    if let Some(rule) = pows(pool, lhs, rhs, left, right) {
+    if let Some(rule) = pows(pool, factors) {
         return rule;
     }
-    last(pool, lhs, rhs, right)
+    last(pool, factors)
 }

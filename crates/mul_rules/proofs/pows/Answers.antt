@@ -10,32 +10,32 @@ use Rattle.mul_rules.proofs.pows.Goals as goal
 pub returns-in_default : goal.returns-in_default
 returns-in_default c =
     let at = node_at c.args.pool.now in
-    let lhs = c.args.lhs in
-    let rhs = c.args.rhs in
-    no_factors at lhs rhs (mul_missed (at lhs) c.requires.0 c.in_default.not-Mul)
+    let lhs = c.args.factors.lhs in
+    let rhs = c.args.factors.rhs in
+    no_factors at lhs rhs (mul_missed (at lhs) c.requires.left c.in_default.not-Mul)
 
 pub returns-then-a2-rhs : goal.returns-then-a2-rhs
 returns-then-a2-rhs c =
     let at = node_at c.args.pool.now in
-    let lhs = c.args.lhs in
-    let rhs = c.args.rhs in
-    same_factor at lhs rhs (sym c.requires.0 ∙ c.in-Mul.is) (eq-eqb _ rhs c.if-a2-rhs.true)
+    let lhs = c.args.factors.lhs in
+    let rhs = c.args.factors.rhs in
+    same_factor at lhs rhs (sym c.requires.left ∙ c.in-Mul.is) (eq-eqb _ rhs c.if-a2-rhs.true)
 
 pub returns-in_default-right : goal.returns-in_default-right
 returns-in_default-right c =
     let at = node_at c.args.pool.now in
-    let lhs = c.args.lhs in
-    let rhs = c.args.rhs in
-    no_power at lhs rhs (sym c.requires.0 ∙ c.in-Mul.is)
+    let lhs = c.args.factors.lhs in
+    let rhs = c.args.factors.rhs in
+    no_power at lhs rhs (sym c.requires.left ∙ c.in-Mul.is)
     (ne_eqb _ rhs c.if-a2-rhs.false)
-    (pow_missed (at rhs) c.requires.1 c.in_default-right.not-Pow)
+    (pow_missed (at rhs) c.requires.right c.in_default-right.not-Pow)
 
 pub returns : goal.returns
 returns c =
     let at = node_at c.args.pool.now in
-    let lhs = c.args.lhs in
-    let rhs = c.args.rhs in
+    let lhs = c.args.factors.lhs in
+    let rhs = c.args.factors.rhs in
     mul_pow at lhs rhs
-    (sym c.requires.0 ∙ c.in-Mul.is)
+    (sym c.requires.left ∙ c.in-Mul.is)
     (ne_eqb _ rhs c.if-a2-rhs.false)
-    (sym c.requires.1 ∙ c.in-Pow.is) c.two_pows.ensures
+    (sym c.requires.right ∙ c.in-Pow.is) c.two_pows.ensures
