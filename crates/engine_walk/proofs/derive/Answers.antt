@@ -1,59 +1,14 @@
--- `engine_walk::derive` meets its contract: the pool, the numbers and the variable are looked at first, then the walk works on the copies.
+-- `engine_walk::derive` meets its contract: the given numbers fit, and a derivation only appends.
 -- Assumes nothing.
-use Rattle.std.specs.Prelude.{Ok, Err}
-use mathlib.Core.Path.{◌∙◌}
 use native.Mathlib.Omega.{arith}
-use borrow.Author.Tests.{leb-true}
-use Rattle.refusals.specs.Refusals.{unknown_node, unknown_variable}
-use Rattle.pool.specs.Nodes.{greatest_variable}
-use Rattle.pool.specs.Pool.{limit}
+use Rattle.lent.proofs.Calling.{one_fits, appended}
 use Rattle.walk_laws.proofs.Derivation.{derive_grows}
-use Rattle.lent.proofs.Calling.{test_fails, test_holds, met, broken, demanded, sizes, one_fits, on_lent, may_finish, worked}
-use Rattle.walks.specs.Derive.{derive}
-use Rattle.engine_walk.specs.Walks.{derive_work}
 use Rattle.engine_walk.proofs.derive.Goals as goal
-
-pub returns-then-not-take_in : goal.returns-then-not-take_in
-returns-then-not-take_in c =
-    broken c.take_in.ensures Ok Err limit (derive_work c.args.root c.args.var) (c.if-not-take_in.true)
-
-pub returns-then-not-one_given : goal.returns-then-not-one_given
-returns-then-not-one_given c =
-    demanded c.take_in.ensures (c.if-not-take_in.false) Ok Err limit (derive_work c.args.root c.args.var)
-    (rw (test_fails c.one_given.ensures c.if-not-one_given.true))
-
-pub returns-then-not-is_variable : goal.returns-then-not-is_variable
-returns-then-not-is_variable c =
-    let below = test_holds c.one_given.ensures c.if-not-one_given.false in
-    demanded c.take_in.ensures (c.if-not-take_in.false) Ok Err limit (derive_work c.args.root c.args.var)
-    (rw (below, test_fails c.is_variable.ensures c.if-not-is_variable.true))
-
-pub overflow_cast-n : goal.overflow_cast-n
-overflow_cast-n c =
-    record { fits = omega (arith, (sizes c.take_in.ensures (c.if-not-take_in.false)).small) }
 
 pub overflow_cast-root : goal.overflow_cast-root
 overflow_cast-root c =
-    let below = test_holds c.one_given.ensures c.if-not-one_given.false in
-    record { fits = omega (arith, one_fits c.take_in.ensures (c.if-not-take_in.false) below) }
+    let a = c.args in
+    record { fits = omega (arith, one_fits a.kinds.now a.words.now a.count.now c.in_ok-take_in.ensures.tested a.root c.in_ok-one_given.ensures) }
 
-pub overflow_cast-var : goal.overflow_cast-var
-overflow_cast-var c =
-    record { fits = omega (arith, leb-true c.args.var greatest_variable (test_holds c.is_variable.ensures c.if-not-is_variable.false)) }
-
-pub finish-requires : goal.finish-requires
-finish-requires c =
-    let taken = c.take_in.ensures in
-    let pool_taken = c.if-not-take_in.false in
-    let h = may_finish taken pool_taken limit (derive_grows c.args.var c.args.root) (on_lent taken pool_taken (derive c.args.root c.args.var) c.room_between-room.ensures c.derive_in-made.ensures) in
-    record { count_value = h.0; appended = h.1 }
-
-pub returns : goal.returns
-returns c =
-    let taken = c.take_in.ensures in
-    let pool_taken = c.if-not-take_in.false in
-    let below = test_holds c.one_given.ensures c.if-not-one_given.false in
-    let variable = test_holds c.is_variable.ensures c.if-not-is_variable.false in
-    worked taken pool_taken Ok Err limit (derive_work c.args.root c.args.var) c.finish.ensures
-    (on_lent taken pool_taken (derive c.args.root c.args.var) c.room_between-room.ensures c.derive_in-made.ensures ∙ met unknown_variable variable
-    ∙ met unknown_node below)
+pub finish-requires-clause-appended : goal.finish-requires-clause-appended
+finish-requires-clause-appended c = appended (derive_grows c.args.var c.args.root) c.in_ok-take_in.ensures.taken c.derive_in-made.ensures
