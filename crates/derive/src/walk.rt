@@ -1,4 +1,5 @@
 // The walk: a kept derivative is given again, else the node is visited, its parts first. That of `substitute` is nearly the same, and stands by itself: one walk for both was slower.
+// The pool and the kept results stay two parameters: a struct of two borrows says no more, and what each function asks of `kept` speaks of `term` as well.
 ghost use Rattle.std.specs.Prelude.{◌≡◌, ◌+◌, ◌<◌, length};
 ghost use Rattle.pool.specs.Made.{made};
 ghost use Rattle.walks.specs.Walk.{walk_below};

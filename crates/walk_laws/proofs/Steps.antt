@@ -1,6 +1,6 @@
--- One step of a walk after another: an answer that the code takes apart by `?` is a step of the definitions' `bind`, or ends it, and a constructor's answer is lifted into the walk. So for every table of kept results.
+-- One step of a walk after another: an answer that the code takes apart by `?` is a step of the definitions' `bind`. So for every table of kept results.
 -- Assumes nothing.
-use Rattle.std.specs.Prelude.{Option, Result, Ok, Err}
+use Rattle.std.specs.Prelude.{Option, Result, Ok}
 use mathlib.Core.Path.{◌≡◌, refl, sym, ap, ◌∙◌}
 use mathlib.Core.List.{List}
 use Prim.Native.Nat.{ℕ}
@@ -18,19 +18,7 @@ pub onward :
     → o ≡ bind x next
 onward P kept next e m h = h ∙ sym (ap (λ (y : Went). bind y next) (sym m ∙ ap (λ (q : Result ℕ Refusal). lifted kept (made q P)) e))
 
--- the step was refused: so is the whole
-pub stopped :
-    {r : Result ℕ Refusal} {f : Refusal} (P Q : Pool) (kept kept' : List (Option ℕ)) {x : Went} (next : ℕ → Walk)
-    → r ≡ Err f
-    → lifted kept (made r P) ≡ x
-    → lifted kept' (made (Err f) Q) ≡ bind x next
-stopped P Q kept kept' next e m = sym (ap (λ (y : Went). bind y next) (sym m ∙ ap (λ (q : Result ℕ Refusal). lifted kept (made q P)) e))
-
--- a constructor's answer in a walk
-pub called : (kept : List (Option ℕ)) {o p : Out} → o ≡ p → lifted kept o ≡ lifted kept p
-called kept e = ap (lifted kept) e
-
--- and out of it
+-- a constructor's answer, lifted into a walk, comes out of it again
 pub built_lifted : (kept : List (Option ℕ)) (o : Out) → built (lifted kept o) ≡ o
 built_lifted kept (done i P) = refl
 built_lifted kept (refused k) = refl
