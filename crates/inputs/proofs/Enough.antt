@@ -14,8 +14,8 @@ use Rattle.shape.specs.File.{size_of, is_sized, read_file}
 use Rattle.shape.proofs.Lists.{not_true_false, below_or_not}
 use Rattle.shape.proofs.Reading.{sized_facts}
 use Rattle.inputs.specs.Rooms.{Within, Enough, Decides}
-use Rattle.inputs.specs.declared.Input.{Input}
-use Rattle.inputs.specs.declared.Input.TheVariants.{Bytes, Missing, Failed}
+use Rattle.std.specs.Prelude.{Result, Ok, Err, Option, Some, None}
+use Rattle.outputs.specs.declared.Failed.{Failed}
 
 -- the longest file has 4,096 nodes
 abbrev pub longest_file : ℕ
@@ -47,7 +47,7 @@ module _ (P : Pool) where
 pub room_is_enough : (room : List ℕ) (n : ℕ) → longest_file < length room → Enough n room
 room_is_enough room n h file e P = ap (λ bs. read_file bs P) e ∙ first_bytes_decide P (length room) h file
 
-pub bytes_decide : (r : Input) (room : List ℕ) → longest_file < length room → Within r room → Decides r room
-bytes_decide (Bytes n) room h w = (w, room_is_enough room n h)
-bytes_decide Missing room h w = w
-bytes_decide Failed room h w = w
+pub bytes_decide : (r : Result (Option ℕ) Failed) (room : List ℕ) → longest_file < length room → Within r room → Decides r room
+bytes_decide (Ok (Some n)) room h w = (w, room_is_enough room n h)
+bytes_decide (Ok None) room h w = w
+bytes_decide (Err f) room h w = w

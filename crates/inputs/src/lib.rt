@@ -1,11 +1,12 @@
 // The inputs of the programs, standard input, nodes.bin and a strip's file, read to their end. Each read's own answer says whether it failed.
 #![tactic(auto)]
 
-ghost use Rattle.std.specs.Prelude.{◌≡◌, ◌≤◌, length};
-ghost use Rattle.inputs.specs.declared.Input.TheVariants.{Failed};
-ghost use Rattle.inputs.specs.Rooms.{Within, More, Decides};
+ghost use Rattle.std.specs.Prelude.{◌+◌, ◌≤◌, length, IfOk};
+ghost use Rattle.io.specs.Counts.{IsPrefixLen};
+ghost use Rattle.inputs.specs.Rooms.{Within, Decides};
 
 use low_bytes::TEXT_MAX;
+use outputs::Failed;
 use pool::LIMIT;
 use std::env::{Env, FillError};
 use std::fs;
@@ -21,14 +22,6 @@ pub const STRIP_ROOM: usize = TEXT_MAX + 1;
 // One byte more than the longest path has.
 const NAME_ROOM: usize = 4096;
 
-// How many bytes were read; that there is no such file; or that reading failed, which standard error has been told.
-#[derive(Clone, Copy)]
-pub enum Input {
-    Bytes(usize),
-    Missing,
-    Failed,
-}
-
 // One read, behind the bytes that are there. At the input's end it has 0 bytes.
 fn read_more<R: Read>(
     rt: &impl Eprint,
@@ -36,116 +29,117 @@ fn read_more<R: Read>(
     name: &[u8],
     room: &mut [u8],
     done: usize,
-) -> Input
+) -> Result<usize, Failed>
     requires { done ≤ length room.old }
-    ensures { More result done (length room.new) }
+    ensures { IfOk result (λ n. done + n ≤ length room.new) }
 {
     match reader.read(&mut room[done..]) {
-        Ok(n) => Input::Bytes(n),
-        Err(error) => {
-            outputs::say_failed(rt, name, error);
-            Input::Failed
-        }
+        Ok(n) => Ok(n),
+        Err(error) => Err(outputs::say_failed(rt, name, error)),
     }
 }
 
-// An input until it ends or the room is full. One that is not ready, as a pipe that does not wait, has failed.
-pub fn read_input<R: Read>(rt: &impl Eprint, reader: &mut R, name: &[u8], room: &mut [u8]) -> Input
-    ensures { Within result room.new }
+// An input until it ends or the room is full: how many bytes it has. One that is not ready, as a pipe that does not wait, has failed.
+pub fn read_input<R: Read>(
+    rt: &impl Eprint,
+    reader: &mut R,
+    name: &[u8],
+    room: &mut [u8],
+) -> Result<usize, Failed>
+    ensures { IfOk result (λ n. IsPrefixLen n room.new) }
 {
     let mut done = 0;
     while done < room.len() {
-        let more = read_more(rt, reader, name, room, done);
-        let Input::Bytes(n) = more else {
-            return Input::Failed;
-        };
+        let n = read_more(rt, reader, name, room, done)?;
         if n == 0 {
-            return Input::Bytes(done);
+            return Ok(done);
         }
         done += n;
     }
-    Input::Bytes(done)
+    Ok(done)
 }
 
-// The file of a name, which std wants as text.
-pub fn read_file(rt: &(impl Files + Eprint), name: &[u8], room: &mut [u8]) -> Input
+// The file of a name, which std wants as text: how many bytes it has, if there is such a file.
+pub fn read_file(
+    rt: &(impl Files + Eprint),
+    name: &[u8],
+    room: &mut [u8],
+) -> Result<Option<usize>, Failed>
     ensures { Within result room.new }
 {
     let Ok(path) = str::from_utf8(name) else {
-        outputs::say(rt, b"the name of a file", "it is not UTF-8 text");
-        return Input::Failed;
+        let failed = outputs::say(rt, b"the name of a file", "it is not UTF-8 text");
+        return Err(failed);
     };
     match fs::open(rt, path) {
-        Ok(mut file) => read_input(rt, &mut file, name, room),
+        Ok(mut file) => {
+            let n = read_input(rt, &mut file, name, room)?;
+            Ok(Some(n))
+        }
         Err(error) => {
             if error.kind() == ErrorKind::NotFound {
-                return Input::Missing;
+                return Ok(None);
             }
-            outputs::say_failed(rt, name, error);
-            Input::Failed
+            Err(outputs::say_failed(rt, name, error))
         }
     }
 }
 
 // nodes.bin in the working directory.
-pub fn read_nodes(rt: &(impl Files + Eprint), room: &mut [u8; FILE_ROOM]) -> Input
+pub fn read_nodes(
+    rt: &(impl Files + Eprint),
+    room: &mut [u8; FILE_ROOM],
+) -> Result<Option<usize>, Failed>
     ensures { Decides result room.new }
 {
     read_file(rt, b"nodes.bin", room)
 }
 
 // The file of a name, where a missing one has failed.
-fn read_named(rt: &(impl Files + Eprint), name: &[u8], room: &mut [u8]) -> Input
-    ensures { Within result room.new }
+fn read_named(rt: &(impl Files + Eprint), name: &[u8], room: &mut [u8]) -> Result<usize, Failed>
+    ensures { IfOk result (λ n. IsPrefixLen n room.new) }
 {
-    let input = read_file(rt, name, room);
-    match input {
-        Input::Bytes(n) => Input::Bytes(n),
-        Input::Missing => {
-            outputs::say_missing(rt, name);
-            Input::Failed
-        }
-        Input::Failed => Input::Failed,
+    match read_file(rt, name, room)? {
+        Some(n) => Ok(n),
+        None => Err(outputs::say_missing(rt, name)),
     }
 }
 
 // That there is not exactly one argument.
-fn say_usage(rt: &impl Eprint) -> Input
-    ensures { result ≡ Failed }
-{
+fn say_usage(rt: &impl Eprint) -> Failed {
     let _ = eprintln!(rt; "one argument is needed, the name of a strip's file");
-    Input::Failed
+    Failed
 }
 
 // The file that the program's only argument names.
-fn read_argument(rt: &(impl Env + Files + Eprint), room: &mut [u8]) -> Input
-    ensures { Within result room.new }
+fn read_argument(rt: &(impl Env + Files + Eprint), room: &mut [u8]) -> Result<usize, Failed>
+    ensures { IfOk result (λ n. IsPrefixLen n room.new) }
 {
     let Err(FillError::NotPresent) = rt.arg(2, &mut []) else {
-        return say_usage(rt);
+        return Err(say_usage(rt));
     };
     let mut name = [0u8; NAME_ROOM];
     match rt.arg(1, &mut name) {
         Ok(n) => read_named(rt, &name[..n], room),
-        Err(FillError::NotPresent) => say_usage(rt),
+        Err(FillError::NotPresent) => Err(say_usage(rt)),
         Err(FillError::TooLong) => {
-            outputs::say(rt, b"the name of the strip's file", "File name too long");
-            Input::Failed
+            let failed = outputs::say(rt, b"the name of the strip's file", "File name too long");
+            Err(failed)
         }
     }
 }
 
 // The strip in the file that the program's only argument names, unless it is longer than any strip.
-pub fn read_strip(rt: &(impl Env + Files + Eprint), room: &mut [u8; STRIP_ROOM]) -> Input
-    ensures { Within result room.new }
+pub fn read_strip(
+    rt: &(impl Env + Files + Eprint),
+    room: &mut [u8; STRIP_ROOM],
+) -> Result<usize, Failed>
+    ensures { IfOk result (λ n. IsPrefixLen n room.new) }
 {
-    let input = read_argument(rt, room);
-    let Input::Bytes(n) = input else {
-        return Input::Failed;
-    };
+    let n = read_argument(rt, room)?;
     if TEXT_MAX < n {
         let _ = eprintln!(rt; "the strip's file has more than {TEXT_MAX} bytes");
-        return Input::Failed;
+        return Err(Failed);
     }
-    Input::Bytes(n)
+    Ok(n)
 }

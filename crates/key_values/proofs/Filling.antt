@@ -6,18 +6,19 @@ use mathlib.Core.List.{List, [], ◌∷◌, ◌++◌, append_assoc, append-nil}
 use Prim.Native.Nat.{ℕ, suc, ◌+◌, ◌-◌, ◌≤◌, ◌<◌}
 use native.Mathlib.Numerals.{add-one}
 use native.Mathlib.Omega.{arith}
-use lib.Dec.{leb, ltb, eqb}
+use lib.Dec.{ltb, eqb}
 use lib.Ieee.{Float}
-use lib.ListN.{length, take, drop, set, length-set, length-drop, length-take}
-use lib.Seq.{take_all, take-nil, take-suc-set, drop-drop}
-use borrow.Author.Tests.{lt-ltb, le-ltb, le-leb, lt-leb, ltb-true, ltb-false}
-use Rattle.sheet_text.specs.Line.{Read, nothing, read, joined, fields}
-use Rattle.sheet_line.specs.Split.{content_length, first_at, first_space, split}
-use Rattle.sheet_line.proofs.Splitting.{split_content, rest_of, one_field, first_field, some_field}
-use Rattle.key_values.specs.declared.decimal.Value.TheVariants as value
-use Rattle.key_values.specs.declared.line.Values.TheVariants.{Usage, Count}
+use lib.ListN.{length, get_or, take, drop, set, length-set, drop_of_length-le}
+use lib.Seq.{take-nil, take-suc-set, drop-cons}
+use Rattle.std.specs.List.{slice_split, onto_first}
+use Rattle.std.proofs.lemmas.List.Splits.{slice_split-cons_yes, slice_split-cons_no}
+use borrow.Author.Tests.{lt-ltb, le-ltb, ltb-true, ltb-false}
+use Rattle.std.specs.Prelude.{Option, Some, None}
+use Rattle.sheet_text.specs.Line.{joined, fields}
+use Rattle.sheet_line.specs.Split.{content_length, split}
+use Rattle.sheet_line.proofs.Splitting.{split_content, some_field}
 use Rattle.key_values.specs.Values.{value_of, and_then, each_of, values_in, values_of}
-use Rattle.key_values.specs.Filled.{value_read, at_most, Fills, kept, place_after}
+use Rattle.key_values.specs.Filled.{at_most, Fills, kept, place_after}
 
 -- ---- one value more
 
@@ -29,144 +30,102 @@ pub has_none : (table : List Float) (n : ℕ) (x : Float) → n ≤ length table
 unfolding kept place_after
 has_none table n x within h = (omega arith, rw (le-ltb n (length table) h))
 
--- ---- a field
+-- ---- the fields
 
-pub first_within : (wanted : ℕ) (bytes : List ℕ) → first_at wanted bytes ≤ length bytes
-unfolding first_at
-first_within wanted [] = omega arith
-first_within wanted (b ∷ bs) = go (eqb b wanted) (first_within wanted bs)
+pub split_is : (text : List ℕ) → slice_split (λ b. eqb b 32) text ≡ split text
+unfolding split
+split_is [] = refl
+split_is (b ∷ bs) = go (eqb b 32) refl (split_is bs)
   where
-    go : (t : Bool) → first_at wanted bs ≤ length bs → cond t 0 (suc (first_at wanted bs)) ≤ suc (length bs)
-    go true h = omega arith
-    go false h = omega arith
+    same : (l : List (List ℕ)) → onto_first b l ≡ joined b l
+    same [] = refl
+    same (f ∷ fs) = refl
 
-pub field_within : (text : List ℕ) (at : ℕ) {end : ℕ} → at ≤ length text → end ≡ at + first_space (drop at text) → end ≤ length text
-field_within text at h e = omega (arith, first_within 32 (drop at text), length-drop at text)
+    go : (t : Bool) → eqb b 32 ≡ t → slice_split (λ x. eqb x 32) bs ≡ split bs → slice_split (λ x. eqb x 32) (b ∷ bs) ≡ cond t ([] ∷ split bs) (joined b (split bs))
+    go true e h = slice_split-cons_yes (λ x. eqb x 32) b bs e ∙ ap (λ (l : List (List ℕ)). [] ∷ l) h
+    go false e h = slice_split-cons_no (λ x. eqb x 32) b bs e ∙ ap (onto_first b) h ∙ same (split bs)
 
--- the fields from a place on, and none past the end
-abbrev pub fields_from : List ℕ → ℕ → List (List ℕ)
-fields_from text at = cond (leb at (length text)) (split (drop at text)) []
+pub in_fields : (text : List ℕ) (k : ℕ) (field : List ℕ) → (k < length (slice_split (λ b. eqb b 32) text)) × (field ≡ get_or (slice_split (λ b. eqb b 32) text) k field) → (k < length (split text)) × (field ≡ get_or (split text) k field)
+in_fields text k field t = rw (split_is text) at t
 
-all_fields : (text : List ℕ) → fields_from text 0 ≡ split text
-all_fields text = rw (le-leb 0 (length text) (omega arith))
-
-no_fields : (text : List ℕ) (at : ℕ) → length text < at → fields_from text at ≡ []
-no_fields text at h = rw (lt-leb at (length text) h)
-
--- the first of them, as a part of a slice, and the others
-first_of_fields :
-    (text : List ℕ) (at : ℕ) {end : ℕ}
-    → at ≤ length text
-    → end ≡ at + first_space (drop at text)
-    → fields_from text at ≡ take (end - at) (drop at text) ∷ fields_from text (end + 1)
-first_of_fields text at {end} h e = rw (le-leb at (length text) h) (go (ltb end (length text)) refl)
-  where
-    go : (t : Bool) → ltb end (length text) ≡ t → split (drop at text) ≡ take (end - at) (drop at text) ∷ fields_from text (end + 1)
-    go true more =
-        let before : end < length text = ltb-true end (length text) more in
-        let len = length-drop at text in
-        let here : end - at ≡ first_space (drop at text) = omega arith in
-        let there : at + (end - at + 1) ≡ end + 1 = omega arith in
-        first_field (drop at text) here (omega arith)
-        ∙ ap (λ (l : List ℕ). take (end - at) (drop at text) ∷ split l)
-        (rest_of (drop at text) (end - at + 1) ∙ drop-drop (end - at + 1) at text ∙ ap (λ (j : ℕ). drop j text) there)
-        ∙ ap (λ (t : Bool). take (end - at) (drop at text) ∷ cond t (split (drop (end + 1) text)) []) (sym (le-leb (end + 1) (length text) (omega arith)))
-    go false over =
-        let after : length text ≤ end = ltb-false end (length text) over in
-        let len = length-drop at text in
-        let here : end - at ≡ first_space (drop at text) = omega arith in
-        one_field (drop at text) here (omega arith)
-        ∙ ap (λ (l : List ℕ). l ∷ []) (sym (take_all (end - at) (drop at text) (omega arith)))
-        ∙ ap (λ (l : List (List ℕ)). take (end - at) (drop at text) ∷ l) (sym (no_fields text (end + 1) (omega arith)))
+pub all_fields : (text : List ℕ) {k : ℕ} → k ≡ length (slice_split (λ b. eqb b 32) text) → k ≡ length (split text)
+all_fields text e = e ∙ ap length (split_is text)
 
 -- ---- the table
 
 -- what is kept, and of the rest as much as has room
-abbrev pub joined_to : List Float → ℕ → Read (List Float) → Read (List Float)
-joined_to xs room nothing = nothing
-joined_to xs room (read ys) = read (xs ++ take room ys)
+abbrev pub joined_to : List Float → ℕ → Option (List Float) → Option (List Float)
+joined_to xs room None = None
+joined_to xs room (Some ys) = Some (xs ++ take room ys)
 
 -- a value that finds a place, and one that finds none
-one_more : (xs : List Float) (x : Float) {k m : ℕ} → m ≡ suc k → (r : Read (List Float)) → joined_to (xs ++ (x ∷ [])) k r ≡ joined_to xs m (and_then (read x) r)
-one_more xs x e nothing = refl
-one_more xs x {k} e (read ys) = rw e (ap read (append_assoc xs (x ∷ []) (take k ys)))
+one_more : (xs : List Float) (x : Float) {k m : ℕ} → m ≡ suc k → (r : Option (List Float)) → joined_to (xs ++ (x ∷ [])) k r ≡ joined_to xs m (and_then (Some x) r)
+one_more xs x e None = refl
+one_more xs x {k} e (Some ys) = rw e (ap Some (append_assoc xs (x ∷ []) (take k ys)))
 
-no_more : (xs : List Float) (x : Float) {m : ℕ} → m ≡ 0 → (r : Read (List Float)) → joined_to xs m r ≡ joined_to xs m (and_then (read x) r)
-no_more xs x e nothing = refl
-no_more xs x e (read ys) = rw e refl
+no_more : (xs : List Float) (x : Float) {m : ℕ} → m ≡ 0 → (r : Option (List Float)) → joined_to xs m r ≡ joined_to xs m (and_then (Some x) r)
+no_more xs x e None = refl
+no_more xs x e (Some ys) = rw e refl
 
--- the fields before a place gave the n values of the table, and those from it on go on
-pub record Filling (text : List ℕ) (table₀ table : List Float) (at n : ℕ) : Type 0 where
+-- the first k fields gave the n values of the table, and those behind them go on
+pub record Filling (all : List (List ℕ)) (table₀ table : List Float) (k n : ℕ) : Type 0 where
   pub long : length table ≡ length table₀
   pub within : n ≤ length table
-  pub along : at ≤ length text + 1
-  pub gives : joined_to (take n table) (length table - n) (each_of (fields_from text at)) ≡ at_most (length table) (each_of (split text))
+  pub gives : joined_to (take n table) (length table - n) (each_of (drop k all)) ≡ at_most (length table) (each_of all)
 
-pub starts : (text : List ℕ) (table : List Float) → Filling text table table 0 0
-starts text table =
+pub starts : (all : List (List ℕ)) (table : List Float) → Filling all table table 0 0
+starts all table =
     record {
       long = refl;
       within = omega arith;
-      along = omega arith;
       gives =
-          let all : length table - 0 ≡ length table = omega arith in
-          rw (all_fields text, all) (go (each_of (split text)));
+          let whole : length table - 0 ≡ length table = omega arith in
+          rw whole (go (each_of all));
     }
   where
-    go : (r : Read (List Float)) → joined_to [] (length table) r ≡ at_most (length table) r
-    go nothing = refl
-    go (read xs) = refl
+    go : (r : Option (List Float)) → joined_to [] (length table) r ≡ at_most (length table) r
+    go None = refl
+    go (Some xs) = refl
 
 module _
-    (text : List ℕ) (table₀ table : List Float) (at n : ℕ) (f : Filling text table₀ table at n)
-    (h : at ≤ length text) {end : ℕ} (e : end ≡ at + first_space (drop at text))
+    (all : List (List ℕ)) (table₀ table : List Float) (k n : ℕ) (f : Filling all table₀ table k n)
+    (field : List ℕ) (h : k < length all) (is : field ≡ get_or all k field)
   where
-    abbrev rest : Read (List Float)
-    rest = each_of (fields_from text (end + 1))
+    abbrev rest : Option (List Float)
+    rest = each_of (drop (k + 1) all)
 
-    abbrev field : List ℕ
-    field = take (end - at) (drop at text)
-
-    -- the value of the first field and those of the others
-    here : joined_to (take n table) (length table - n) (and_then (value_of field) rest) ≡ at_most (length table) (each_of (split text))
+    -- the value of the field and those of the others
+    here : joined_to (take n table) (length table - n) (and_then (value_of field) rest) ≡ at_most (length table) (each_of all)
     unfolding each_of
-    here = ap (λ (l : List (List ℕ)). joined_to (take n table) (length table - n) (each_of l)) (sym (first_of_fields text at h e)) ∙ f.gives
+    here =
+        let first : drop k all ≡ field ∷ drop (k + 1) all =
+        drop-cons all k field h ∙ ap (λ (j : ℕ). get_or all k field ∷ drop j all) (sym (add-one k)) ∙ ap (λ (x : List ℕ). x ∷ drop (k + 1) all) (sym is) in
+        ap (λ (l : List (List ℕ)). joined_to (take n table) (length table - n) (each_of l)) (sym first) ∙ f.gives
 
-    pub no_value_there : value.None ≡ value_read (value_of field) → Fills Usage table (each_of (split text))
-    no_value_there v = record { gives = go (value_of field) v here; within = omega arith }
-      where
-        go : (r : Read Float) → value.None ≡ value_read r → joined_to (take n table) (length table - n) (and_then r rest) ≡ at_most (length table) (each_of (split text)) → nothing ≡ at_most (length table) (each_of (split text))
-        go nothing v g = g
-        go (read x) v g = let z : ◌≡◌ {A = ℕ} 0 1 = cc in absurd (omega arith)
+    pub no_value_there : None ≡ value_of field → Fills None table (each_of all)
+    no_value_there v = record { gives = rw (sym v) at here; within = omega arith }
 
-    value_there : {x : Float} → value.Double x ≡ value_read (value_of field) → joined_to (take n table) (length table - n) (and_then (read x) rest) ≡ at_most (length table) (each_of (split text))
-    value_there {x} v = go (value_of field) v here
-      where
-        go : (r : Read Float) → value.Double x ≡ value_read r → joined_to (take n table) (length table - n) (and_then r rest) ≡ at_most (length table) (each_of (split text)) → joined_to (take n table) (length table - n) (and_then (read x) rest) ≡ at_most (length table) (each_of (split text))
-        go nothing v g = let z : ◌≡◌ {A = ℕ} 0 1 = cc in absurd (omega arith)
-        go (read y) v g = let w : x ≡ y = cc in rw w g
+    value_there : {x : Float} → Some x ≡ value_of field → joined_to (take n table) (length table - n) (and_then (Some x) rest) ≡ at_most (length table) (each_of all)
+    value_there {x} v = rw (sym v) at here
 
     pub turn :
         {x : Float} {after : List Float} {m : ℕ}
-        → value.Double x ≡ value_read (value_of field)
+        → Some x ≡ value_of field
         → m ≡ place_after n table
         → after ≡ kept table n x
-        → Filling text table₀ after (end + 1) m
+        → Filling all table₀ after (k + 1) m
     unfolding kept place_after
     turn {x} {after} {m} v p q = go (ltb n (length table)) refl
       where
-        go : (t : Bool) → ltb n (length table) ≡ t → Filling text table₀ after (end + 1) m
+        go : (t : Bool) → ltb n (length table) ≡ t → Filling all table₀ after (k + 1) m
         go true more =
             let room : n < length table = ltb-true n (length table) more in
             let stored : after ≡ set table n x = q ∙ rw more in
             let count : m ≡ n + 1 = omega (arith, p) in
             let long : length after ≡ length table = ap length stored ∙ length-set table n x in
-            let w = f.within in
-            let a = field_within text at h e in
             record {
               long = long ∙ f.long;
               within = omega arith;
-              along = omega arith;
               gives = rw (long, count, stored, add-one n, take-suc-set table n x room) (one_more (take n table) x {m = length table - n} (omega arith) rest ∙ value_there v);
             }
         go false full =
@@ -174,37 +133,39 @@ module _
             let same : after ≡ table = q ∙ rw full in
             let w = f.within in
             let count : m ≡ n = omega (arith, p) in
-            let a = field_within text at h e in
             record {
               long = ap length same ∙ f.long;
               within = rw (same, count) w;
-              along = omega arith;
               gives = rw (same, count) (no_more (take n table) x {m = length table - n} (omega arith) rest ∙ value_there v);
             }
 
-pub ends : (text : List ℕ) (table₀ table : List Float) (at n : ℕ) → Filling text table₀ table at n → length text < at → Fills (Count n) table (each_of (split text))
+pub ends : (all : List (List ℕ)) (table₀ table : List Float) (k n : ℕ) → Filling all table₀ table k n → k ≡ length all → Fills (Some n) table (each_of all)
 unfolding each_of
-ends text table₀ table at n f h =
+ends all table₀ table k n f h =
     record {
       gives =
-          ap (λ (l : List Float). read l) (sym (append-nil (take n table)) ∙ ap (λ (l : List Float). take n table ++ l) (sym (take-nil (length table - n))))
-          ∙ ap (λ (l : List (List ℕ)). joined_to (take n table) (length table - n) (each_of l)) (sym (no_fields text at h))
+          ap (λ (l : List Float). Some l) (sym (append-nil (take n table)) ∙ ap (λ (l : List Float). take n table ++ l) (sym (take-nil (length table - n))))
+          ∙ ap (λ (l : List (List ℕ)). joined_to (take n table) (length table - n) (each_of l)) (sym (drop_of_length-le all (omega arith)))
           ∙ f.gives;
       within = f.within;
     }
 
 -- ---- the line
 
-pub no_values : (line : List ℕ) {end : ℕ} (table : List Float) → end ≡ content_length line → end ≡ 0 → Fills (Count 0) table (values_of line)
+pub no_values : (line content : List ℕ) (table : List Float) → content ≡ take (content_length line) line → length content ≡ 0 → Fills (Some 0) table (values_of line)
 unfolding values_of split
-no_values line table e h =
+no_values line content table e h =
     record {
       gives =
-          let empty : content_length line ≡ 0 = sym e ∙ h in
-          let given : values_in (fields line) ≡ read [] = ap values_in (split_content line ∙ ap (λ (k : ℕ). split (take k line)) empty) in
-          rw given (ap read (sym (take-nil (length table))));
+          let empty : content ≡ [] = length-zero content h in
+          let given : values_in (fields line) ≡ Some [] = ap values_in (split_content line ∙ ap split (sym e ∙ empty)) in
+          rw given (ap Some (sym (take-nil (length table))));
       within = omega arith;
     }
+  where
+    length-zero : (l : List ℕ) → length l ≡ 0 → l ≡ []
+    length-zero [] h = refl
+    length-zero (b ∷ bs) h = absurd (omega arith)
 
 -- where something is given, each field has a value
 each_field : (bytes : List ℕ) → 0 < length bytes → each_of (split bytes) ≡ values_in (split bytes)
@@ -218,9 +179,6 @@ each_field (b ∷ bs) h = go (eqb b 32) (split bs) (some_field bs)
     go false [] k = refl
     go false (f ∷ fs) k = refl
 
-pub values_given : (line : List ℕ) {end : ℕ} → end ≡ content_length line → (end ≡ 0 → ⊥) → end ≤ length line → each_of (split (take end line)) ≡ values_of line
+pub values_given : (line content : List ℕ) → content ≡ take (content_length line) line → (length content ≡ 0 → ⊥) → each_of (split content) ≡ values_of line
 unfolding values_of
-values_given line {end} e some h =
-    each_field (take end line) (omega (arith, length-take end line))
-    ∙ ap (λ (k : ℕ). values_in (split (take k line))) e
-    ∙ ap values_in (sym (split_content line))
+values_given line content e some = each_field content (omega arith) ∙ ap (λ (l : List ℕ). values_in (split l)) e ∙ ap values_in (sym (split_content line))

@@ -1,5 +1,5 @@
+pub mod Examples
+pub mod Filling
 pub mod HexDigits
 pub mod Quotients
-pub mod Filling
-pub mod Examples
 pub mod Theorems

@@ -1,7 +1,7 @@
 -- Decimals: powers of ten that fit, and the digits on both sides of a point read in turn.
 -- Assumes nothing.
 use mathlib.Core.Path.{◌≡◌, refl, ap, sym, ◌∙◌}
-use mathlib.Core.Bool.{Bool, true, false, ◌&&◌, cond}
+use mathlib.Core.Bool.{Bool, true, false, ◌&&◌}
 use mathlib.Core.List.{List, [], ◌∷◌, ◌++◌}
 use Prim.Native.Nat.{ℕ, suc, ◌+◌, ◌-◌, ◌*◌, ◌^◌, ◌≤◌, ◌<◌}
 use native.Mathlib.Nat.{pow-succ', pow-le-pow_right, mul-le-mul_right}
@@ -9,21 +9,19 @@ use native.Mathlib.Numerals.{add-one}
 use native.Mathlib.Omega.{arith}
 use lib.Dec.{leb, ltb}
 use lib.Ieee.{binary64, of_bits}
-use lib.ListN.{length, get_or, take, drop, length-append}
+use lib.ListN.{length, take, drop, length-append, length-drop}
+use lib.Seq.{length-take-le}
 use borrow.Author.Tests.{le-leb, lt-leb, lt-ltb, le-ltb, eq-eqb, ne_eqb, leb-true}
 use mir.Syntax.{w64}
 use mir.Val.{bits}
 use Rattle.literal.specs.Literal.{greatest}
-use Rattle.sheet_text.specs.Line.{Read, nothing, read, when, is_digit, digits_from}
-use Rattle.sheet_line.specs.declared.Number.TheVariants as number
+use Rattle.std.specs.Prelude.{Option, Some, None}
+use Rattle.sheet_text.specs.Line.{when, is_digit, digits_from}
 use Rattle.sheet_line.specs.Cut.{cut, cut_number}
 use Rattle.sheet_line.specs.Split.{first_at}
-use Rattle.sheet_line.proofs.Asking.{no_value, behind}
+use Rattle.sheet_line.proofs.Asking.{no_value}
 use Rattle.sheet_line.proofs.Numbers.{goes_on}
-use Rattle.sheet_line.proofs.Splitting.{rest_of}
-use Rattle.key_values.specs.declared.decimal.Value.TheVariants as value
-use Rattle.key_values.specs.Values.{most_digits, minus, point, quotient_of, divided_by, of_digits, unsigned_of, decimal_of, bits_of, value_from, value_of}
-use Rattle.key_values.specs.Filled.{number_read, value_read}
+use Rattle.key_values.specs.Values.{most_digits, minus, point, quotient_of, divided_by, of_digits, unsigned_of, decimal_of, bits_of, value_of}
 
 -- ---- powers of ten
 
@@ -40,9 +38,9 @@ power_fits i e h m = let q = power_within (i + 1) (omega arith) in let s = power
 -- ---- digits in turn
 
 -- digits after those that were read, if they were
-abbrev go_on : Read ℕ → List ℕ → Read ℕ
-go_on nothing bs = nothing
-go_on (read n) bs = digits_from n bs
+abbrev go_on : Option ℕ → List ℕ → Option ℕ
+go_on None bs = None
+go_on (Some n) bs = digits_from n bs
 
 digits_joined : (n : ℕ) (xs bs : List ℕ) → digits_from n (xs ++ bs) ≡ go_on (digits_from n xs) bs
 unfolding digits_from
@@ -50,23 +48,23 @@ digits_joined n [] bs = refl
 digits_joined n (a ∷ xs) bs =
     go (is_digit a) (digits_from (10 * n + (a - 48)) (xs ++ bs)) (digits_from (10 * n + (a - 48)) xs) (digits_joined (10 * n + (a - 48)) xs bs)
   where
-    go : (t : Bool) (r s : Read ℕ) → r ≡ go_on s bs → when t r ≡ go_on (when t s) bs
+    go : (t : Bool) (r s : Option ℕ) → r ≡ go_on s bs → when t r ≡ go_on (when t s) bs
     go true r s e = e
     go false r s e = refl
 
-pub none_joined : (xs bs : List ℕ) → number.None ≡ cut_number (digits_from 0 xs) → number.None ≡ cut_number (digits_from 0 (xs ++ bs))
+pub none_joined : (xs bs : List ℕ) → None ≡ cut_number (digits_from 0 xs) → None ≡ cut_number (digits_from 0 (xs ++ bs))
 none_joined xs bs e = rw (digits_joined 0 xs bs) (go (digits_from 0 xs) e)
   where
-    go : (r : Read ℕ) → number.None ≡ cut_number r → number.None ≡ cut_number (go_on r bs)
-    go nothing e = refl
-    go (read n) e = absurd (no_value (cut n) e)
+    go : (r : Option ℕ) → None ≡ cut_number r → None ≡ cut_number (go_on r bs)
+    go None e = refl
+    go (Some n) e = absurd (no_value (cut n) e)
 
-pub some_joined : (xs bs : List ℕ) {n : ℕ} → number.Value n ≡ cut_number (digits_from 0 xs) → cut_number (digits_from n bs) ≡ cut_number (digits_from 0 (xs ++ bs))
+pub some_joined : (xs bs : List ℕ) {n : ℕ} → Some n ≡ cut_number (digits_from 0 xs) → cut_number (digits_from n bs) ≡ cut_number (digits_from 0 (xs ++ bs))
 some_joined xs bs {n} e = rw (digits_joined 0 xs bs) (go (digits_from 0 xs) e)
   where
-    go : (r : Read ℕ) → number.Value n ≡ cut_number r → cut_number (digits_from n bs) ≡ cut_number (go_on r bs)
-    go nothing e = absurd (no_value n (sym e))
-    go (read m) e = let f : n ≡ cut m = cc in ap (λ (k : ℕ). cut_number (digits_from k bs)) f ∙ goes_on m bs
+    go : (r : Option ℕ) → Some n ≡ cut_number r → cut_number (digits_from n bs) ≡ cut_number (go_on r bs)
+    go None e = absurd (no_value n (sym e))
+    go (Some m) e = let f : n ≡ cut m = cc in ap (λ (k : ℕ). cut_number (digits_from k bs)) f ∙ goes_on m bs
 
 at_most_nine : (b : ℕ) → is_digit b ≡ true → b - 48 ≤ 9
 at_most_nine b e = go (leb 48 b) e
@@ -76,7 +74,7 @@ at_most_nine b e = go (leb 48 b) e
     go false f = let z : ◌≡◌ {A = ℕ} 0 1 = cc in absurd (omega arith)
 
 -- so many digits make no greater number
-digits_below : (n : ℕ) (bs : List ℕ) (p : ℕ) → digits_from n bs ≡ read p → p < (n + 1) * 10 ^ length bs
+digits_below : (n : ℕ) (bs : List ℕ) (p : ℕ) → digits_from n bs ≡ Some p → p < (n + 1) * 10 ^ length bs
 unfolding digits_from
 digits_below n [] p e = let f : n ≡ p = cc in omega arith
 digits_below n (b ∷ bs) p e = go (is_digit b) refl e (digits_below (10 * n + (b - 48)) bs p)
@@ -84,8 +82,8 @@ digits_below n (b ∷ bs) p e = go (is_digit b) refl e (digits_below (10 * n + (
     go :
         (t : Bool)
         → is_digit b ≡ t
-        → when t (digits_from (10 * n + (b - 48)) bs) ≡ read p
-        → (digits_from (10 * n + (b - 48)) bs ≡ read p → p < (10 * n + (b - 48) + 1) * 10 ^ length bs)
+        → when t (digits_from (10 * n + (b - 48)) bs) ≡ Some p
+        → (digits_from (10 * n + (b - 48)) bs ≡ Some p → p < (10 * n + (b - 48) + 1) * 10 ^ length bs)
         → p < (n + 1) * 10 ^ suc (length bs)
     go true d f below =
         let small = at_most_nine b d in
@@ -95,113 +93,105 @@ digits_below n (b ∷ bs) p e = go (is_digit b) refl e (digits_below (10 * n + (
     go false d f below = let z : ◌≡◌ {A = ℕ} 0 1 = cc in absurd (omega arith)
 
 -- a number of so few digits is whole, and exact as a double
-whole_number : (bs : List ℕ) {p : ℕ} → length bs ≤ most_digits → number.Value p ≡ cut_number (digits_from 0 bs) → (digits_from 0 bs ≡ read p) × (p ≤ greatest)
+whole_number : (bs : List ℕ) {p : ℕ} → length bs ≤ most_digits → Some p ≡ cut_number (digits_from 0 bs) → (digits_from 0 bs ≡ Some p) × (p ≤ greatest)
 whole_number bs {p} h e = go (digits_from 0 bs) refl e
   where
-    go : (r : Read ℕ) → digits_from 0 bs ≡ r → number.Value p ≡ cut_number r → (digits_from 0 bs ≡ read p) × (p ≤ greatest)
-    go nothing d e = absurd (no_value p (sym e))
-    go (read m) d e =
+    go : (r : Option ℕ) → digits_from 0 bs ≡ r → Some p ≡ cut_number r → (digits_from 0 bs ≡ Some p) × (p ≤ greatest)
+    go None d e = absurd (no_value p (sym e))
+    go (Some m) d e =
         let f : p ≡ cut m = cc in
         let below = digits_below 0 bs m d in
         let room = power_within (length bs) h in
         let g : m ≡ p = omega arith in
-        (d ∙ ap read g, omega arith)
+        (d ∙ ap Some g, omega arith)
 
 -- ---- the digits before and behind a point
 
 module _ (negative : Bool) (before behind : List ℕ) where
-  pub too_many : most_digits < length before + length behind → value.None ≡ value_read (of_digits negative before behind)
+  pub too_many : most_digits < length before + length behind → None ≡ (of_digits negative before behind)
   unfolding of_digits
   too_many h = rw (lt-leb (length before + length behind) most_digits h)
 
-  pub no_number : number.None ≡ cut_number (digits_from 0 (before ++ behind)) → value.None ≡ value_read (of_digits negative before behind)
+  pub no_number : None ≡ cut_number (digits_from 0 (before ++ behind)) → None ≡ (of_digits negative before behind)
   unfolding of_digits
   no_number e = go (leb (length before + length behind) most_digits) (digits_from 0 (before ++ behind)) e
     where
-      go : (t : Bool) (r : Read ℕ) → number.None ≡ cut_number r → value.None ≡ value_read (when t (divided_by negative (length behind) r))
+      go : (t : Bool) (r : Option ℕ) → None ≡ cut_number r → None ≡ (when t (divided_by negative (length behind) r))
       go false r e = refl
-      go true nothing e = refl
-      go true (read n) e = absurd (no_value (cut n) e)
+      go true None e = refl
+      go true (Some n) e = absurd (no_value (cut n) e)
 
-  module _ {p : ℕ} (h : length before + length behind ≤ most_digits) (e : number.Value p ≡ cut_number (digits_from 0 (before ++ behind))) where
+  module _ {p : ℕ} (h : length before + length behind ≤ most_digits) (e : Some p ≡ cut_number (digits_from 0 (before ++ behind))) where
     few : length (before ++ behind) ≤ most_digits
     few = rw (length-append before behind) h
 
     pub number_exact : p ≤ greatest
     number_exact = (whole_number (before ++ behind) few e).1
 
-    pub number_divided : value.Double (quotient_of negative p (length behind)) ≡ value_read (of_digits negative before behind)
+    pub number_divided : Some (quotient_of negative p (length behind)) ≡ (of_digits negative before behind)
     unfolding of_digits
     number_divided = rw (le-leb (length before + length behind) most_digits h, (whole_number (before ++ behind) few e).0)
 
 -- ---- the point
 
-module _ (negative : Bool) (bytes : List ℕ) {at : ℕ} (e : at ≡ first_at point bytes) where
-  pub none_before : at ≡ 0 → value.None ≡ value_read (unsigned_of negative bytes)
-  unfolding unsigned_of
-  none_before h = let z : first_at point bytes ≡ 0 = sym e ∙ h in rw z (go (ltb 0 (length bytes)))
-    where
-      go : (t : Bool) → value.None ≡ value_read (cond t nothing nothing)
-      go true = refl
-      go false = refl
+empty : (l : List ℕ) → length l ≡ 0 → l ≡ []
+empty [] h = refl
+empty (b ∷ bs) h = absurd (omega arith)
 
-  pub no_point : (at ≡ 0 → ⊥) → length bytes ≤ at → of_digits negative bytes [] ≡ unsigned_of negative bytes
-  unfolding unsigned_of
-  no_point some h = rw (le-ltb (first_at point bytes) (length bytes) (omega arith), lt-ltb 0 (first_at point bytes) (rw e at (positive some)))
-    where
-      positive : (at ≡ 0 → ⊥) → 0 < at
-      positive some = omega arith
+module _ (negative : Bool) (bytes : List ℕ) where
+  pub no_byte_there : length bytes ≡ 0 → None ≡ unsigned_of negative bytes
+  unfolding unsigned_of first_at
+  no_byte_there h = let none : bytes ≡ [] = empty bytes h in rw none refl
 
-  pub none_behind : at < length bytes → length bytes ≤ at + 1 → value.None ≡ value_read (unsigned_of negative bytes)
+  pub no_point : length bytes ≤ first_at point bytes → (length bytes ≡ 0 → ⊥) → of_digits negative bytes [] ≡ unsigned_of negative bytes
   unfolding unsigned_of
-  none_behind h k = rw (lt-ltb (first_at point bytes) (length bytes) (omega arith), le-ltb (suc (first_at point bytes)) (length bytes) (omega arith)) (go (ltb 0 (first_at point bytes)))
-    where
-      go : (t : Bool) → value.None ≡ value_read (when (t && false) (of_digits negative (take (first_at point bytes) bytes) (drop (suc (first_at point bytes)) bytes)))
-      go true = refl
-      go false = refl
+  no_point h some = rw (le-ltb (first_at point bytes) (length bytes) h, lt-ltb 0 (first_at point bytes) (omega arith))
 
-  pub both_sides :
-      (at ≡ 0 → ⊥)
-      → at + 1 < length bytes
-      → of_digits negative (take at bytes) (take (length bytes - (at + 1)) (drop (at + 1) bytes)) ≡ unsigned_of negative bytes
-  unfolding unsigned_of
-  both_sides some h =
-      rw (rest_of bytes (at + 1), add-one at)
-      (rw (e, lt-ltb (first_at point bytes) (length bytes) (omega arith), lt-ltb 0 (first_at point bytes) (omega arith), lt-ltb (suc (first_at point bytes)) (length bytes) (omega arith)))
+  module _ {before behind : List ℕ} (h : first_at point bytes < length bytes) (front : before ≡ take (first_at point bytes) bytes) (back : behind ≡ drop (suc (first_at point bytes)) bytes) where
+    pub none_before : length before ≡ 0 → None ≡ unsigned_of negative bytes
+    unfolding unsigned_of
+    none_before e =
+        let at : first_at point bytes ≡ 0 = omega (arith, ap length front, length-take-le (first_at point bytes) bytes (omega arith)) in
+        rw (lt-ltb (first_at point bytes) (length bytes) h, at) refl
+
+    pub none_behind : length behind ≡ 0 → None ≡ unsigned_of negative bytes
+    unfolding unsigned_of
+    none_behind e =
+        let at : length bytes ≤ suc (first_at point bytes) = omega (arith, ap length back, length-drop (suc (first_at point bytes)) bytes) in
+        rw (lt-ltb (first_at point bytes) (length bytes) h, le-ltb (suc (first_at point bytes)) (length bytes) at) (go (ltb 0 (first_at point bytes)))
+      where
+        go : (t : Bool) → None ≡ when (t && false) (of_digits negative (take (first_at point bytes) bytes) (drop (suc (first_at point bytes)) bytes))
+        go true = refl
+        go false = refl
+
+    pub both_sides : (length before ≡ 0 → ⊥) → (length behind ≡ 0 → ⊥) → of_digits negative before behind ≡ unsigned_of negative bytes
+    unfolding unsigned_of
+    both_sides some more =
+        let at : 0 < first_at point bytes = omega (arith, ap length front, length-take-le (first_at point bytes) bytes (omega arith)) in
+        let end : suc (first_at point bytes) < length bytes = omega (arith, ap length back, length-drop (suc (first_at point bytes)) bytes) in
+        rw (front, back, lt-ltb (first_at point bytes) (length bytes) h, lt-ltb 0 (first_at point bytes) at, lt-ltb (suc (first_at point bytes)) (length bytes) end) refl
 
 -- ---- the minus
 
-pub no_byte : (bytes : List ℕ) → length bytes ≡ 0 → value.None ≡ value_read (decimal_of bytes)
+pub no_byte : (bytes : List ℕ) → length bytes ≡ 0 → None ≡ decimal_of bytes
 unfolding decimal_of
 no_byte [] e = refl
 no_byte (b ∷ bs) e = absurd (omega arith)
 
-pub with_minus : (bytes : List ℕ) → (length bytes ≡ 0 → ⊥) → get_or bytes 0 0 ≡ minus → unsigned_of true (behind bytes) ≡ decimal_of bytes
+pub with_minus : (bytes : List ℕ) (b : ℕ) (bs : List ℕ) → bytes ≡ b ∷ bs → b ≡ minus → unsigned_of true bs ≡ decimal_of bytes
 unfolding decimal_of
-with_minus [] h e = absurd (h refl)
-with_minus (b ∷ bs) h e =
-    ap (unsigned_of true) (rest_of (b ∷ bs) 1)
-    ∙ ap (λ (t : Bool). cond t (unsigned_of true bs) (unsigned_of false (b ∷ bs))) (sym (eq-eqb b minus e))
+with_minus bytes b bs is e = rw (is, eq-eqb b minus e) refl
 
-pub without_minus : (bytes : List ℕ) → (length bytes ≡ 0 → ⊥) → (get_or bytes 0 0 ≡ minus → ⊥) → unsigned_of false bytes ≡ decimal_of bytes
+pub without_minus : (bytes : List ℕ) (b : ℕ) (bs : List ℕ) → bytes ≡ b ∷ bs → (b ≡ minus → ⊥) → unsigned_of false bytes ≡ decimal_of bytes
 unfolding decimal_of
-without_minus [] h e = absurd (h refl)
-without_minus (b ∷ bs) h e = ap (λ (t : Bool). cond t (unsigned_of true bs) (unsigned_of false (b ∷ bs))) (sym (ne_eqb b minus e))
+without_minus bytes b bs is e = rw (is, ne_eqb b minus e) refl
 
 -- ---- bits or a decimal
 
-pub from_bits : (bytes : List ℕ) {b : ℕ} → number.Value b ≡ number_read (bits_of bytes) → value.Double (of_bits binary64 b) ≡ value_read (value_of bytes)
+pub from_bits : (bytes : List ℕ) {b : ℕ} → Some b ≡ bits_of bytes → Some (of_bits binary64 b) ≡ value_of bytes
 unfolding value_of
-from_bits bytes {b} e = go (bits_of bytes) e
-  where
-    go : (r : Read ℕ) → number.Value b ≡ number_read r → value.Double (of_bits binary64 b) ≡ value_read (value_from r (decimal_of bytes))
-    go nothing e = absurd (no_value b (sym e))
-    go (read m) e = let f : b ≡ m = cc in ap (λ (k : ℕ). value.Double (of_bits binary64 k)) f
+from_bits bytes e = rw (sym e) refl
 
-pub from_decimal : (bytes : List ℕ) → number.None ≡ number_read (bits_of bytes) → decimal_of bytes ≡ value_of bytes
+pub from_decimal : (bytes : List ℕ) → None ≡ bits_of bytes → decimal_of bytes ≡ value_of bytes
 unfolding value_of
-from_decimal bytes e = go (bits_of bytes) e
-  where
-    go : (r : Read ℕ) → number.None ≡ number_read r → decimal_of bytes ≡ value_from r (decimal_of bytes)
-    go nothing e = refl
-    go (read m) e = absurd (no_value m e)
+from_decimal bytes e = rw (sym e) refl

@@ -4,19 +4,9 @@ ghost use Rattle.std.specs.Float.{binary64};
 ghost use Rattle.std.specs.Float.Ieee.{of_int};
 ghost use Rattle.literal.specs.Literal.{greatest};
 ghost use Rattle.key_values.specs.Values.{most_digits, signed, quotient_of, of_digits, unsigned_of, decimal_of};
-ghost use Rattle.key_values.specs.Filled.{value_read};
-
-use sheet_line::Number;
 
 // The most digits that a decimal has.
 const DIGITS: usize = 15;
-
-// A value that was read, or none.
-#[derive(Clone, Copy)]
-pub enum Value {
-    None,
-    Double(f64),
-}
 
 // A whole number that is exact as a double.
 fn whole(n: u64) -> f64
@@ -30,13 +20,7 @@ fn ten_to(k: usize) -> u64
     requires { k ≤ most_digits }
     ensures { result ≡ 10 ^ k }
 {
-    let mut power: u64 = 1;
-    let mut i = 0;
-    while i < k {
-        power = 10 * power;
-        i += 1;
-    }
-    power
+    10_u64.pow(k as u32)
 }
 
 fn with_sign(negative: bool, x: f64) -> f64
@@ -58,51 +42,46 @@ fn quotient(negative: bool, p: u64, k: usize) -> f64
 }
 
 // The digits before and behind a point.
-fn of_digits(negative: bool, before: &[u8], behind: &[u8]) -> Value
-    ensures { result ≡ value_read (of_digits negative before.now behind.now) }
+fn of_digits(negative: bool, before: &[u8], behind: &[u8]) -> Option<f64>
+    ensures { result ≡ of_digits negative before.now behind.now }
 {
     if DIGITS < before.len() {
-        return Value::None;
+        return None;
     }
     if DIGITS - before.len() < behind.len() {
-        return Value::None;
+        return None;
     }
-    let Number::Value(n) = sheet_line::digits(0, before) else {
-        return Value::None;
-    };
-    let Number::Value(p) = sheet_line::digits(n, behind) else {
-        return Value::None;
-    };
-    Value::Double(quotient(negative, p, behind.len()))
+    let n = sheet_line::digits(0, before)?;
+    let p = sheet_line::digits(n, behind)?;
+    Some(quotient(negative, p, behind.len()))
 }
 
 // Digits, or digits on both sides of a point.
-fn unsigned(negative: bool, bytes: &[u8]) -> Value
-    ensures { result ≡ value_read (unsigned_of negative bytes.now) }
+fn unsigned(negative: bool, bytes: &[u8]) -> Option<f64>
+    ensures { result ≡ unsigned_of negative bytes.now }
 {
-    let point = sheet_line::find(bytes, b'.');
-    if point == 0 {
-        return Value::None;
+    let Some((before, behind)) = sheet_line::cut_at_byte(bytes, b'.') else {
+        if bytes.is_empty() {
+            return None;
+        }
+        return of_digits(negative, bytes, &[]);
+    };
+    if before.is_empty() {
+        return None;
     }
-    if bytes.len() <= point {
-        return of_digits(negative, bytes, &bytes[..0]);
+    if behind.is_empty() {
+        return None;
     }
-    let from = point + 1;
-    if bytes.len() <= from {
-        return Value::None;
-    }
-    of_digits(negative, &bytes[..point], &bytes[from..])
+    of_digits(negative, before, behind)
 }
 
 // With or without a minus in front.
-pub fn decimal(bytes: &[u8]) -> Value
-    ensures { result ≡ value_read (decimal_of bytes.now) }
+pub fn decimal(bytes: &[u8]) -> Option<f64>
+    ensures { result ≡ decimal_of bytes.now }
 {
-    if bytes.len() == 0 {
-        return Value::None;
-    }
-    if bytes[0] == b'-' {
-        return unsigned(true, &bytes[1..]);
+    let (first, rest) = bytes.split_first()?;
+    if *first == b'-' {
+        return unsigned(true, rest);
     }
     unsigned(false, bytes)
 }

@@ -5,4 +5,4 @@ mod decimal;
 mod hex;
 mod line;
 
-pub use line::{LINE_MAX, Values, fill};
+pub use line::{LINE_MAX, fill};

@@ -16,7 +16,7 @@ use Rattle.sheet_line.specs.Split.{content_length, first_space, split}
 use Rattle.sheet_line.proofs.Cutting.{cut_within}
 use Rattle.sheet_line.proofs.Splitting.{split_content, one_field, first_field, two_fields, no_space_split}
 
-no_value : {A : Type 0} (x : A) → None ≡ Some x → ⊥
+pub no_value : {A : Type 0} (x : A) → None ≡ Some x → ⊥
 no_value x e = let z : ◌≡◌ {A = ℕ} 0 1 = cc in omega arith
 
 pub number_within : (r : Option ℕ) {n : ℕ} → Some n ≡ cut_number r → n ≤ cut_at

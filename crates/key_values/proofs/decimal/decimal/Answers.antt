@@ -1,17 +1,14 @@
 -- `key_values::decimal::decimal` meets its contract: the first byte alone is looked at for a minus.
 -- Assumes nothing.
-use mathlib.Core.Path.{◌∙◌, ap}
-use Rattle.key_values.specs.Filled.{value_read}
+use Rattle.std.proofs.Common.{◌∙◌}
 use Rattle.key_values.proofs.Quotients.{no_byte, with_minus, without_minus}
 use Rattle.key_values.proofs.decimal.decimal.Goals as goal
 
-pub returns-then-bytes-eq0 : goal.returns-then-bytes-eq0
-returns-then-bytes-eq0 c = no_byte c.args.bytes.now c.if-bytes-eq0.true
+pub returns-in_err-first : goal.returns-in_err-first
+returns-in_err-first c = rw c.from_residual.ensures (no_byte c.args.bytes.now c.in_err-first.ensures.cases)
 
-pub returns-then-bytes-eq45 : goal.returns-then-bytes-eq45
-returns-then-bytes-eq45 c =
-    c.unsigned.ensures ∙ ap value_read (with_minus c.args.bytes.now c.if-bytes-eq0.false c.if-bytes-eq45.true)
+pub returns-then-first-eq45 : goal.returns-then-first-eq45
+returns-then-first-eq45 c = c.unsigned.ensures ∙ with_minus _ _ _ c.in_ok-first.ensures.cases.0 c.if-first-eq45.true
 
 pub returns : goal.returns
-returns c =
-    c.unsigned-2.ensures ∙ ap value_read (without_minus c.args.bytes.now c.if-bytes-eq0.false c.if-bytes-eq45.false)
+returns c = c.unsigned-2.ensures ∙ without_minus _ _ _ c.in_ok-first.ensures.cases.0 c.if-first-eq45.false

@@ -1,30 +1,32 @@
 -- `key_values::decimal::unsigned` meets its contract: the first point parts the digits, and a second one is no digit.
 -- Assumes nothing.
-use mathlib.Core.Path.{sym, ◌∙◌, ap}
-use native.Mathlib.Omega.{arith}
-use lib.Seq.{length-take-le}
-use Rattle.key_values.specs.Filled.{value_read}
-use Rattle.key_values.proofs.Quotients.{none_before, no_point, none_behind, both_sides}
+use Rattle.std.proofs.Common.{sym, ◌∙◌}
+use borrow.Author.Tests.{eqb-true, eqb-false}
+use Rattle.key_values.proofs.Quotients.{no_byte_there, no_point, none_before, none_behind, both_sides}
 use Rattle.key_values.proofs.decimal.unsigned.Goals as goal
 
-pub returns-then-point-eq0 : goal.returns-then-point-eq0
-returns-then-point-eq0 c = let args = c.args in none_before args.negative args.bytes.now c.find-point.ensures c.if-point-eq0.true
+pub returns-then-is_empty : goal.returns-then-is_empty
+returns-then-is_empty c = no_byte_there c.args.negative c.args.bytes.now (eqb-true _ _ (sym c.is_empty.ensures ∙ c.if-is_empty.true))
 
-pub returns-then-bytes-point : goal.returns-then-bytes-point
-returns-then-bytes-point c =
-    let args = c.args in
-    c.of_digits.ensures ∙ ap value_read (no_point args.negative args.bytes.now c.find-point.ensures c.if-point-eq0.false c.if-bytes-point.true)
+pub returns-in_default : goal.returns-in_default
+returns-in_default c =
+    c.of_digits.ensures
+    ∙ no_point c.args.negative c.args.bytes.now c.in_default.ensures (eqb-false _ _ (sym c.is_empty.ensures ∙ c.if-is_empty.false))
 
-pub returns-then-bytes-from : goal.returns-then-bytes-from
-returns-then-bytes-from c =
-    let args = c.args in
-    none_behind args.negative args.bytes.now c.find-point.ensures c.if-bytes-point.false c.if-bytes-from.true
+pub returns-then-is_empty-2 : goal.returns-then-is_empty-2
+returns-then-is_empty-2 c =
+    let p = c.in-Some.ensures in
+    none_before c.args.negative c.args.bytes.now p.0 p.1 p.2 (eqb-true _ _ (sym c.is_empty-2.ensures ∙ c.if-is_empty-2.true))
 
-pub slice_bounds-of_digits-end-2 : goal.slice_bounds-of_digits-end-2
-slice_bounds-of_digits-end-2 c =
-    sym (length-take-le c.find-point.result c.args.bytes.now (omega arith))
+pub returns-then-is_empty-3 : goal.returns-then-is_empty-3
+returns-then-is_empty-3 c =
+    let p = c.in-Some.ensures in
+    none_behind c.args.negative c.args.bytes.now p.0 p.1 p.2 (eqb-true _ _ (sym c.is_empty-3.ensures ∙ c.if-is_empty-3.true))
 
 pub returns : goal.returns
 returns c =
-    let args = c.args in
-    c.of_digits-2.ensures ∙ ap value_read (both_sides args.negative args.bytes.now c.find-point.ensures c.if-point-eq0.false c.if-bytes-from.false)
+    let p = c.in-Some.ensures in
+    c.of_digits-2.ensures
+    ∙ both_sides c.args.negative c.args.bytes.now p.0 p.1 p.2
+    (eqb-false _ _ (sym c.is_empty-2.ensures ∙ c.if-is_empty-2.false))
+    (eqb-false _ _ (sym c.is_empty-3.ensures ∙ c.if-is_empty-3.false))

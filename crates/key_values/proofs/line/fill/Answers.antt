@@ -1,24 +1,12 @@
 -- `key_values::line::fill` meets its contract: a line without content has no values, and any other has one in each field.
 -- Assumes nothing.
-use mathlib.Core.Path.{sym}
-use native.Mathlib.Omega.{arith}
-use lib.Seq.{length-take-le}
-use Rattle.sheet_line.proofs.Splitting.{content_within}
+use Rattle.std.proofs.Common.{sym, ◌∙◌}
+use borrow.Author.Tests.{eqb-true, eqb-false}
 use Rattle.key_values.proofs.Filling.{no_values, values_given}
 use Rattle.key_values.proofs.line.fill.Goals as goal
 
-pub returns-then-end-eq0 : goal.returns-then-end-eq0
-returns-then-end-eq0 c =
-    let args = c.args in
-    no_values args.line.now args.table.now c.content-end.ensures c.if-end-eq0.true
-
-pub slice_bounds-fill_fields-end : goal.slice_bounds-fill_fields-end
-slice_bounds-fill_fields-end c =
-    let line = c.args.line.now in
-    sym (length-take-le c.content-end.result line (omega (arith, c.content-end.ensures, content_within line)))
+pub returns-then-is_empty : goal.returns-then-is_empty
+returns-then-is_empty c = no_values c.args.line.now _ c.args.table.now c.content-text.ensures (eqb-true _ _ (sym c.is_empty.ensures ∙ c.if-is_empty.true))
 
 pub returns : goal.returns
-returns c =
-    let line = c.args.line.now in
-    let e = c.content-end.ensures in
-    rw (values_given line e c.if-end-eq0.false (omega (arith, e, content_within line))) at c.fill_fields.ensures
+returns c = rw (values_given c.args.line.now _ c.content-text.ensures (eqb-false _ _ (sym c.is_empty.ensures ∙ c.if-is_empty.false))) at c.fill_fields.ensures
