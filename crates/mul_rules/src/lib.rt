@@ -1,7 +1,7 @@
 // Which rule of `mul` holds for two nodes: the groups of the Rust's table, tried in its order. Nothing is written.
 #![tactic(auto)]
 
-ghost use Rattle.std.specs.Prelude.{◌≡◌};
+ghost use Rattle.std.specs.Prelude.{◌≡◌, Some};
 ghost use Rattle.pool.specs.Pool.{node_at};
 ghost use Rattle.constructors.specs.Terms.{#, Mul, inside, ◌then◌};
 ghost use Rattle.constructors.specs.Tables.{lit?, exp?, mul_lits, mul_exps, mul_left, mul_pows, mul_last, mul_table};
@@ -67,22 +67,22 @@ fn exp_at(pool: &Pool, i: u32) -> Option<u32>
 }
 
 // Two literals.
-fn two_lits(a: i64, b: i64, lhs: u32, rhs: u32) -> Option<MulRule>
-    ensures { arm_of result ≡ inside (two_lits a b lhs rhs) }
+fn two_lits(a: i64, b: i64, lhs: u32, rhs: u32) -> MulRule
+    ensures { arm_of (Some result) ≡ inside (two_lits a b lhs rhs) }
 {
     if literal::is_zero(a) {
-        return Some(MulRule::Zero);
+        return MulRule::Zero;
     }
     if literal::is_zero(b) {
-        return Some(MulRule::Zero);
+        return MulRule::Zero;
     }
     if literal::is_one(a) {
-        return Some(MulRule::Same(rhs));
+        return MulRule::Same(rhs);
     }
     if literal::is_one(b) {
-        return Some(MulRule::Same(lhs));
+        return MulRule::Same(lhs);
     }
-    Some(MulRule::Product(a, b))
+    MulRule::Product(a, b)
 }
 
 // A literal and another node, on either side.
@@ -115,7 +115,7 @@ fn lits(pool: &Pool, factors: Factors) -> Option<MulRule>
     } = factors;
     match left {
         Shape::Lit(a) => match right {
-            Shape::Lit(b) => two_lits(a, b, lhs, rhs),
+            Shape::Lit(b) => Some(two_lits(a, b, lhs, rhs)),
             _ => one_lit(pool, a, rhs),
         },
         Shape::Exp(a) => match right {
