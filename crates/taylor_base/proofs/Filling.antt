@@ -1,6 +1,7 @@
 -- `fill` as a loop: after k turns the list has its first k entries, and what is left from there gives the whole.
 -- Assumes nothing.
-use Rattle.std.proofs.Common.{◌≡◌, sym, ap, ◌∙◌, List, [], ◌∷◌, ◌++◌, ℕ, suc, ◌+◌, ◌-◌, ◌≤◌, ◌<◌, length, arith, length-append}
+use Rattle.std.proofs.Common.{◌≡◌, refl, sym, ap, ◌∙◌, List, [], ◌∷◌, ◌++◌, ℕ, suc, ◌+◌, ◌-◌, ◌≤◌, ◌<◌, length, arith, length-append}
+use native.Mathlib.Nat.{sub-zero}
 use Rattle.pool.specs.Pool.{Pool, done, refused}
 use Rattle.taylor.specs.Work.{Result, Work, bind, fill}
 
@@ -8,6 +9,9 @@ use Rattle.taylor.specs.Work.{Result, Work, bind, fill}
 pub record Filling (f : List ℕ → ℕ → Work ℕ) (n : ℕ) (whole : Result (List ℕ)) (k : ℕ) (list : List ℕ) (P : Pool) : Type 0 where
   pub long : length list ≡ k
   pub is : fill f (n - k) list P ≡ whole
+
+pub fill_starts : (f : List ℕ → ℕ → Work ℕ) (n : ℕ) (P : Pool) → Filling f n (fill f n [] P) 0 [] P
+fill_starts f n P = record { long = refl; is = ap (λ (j : ℕ). fill f j [] P) (sub-zero n) }
 
 module _ {f : List ℕ → ℕ → Work ℕ} {n : ℕ} {whole : Result (List ℕ)} {k : ℕ} {list : List ℕ} {P : Pool} (g : Filling f n whole k list P) where
   module _ (h : k < n) where

@@ -1,52 +1,36 @@
 -- `fold` as a loop: at number j what is left from there gives the whole.
 -- Assumes nothing.
-use mathlib.Core.Path.{◌≡◌, refl, sym, ap, ◌∙◌}
-use mathlib.Core.List.{List}
-use Prim.Native.Nat.{ℕ, suc, ◌+◌, ◌-◌, ◌≤◌, ◌<◌}
+use Rattle.std.proofs.Common.{◌≡◌, sym, ap, ◌∙◌, ℕ, suc, ◌+◌, ◌-◌, ◌≤◌, ◌<◌, arith}
 use native.Mathlib.Numerals.{add-one}
-use native.Mathlib.Omega.{arith}
-use Rattle.pool.specs.Pool.{Pool, done}
-use Rattle.pool.specs.Made.{made, pool_of}
-use Rattle.pool.specs.declared.table.Made.{Made}
-use Rattle.pool.specs.declared.table.Made.TheVariants.{Node, Refused}
-use Rattle.pool.specs.declared.table.Room.{Room}
+use Rattle.pool.specs.Pool.{Pool, done, refused}
 use Rattle.taylor.specs.Work.{Result, Work, bind, fold}
-use Rattle.taylor_base.proofs.Steps.{onward, handed_on}
 
--- the terms below j are summed up: the sum is acc, the pool P, and the whole is what was asked for
-pub record Folding (f : ℕ → ℕ → Work ℕ) (first end : ℕ) (whole : Result ℕ) (j acc : ℕ) (P : Pool) : Type 0 where
-  pub least : first ≤ j
-  pub within : j ≤ end
-  pub is : fold f j (end - j) acc P ≡ whole
+-- the terms below j are summed up: what is left from there, with the sum so far, gives the whole
+pub record Folding (f : ℕ → ℕ → Work ℕ) (end : ℕ) (whole : Result ℕ) (j sum : ℕ) (P : Pool) : Type 0 where
+  pub is : fold f j (end - j) sum P ≡ whole
 
-pub fold_starts : (f : ℕ → ℕ → Work ℕ) (first todo acc : ℕ) (P : Pool) → Folding f first (first + todo) (fold f first todo acc P) first acc P
-fold_starts f first todo acc P =
+pub fold_starts : (f : ℕ → ℕ → Work ℕ) (first todo sum : ℕ) (P : Pool) → Folding f (first + todo) (fold f first todo sum P) first sum P
+fold_starts f first todo sum P =
     let all : first + todo - first ≡ todo = omega arith in
-    record { least = omega arith; within = omega arith; is = ap (λ (n : ℕ). fold f first n acc P) all }
+    record { is = ap (λ (n : ℕ). fold f first n sum P) all }
 
-module _ {f : ℕ → ℕ → Work ℕ} {first end : ℕ} {whole : Result ℕ} where
-  module _ {j acc : ℕ} {P : Pool} (g : Folding f first end whole j acc P) (h : j < end) where
+module _ {f : ℕ → ℕ → Work ℕ} {end : ℕ} {whole : Result ℕ} where
+  module _ {j sum : ℕ} {P : Pool} (g : Folding f end whole j sum P) (h : j < end) where
     -- one turn of the definition
-    turn : bind (f acc j P) (fold f (j + 1) (end - (j + 1))) ≡ whole
+    turn : bind (f sum j P) (fold f (j + 1) (end - (j + 1))) ≡ whole
     unfolding fold
     turn =
         let left : end - j ≡ suc (end - (j + 1)) = omega arith in
-        ap (λ (i : ℕ). bind (f acc j P) (fold f i (end - (j + 1)))) (add-one j) ∙ ap (λ (n : ℕ). fold f j n acc P) (sym left) ∙ g.is
+        ap (λ (i : ℕ). bind (f sum j P) (fold f i (end - (j + 1)))) (add-one j) ∙ ap (λ (n : ℕ). fold f j n sum P) (sym left) ∙ g.is
 
-    module _ {r : Made} (ks ws : List ℕ) (m : made r ks ws ≡ f acc j P) where
-      pub fold_stopped : {number : ℕ} (ks' ws' : List ℕ) → r ≡ Refused number → made r ks' ws' ≡ whole
-      fold_stopped ks' ws' e = handed_on ks ws ks' ws' (fold f (j + 1) (end - (j + 1))) e m ∙ turn
+    pub fold_stopped : {n : ℕ} → refused n ≡ f sum j P → refused n ≡ whole
+    fold_stopped e = ap (λ x. bind x (fold f (j + 1) (end - (j + 1)))) e ∙ turn
 
-      pub fold_onward : {c : ℕ} {room : Room} → r ≡ Node c room → Folding f first end whole (j + 1) c (pool_of ks ws room)
-      fold_onward e =
-          record {
-            least = omega (arith, g.least);
-            within = omega arith;
-            is = onward ks ws (fold f (j + 1) (end - (j + 1))) e m refl ∙ turn;
-          }
+    pub fold_onward : {c : ℕ} {Q : Pool} → done c Q ≡ f sum j P → Folding f end whole (j + 1) c Q
+    fold_onward e = record { is = ap (λ x. bind x (fold f (j + 1) (end - (j + 1)))) e ∙ turn }
 
-  pub fold_done : {j acc : ℕ} {P : Pool} → Folding f first end whole j acc P → end ≤ j → done acc P ≡ whole
+  pub fold_done : {j sum : ℕ} {P : Pool} → Folding f end whole j sum P → end ≤ j → done sum P ≡ whole
   unfolding fold
-  fold_done {j} {acc} {P} g h =
+  fold_done {j} {sum} {P} g h =
       let none : end - j ≡ 0 = omega arith in
-      ap (λ (n : ℕ). fold f j n acc P) (sym none) ∙ g.is
+      ap (λ (n : ℕ). fold f j n sum P) (sym none) ∙ g.is

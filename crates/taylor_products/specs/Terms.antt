@@ -1,10 +1,8 @@
 -- The sums of products that the coefficients of an expansion are: their terms, and the coefficients of a product.
 -- Assumes nothing.
-use Rattle.std.specs.Prelude.{List, [], ℕ, ◌+◌, ◌-◌, min, ◌≤◌, ◌<◌, length}
+use Rattle.std.specs.Prelude.{List, [], ℕ, ◌-◌, min, length}
 use Rattle.taylor.specs.Work.{Work, ◌>>=◌, zero_lit, from, add, sub, mul, at, fill}
 use Rattle.taylor.specs.Expansion.{product_at}
-use Rattle.taylor_base.specs.Answers.{terms}
-use Rattle.taylor_base.specs.declared.answer.Expansion as coded
 use Rattle.taylor_products.specs.declared.term.Term.{Term}
 use Rattle.taylor_products.specs.declared.term.Term.TheVariants.{Plus, Less, Weighted}
 
@@ -28,14 +26,6 @@ term_work Weighted x y j sum = do
 -- the term of j: the one list is read at j, the other at k - j
 abbrev pub term_at : Term → List ℕ → List ℕ → ℕ → ℕ → ℕ → Work ℕ
 term_at rule xs ys k sum j = term_work rule (at xs j) (at ys (k - j)) j sum
-
--- both lists have the entries of the terms from a number on
-pub record Terms (xs ys : coded.Expansion) (k first todo : ℕ) : Type 0 where
-  pub within : first + todo ≤ k + 1
-  pub rising : first + todo ≤ xs.len
-  pub falling : k < ys.len + first
-  pub rising_most : xs.len ≤ terms
-  pub falling_most : ys.len ≤ terms
 
 -- let zero = T::zero(); for k in 0..order { result[k] = .. }
 abbrev pub product_of : List ℕ → List ℕ → Work (List ℕ)

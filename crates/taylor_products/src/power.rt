@@ -1,93 +1,49 @@
 // Powers of an expansion, by the binary digits of the exponent.
-ghost use Rattle.pool.specs.Made.{pool_of};
+ghost use Rattle.std.specs.Prelude.{◌≡◌};
+ghost use Rattle.taylor.specs.Answered.{answered};
 ghost use Rattle.taylor.specs.Expansion.{pow_from, power, digits};
 ghost use Rattle.taylor.specs.declared.expansion.Expansion.TheVariants.{Constant};
-ghost use Rattle.taylor_base.specs.Answers.{expansion_of, Given, Tidy, Answers};
 ghost use Rattle.taylor_products.specs.Powers.{times_if};
 
 use crate::product::times_in;
-use pool::{LIMIT, Made, Room};
-use taylor_base::{Expanded, Expansion, Status, answer_of, constant_of, tidy_of};
+use pool::Pool;
+use refusals::Refusal;
+use taylor::Expansion;
 
 // lhs * rhs where it is asked for, else lhs.
 fn times_if(
-    kinds: &mut [u8; LIMIT],
-    words: &mut [u64; LIMIT],
-    room: Room,
+    pool: &mut Pool,
     asked: bool,
-    lhs: Expansion,
-    rhs: Expansion,
-) -> Expanded
-    requires { Tidy lhs × Tidy rhs }
-    ensures { Answers result kinds.new words.new (times_if asked (expansion_of lhs) (expansion_of rhs) (pool_of kinds.old words.old room)) }
+    lhs: &Expansion,
+    rhs: &Expansion,
+) -> Result<Expansion, Refusal>
+    ensures { answered result pool.new ≡ times_if asked lhs.now rhs.now pool.old }
 {
     if asked {
-        return times_in(kinds, words, room, lhs, rhs);
+        return times_in(pool, lhs, rhs);
     }
-    Expanded {
-        status: Status::Done(room),
-        expansion: lhs,
-    }
+    Ok(*lhs)
 }
 
-// As many rounds as the exponent has digits: the square after its highest one bit is not taken.
-fn rounds_in(
-    kinds: &mut [u8; LIMIT],
-    words: &mut [u64; LIMIT],
-    room: Room,
-    one: u32,
-    base: Expansion,
-    exp: u32,
-) -> Expanded
-    requires { Tidy base }
-    ensures { Answers result kinds.new words.new (pow_from digits exp (Constant one) (expansion_of base) (pool_of kinds.old words.old room)) }
+// Each turn takes a binary digit of the exponent, the lowest first. The square after the highest one bit is not taken.
+fn rounds_in(pool: &mut Pool, one: u32, base: &Expansion, exp: u32) -> Result<Expansion, Refusal>
+    ensures { answered result pool.new ≡ pow_from digits exp (Constant one) base.now pool.old }
 {
-    let mut left = room;
-    let mut res = constant_of(one);
-    let mut square = base;
+    let mut res = Expansion::Constant(one);
+    let mut square = *base;
     let mut e = exp;
-    let mut rounds = 32 - u32::leading_zeros(exp);
-    while rounds > 0 {
-        let odd = times_if(kinds, words, left, e % 2 == 1, res, square);
-        let multiplied = odd.status;
-        let Status::Done(more) = multiplied else {
-            return odd;
-        };
-        rounds -= 1;
-        let even = times_if(kinds, words, more, rounds > 0, square, square);
-        let squared = even.status;
-        let Status::Done(rest) = squared else {
-            return even;
-        };
-        res = odd.expansion;
-        square = even.expansion;
-        left = rest;
+    while e > 0 {
+        res = times_if(pool, e % 2 == 1, &res, &square)?;
         e = e / 2;
+        square = times_if(pool, e > 0, &square, &square)?;
     }
-    Expanded {
-        status: Status::Done(left),
-        expansion: res,
-    }
+    Ok(res)
 }
 
 // base to the power exp
-pub fn pow_in(
-    kinds: &mut [u8; LIMIT],
-    words: &mut [u64; LIMIT],
-    room: Room,
-    base: Expansion,
-    exp: u32,
-) -> Expanded
-    requires { Given base }
-    ensures { Answers result kinds.new words.new (power (expansion_of base) exp (pool_of kinds.old words.old room)) }
+pub fn pow_in(pool: &mut Pool, base: &Expansion, exp: u32) -> Result<Expansion, Refusal>
+    ensures { answered result pool.new ≡ power base.now exp pool.old }
 {
-    let one = taylor_base::from_in(kinds, words, room, 1);
-    let Made::Node {
-        node: o,
-        room: rest,
-    } = one
-    else {
-        return answer_of(one);
-    };
-    rounds_in(kinds, words, rest, o, tidy_of(base), exp)
+    let one = taylor_base::from_in(pool, 1)?;
+    rounds_in(pool, one, base, exp)
 }

@@ -1,100 +1,69 @@
 // The product of two expansions.
-ghost use Rattle.std.specs.Prelude.{[], ◌≤◌};
-ghost use Rattle.pool.specs.Made.{pool_of};
+ghost use Rattle.std.specs.Prelude.{◌≡◌, [], length, min};
 ghost use Rattle.taylor.specs.Work.{fill};
+ghost use Rattle.taylor.specs.Answered.{answered};
 ghost use Rattle.taylor.specs.Expansion.{product_at, times};
-ghost use Rattle.taylor_base.specs.Answers.{terms, list_of, expansion_of, Given, Answers, Lists};
-ghost use Rattle.taylor_base.specs.Entries.{Entries};
 ghost use Rattle.taylor_products.specs.Terms.{product_of};
 
 use crate::term::{Term, fold_in};
 use constructors::DEPTH;
-use pool::{LIMIT, Made, Room};
-use taylor_base::{Entry, Expanded, Expansion, Status, TERMS, answer_of, entries_in};
+use pool::Pool;
+use refusals::Refusal;
+use taylor::{Coefficients, Expansion};
+use taylor_base::{Entry, each_in, from_in};
 
-// The first n coefficients of the product of two lists.
+// The coefficients of the product of two lists, up to the shorter length: coefficient k is us[0] * ws[k] + .. + us[k] * ws[0].
 fn products_in(
-    kinds: &mut [u8; LIMIT],
-    words: &mut [u64; LIMIT],
-    room: Room,
-    us: Expansion,
-    ws: Expansion,
+    pool: &mut Pool,
+    us: &Coefficients,
+    ws: &Coefficients,
     zero: u32,
-    n: u32,
-) -> Expanded
-    requires { Entries us ws n }
-    ensures { Lists result kinds.new words.new (fill (product_at (list_of us) (list_of ws) zero) n [] (pool_of kinds.old words.old room)) }
+) -> Result<Coefficients, Refusal>
+    ensures { answered result pool.new ≡ fill (product_at us.now ws.now zero) (min (length us.now) (length ws.now)) [] pool.old }
 {
-    let mut left = room;
-    let mut coeffs = [0u32; TERMS];
-    let mut k = 0;
-    while k < n {
-        let sum = fold_in(kinds, words, left, Term::Plus, us, ws, k, 0, k + 1, zero);
-        let Made::Node { node, room: rest } = sum else {
-            return answer_of(sum);
-        };
-        coeffs[k as usize] = node;
-        left = rest;
-        k += 1;
+    let end = us.len().min(ws.len());
+    let first = fold_in(pool, Term::Plus, us, ws, 0, 0, 1, zero)?;
+    let mut list = Coefficients::one(first);
+    for k in 1..end {
+        let sum = fold_in(pool, Term::Plus, us, ws, k, 0, k + 1, zero)?;
+        list.push(sum);
     }
-    Expanded {
-        status: Status::Done(left),
-        expansion: Expansion {
-            constant: false,
-            len: n,
-            coeffs,
-        },
-    }
+    Ok(list)
 }
 
 // The product of two lists.
 fn times_lists(
-    kinds: &mut [u8; LIMIT],
-    words: &mut [u64; LIMIT],
-    room: Room,
-    us: Expansion,
-    ws: Expansion,
-) -> Expanded
-    requires le_len { (1 ≤ us.len) × (us.len ≤ terms) }
-    requires le_len_2 { (1 ≤ ws.len) × (ws.len ≤ terms) }
-    ensures { Lists result kinds.new words.new (product_of (list_of us) (list_of ws) (pool_of kinds.old words.old room)) }
+    pool: &mut Pool,
+    us: &Coefficients,
+    ws: &Coefficients,
+) -> Result<Coefficients, Refusal>
+    ensures { answered result pool.new ≡ product_of us.now ws.now pool.old }
 {
-    let zero = taylor_base::from_in(kinds, words, room, 0);
-    let Made::Node {
-        node: z,
-        room: rest,
-    } = zero
-    else {
-        return answer_of(zero);
-    };
-    let n = taylor_base::shorter(us, ws);
-    products_in(kinds, words, rest, us, ws, z, n)
+    let zero = from_in(pool, 0)?;
+    products_in(pool, us, ws, zero)
 }
 
 // lhs * rhs
-pub fn times_in(
-    kinds: &mut [u8; LIMIT],
-    words: &mut [u64; LIMIT],
-    room: Room,
-    lhs: Expansion,
-    rhs: Expansion,
-) -> Expanded
-    requires { Given lhs × Given rhs }
-    ensures { Answers result kinds.new words.new (times (expansion_of lhs) (expansion_of rhs) (pool_of kinds.old words.old room)) }
+#[tactic(auto, unfolding(taylor::specs::Expansion::times))]
+pub fn times_in(pool: &mut Pool, lhs: &Expansion, rhs: &Expansion) -> Result<Expansion, Refusal>
+    ensures { answered result pool.new ≡ times lhs.now rhs.now pool.old }
 {
-    if lhs.constant {
-        let l = lhs.coeffs[0];
-        if rhs.constant {
-            let r = rhs.coeffs[0];
-            return answer_of(muls::mul_in(kinds, words, room, DEPTH, l, r));
+    match (lhs, rhs) {
+        (Expansion::Constant(l), Expansion::Constant(r)) => {
+            let product = muls::mul_in(pool, DEPTH, *l, *r)?;
+            Ok(Expansion::Constant(product))
         }
-        let n = rhs.len;
-        return entries_in(kinds, words, room, Entry::Times(l), rhs, rhs, n);
+        (Expansion::Constant(l), Expansion::Polynomial(ws)) => {
+            let products = each_in(pool, Entry::Times(*l), ws)?;
+            Ok(Expansion::Polynomial(products))
+        }
+        (Expansion::Polynomial(us), Expansion::Constant(r)) => {
+            let products = each_in(pool, Entry::Times(*r), us)?;
+            Ok(Expansion::Polynomial(products))
+        }
+        (Expansion::Polynomial(us), Expansion::Polynomial(ws)) => {
+            let products = times_lists(pool, us, ws)?;
+            Ok(Expansion::Polynomial(products))
+        }
     }
-    if rhs.constant {
-        let r = rhs.coeffs[0];
-        let n = lhs.len;
-        return entries_in(kinds, words, room, Entry::Times(r), lhs, lhs, n);
-    }
-    times_lists(kinds, words, room, lhs, rhs)
 }

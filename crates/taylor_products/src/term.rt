@@ -1,16 +1,17 @@
 // Sums of products of entries, term by term.
-ghost use Rattle.std.specs.Prelude.{◌≡◌};
-ghost use Rattle.pool.specs.Made.{made, pool_of};
+ghost use Rattle.std.specs.Prelude.{◌≡◌, ◌+◌, ◌≤◌, ◌<◌};
+ghost use Rattle.pool.specs.Made.{made};
 ghost use Rattle.taylor.specs.Work.{fold};
-ghost use Rattle.taylor_base.specs.Answers.{list_of};
-ghost use Rattle.taylor_products.specs.Terms.{term_work, term_at, Terms};
+ghost use Rattle.taylor.specs.Coefficients.{terms};
+ghost use Rattle.taylor_products.specs.Terms.{term_work, term_at};
 ghost use Rattle.taylor_products.specs.declared.term.Term.TheVariants.{Plus, Less, Weighted};
 
 use constructors::DEPTH;
-use pool::{LIMIT, Made, Room};
-use taylor_base::Expansion;
+use pool::Pool;
+use refusals::Refusal;
+use taylor::Coefficients;
 
-// What is done with an entry x of the one list and y of the other.
+// What is done with an entry x of the one list and y of the other: a value and not a closure, so that a contract names what is made.
 #[derive(Clone, Copy)]
 pub enum Term {
     // sum + x * y
@@ -22,133 +23,58 @@ pub enum Term {
 }
 
 // sum + x * y
-fn plus_in(
-    kinds: &mut [u8; LIMIT],
-    words: &mut [u64; LIMIT],
-    room: Room,
-    x: u32,
-    y: u32,
-    sum: u32,
-) -> Made
-    ensures { made result kinds.new words.new ≡ term_work Plus x y 0 sum (pool_of kinds.old words.old room) }
+fn plus_in(pool: &mut Pool, x: u32, y: u32, sum: u32) -> Result<u32, Refusal>
+    ensures { made result pool.new ≡ term_work Plus x y 0 sum pool.old }
 {
-    let product = muls::mul_in(kinds, words, room, DEPTH, x, y);
-    let Made::Node {
-        node: t,
-        room: rest,
-    } = product
-    else {
-        return product;
-    };
-    adds::add_in(kinds, words, rest, DEPTH, sum, t)
+    let product = muls::mul_in(pool, DEPTH, x, y)?;
+    adds::add_in(pool, DEPTH, sum, product)
 }
 
 // sum - x * y
-fn less_in(
-    kinds: &mut [u8; LIMIT],
-    words: &mut [u64; LIMIT],
-    room: Room,
-    x: u32,
-    y: u32,
-    sum: u32,
-) -> Made
-    ensures { made result kinds.new words.new ≡ term_work Less x y 0 sum (pool_of kinds.old words.old room) }
+fn less_in(pool: &mut Pool, x: u32, y: u32, sum: u32) -> Result<u32, Refusal>
+    ensures { made result pool.new ≡ term_work Less x y 0 sum pool.old }
 {
-    let product = muls::mul_in(kinds, words, room, DEPTH, x, y);
-    let Made::Node {
-        node: t,
-        room: rest,
-    } = product
-    else {
-        return product;
-    };
-    taylor_base::sub_nodes(kinds, words, rest, sum, t)
+    let product = muls::mul_in(pool, DEPTH, x, y)?;
+    taylor_base::sub_nodes(pool, sum, product)
 }
 
 // sum + y * x * j
-fn weighted_in(
-    kinds: &mut [u8; LIMIT],
-    words: &mut [u64; LIMIT],
-    room: Room,
-    x: u32,
-    y: u32,
-    j: u32,
-    sum: u32,
-) -> Made
-    ensures { made result kinds.new words.new ≡ term_work Weighted x y j sum (pool_of kinds.old words.old room) }
+fn weighted_in(pool: &mut Pool, x: u32, y: u32, j: u32, sum: u32) -> Result<u32, Refusal>
+    ensures { made result pool.new ≡ term_work Weighted x y j sum pool.old }
 {
-    let product = muls::mul_in(kinds, words, room, DEPTH, y, x);
-    let Made::Node {
-        node: p,
-        room: more,
-    } = product
-    else {
-        return product;
-    };
-    let weight = taylor_base::from_in(kinds, words, more, j);
-    let Made::Node {
-        node: n,
-        room: rest,
-    } = weight
-    else {
-        return weight;
-    };
-    plus_in(kinds, words, rest, p, n, sum)
+    let product = muls::mul_in(pool, DEPTH, y, x)?;
+    let weight = taylor_base::from_in(pool, j)?;
+    plus_in(pool, product, weight, sum)
 }
 
-fn term_in(
-    kinds: &mut [u8; LIMIT],
-    words: &mut [u64; LIMIT],
-    room: Room,
-    rule: Term,
-    x: u32,
-    y: u32,
-    j: u32,
-    sum: u32,
-) -> Made
-    ensures { made result kinds.new words.new ≡ term_work rule x y j sum (pool_of kinds.old words.old room) }
+fn term_in(pool: &mut Pool, rule: Term, x: u32, y: u32, j: u32, sum: u32) -> Result<u32, Refusal>
+    ensures { made result pool.new ≡ term_work rule x y j sum pool.old }
 {
     match rule {
-        Term::Plus => plus_in(kinds, words, room, x, y, sum),
-        Term::Less => less_in(kinds, words, room, x, y, sum),
-        Term::Weighted => weighted_in(kinds, words, room, x, y, j, sum),
+        Term::Plus => plus_in(pool, x, y, sum),
+        Term::Less => less_in(pool, x, y, sum),
+        Term::Weighted => weighted_in(pool, x, y, j, sum),
     }
 }
 
-// The sum of so many terms from the first on, the one list read at j and the other at k - j. The entries are read in place: `at` would copy both lists for
-// each term.
+// The sum of so many terms from the first on, the one list read at j and the other at k - j.
 pub fn fold_in(
-    kinds: &mut [u8; LIMIT],
-    words: &mut [u64; LIMIT],
-    room: Room,
+    pool: &mut Pool,
     rule: Term,
-    xs: Expansion,
-    ys: Expansion,
+    xs: &Coefficients,
+    ys: &Coefficients,
     k: u32,
     first: u32,
     todo: u32,
     start: u32,
-) -> Made
-    requires { Terms xs ys k first todo }
-    ensures { made result kinds.new words.new ≡ fold (term_at rule (list_of xs) (list_of ys) k) first todo start (pool_of kinds.old words.old room) }
+) -> Result<u32, Refusal>
+    requires within { first + todo ≤ k + 1 }
+    requires below { k < terms }
+    ensures { made result pool.new ≡ fold (term_at rule xs.now ys.now k) first todo start pool.old }
 {
-    let mut left = room;
     let mut sum = start;
-    let end = first + todo;
-    let mut j = first;
-    while j < end {
-        let x = xs.coeffs[j as usize];
-        let y = ys.coeffs[(k - j) as usize];
-        let term = term_in(kinds, words, left, rule, x, y, j, sum);
-        let Made::Node { node, room: rest } = term else {
-            return term;
-        };
-        sum = node;
-        left = rest;
-        j += 1;
+    for j in first..first + todo {
+        sum = term_in(pool, rule, xs.at(j), ys.at(k - j), j, sum)?;
     }
-    Made::Node {
-        node: sum,
-        room: left,
-    }
+    Ok(sum)
 }

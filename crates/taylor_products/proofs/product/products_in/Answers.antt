@@ -1,69 +1,40 @@
 -- `taylor_products::product::products_in` meets its contract: it is `fill`, one coefficient a turn.
 -- Assumes nothing.
-use mathlib.Core.Path.{ap, ◌∙◌}
+use Rattle.std.proofs.Common.{arith, ◌<◌, ℕ, ap, ◌∙◌, min, length}
+use Rattle.std.proofs.lemmas.Result.{err_from_is_err_and}
 use native.Mathlib.Numerals.{add-one}
-use native.Mathlib.Omega.{arith}
-use Prim.Native.Nat.{ℕ}
-use Rattle.pool.specs.Made.{pool_of}
 use Rattle.taylor.specs.Work.{fold}
-use Rattle.taylor.specs.Expansion.{product_term}
-use Rattle.taylor_base.specs.Answers.{list_of}
-use Rattle.taylor_base.proofs.Lists.{refusal_lists}
+use Rattle.taylor.specs.Expansion.{product_at}
 use Rattle.taylor_base.proofs.Filling.{fill_starts, fill_stopped, fill_onward, fill_done}
+use Rattle.taylor_products.specs.Terms.{term_at}
+use Rattle.taylor_products.specs.declared.term.Term.TheVariants.{Plus}
 use Rattle.taylor_products.proofs.product.products_in.Goals as goal
 
+pub returns-in_err-first : goal.returns-in_err-first
+returns-in_err-first c =
+    let p = err_from_is_err_and c.from_residual.result c.from_residual.ensures.1 in
+    let some : 0 < min (length c.args.us.now) (length c.args.ws.now) = omega (arith, c.len.ensures.is, c.len.ensures.least, c.len-2.ensures.is, c.len-2.ensures.least) in
+    rw (p.1, p.2) (fill_stopped (fill_starts (product_at c.args.us.now c.args.ws.now c.args.zero) (min (length c.args.us.now) (length c.args.ws.now)) c.args.pool.now) some c.in_err-first.ensures)
+
 pub loop-k-init : goal.loop-k-init
-loop-k-init c = fill_starts _ c.args.n _ c.requires.most
+loop-k-init c =
+    let some : 0 < min (length c.args.us.now) (length c.args.ws.now) = omega (arith, c.len.ensures.is, c.len.ensures.least, c.len-2.ensures.is, c.len-2.ensures.least) in
+    rw c.one-list.ensures (fill_onward (fill_starts (product_at c.args.us.now c.args.ws.now c.args.zero) (min (length c.args.us.now) (length c.args.ws.now)) c.args.pool.now) some c.in_ok-first.ensures)
 
-pub overflow_add-k : goal.overflow_add-k
-overflow_add-k c = omega (arith, c.loop-k-test.true, c.requires.most)
-
-pub fold_in-sum-requires : goal.fold_in-sum-requires
-fold_in-sum-requires c =
-    let test = c.loop-k-test.true in
-    let pre = c.requires in
-    record {
-      within = omega arith;
-      rising = omega (arith, test, pre.left);
-      falling = omega (arith, test, pre.right);
-      rising_most = pre.left_most;
-      falling_most = pre.right_most;
-    }
-
-pub returns-in_default : goal.returns-in_default
-returns-in_default c =
-    refusal_lists c.fold_in-sum.result c.fold_in-sum.new.kinds c.fold_in-sum.new.words c.answer_of.ensures c.in_default.is
-    (fill_stopped c.loop-k.invariant c.fold_in-sum.new.kinds c.fold_in-sum.new.words c.loop-k-test.true
-    (c.fold_in-sum.ensures ∙ ap
-    (λ (n : ℕ). fold (product_term (list_of c.args.us) (list_of c.args.ws) c.loop-k.k) 0 n c.args.zero
-    (pool_of c.loop-k.kinds c.loop-k.words c.loop-k.left)) (add-one c.loop-k.k)) c.in_default.is)
-
-pub overflow_cast-coeffs : goal.overflow_cast-coeffs
-overflow_cast-coeffs c =
-    omega (arith, c.loop-k-test.true, c.requires.most)
-
-pub offset_bounds-coeffs-k : goal.offset_bounds-coeffs-k
-offset_bounds-coeffs-k c =
-    omega (arith, c.loop-k-test.true, c.requires.most)
-
-pub bounds-coeffs-k : goal.bounds-coeffs-k
-bounds-coeffs-k c =
-    omega (arith, c.loop-k-test.true, c.requires.most)
-
-pub overflow_add-k-in-loop-k : goal.overflow_add-k-in-loop-k
-overflow_add-k-in-loop-k c =
-    omega (arith, c.loop-k-test.true, c.requires.most)
-
-pub loop-k-smaller : goal.loop-k-smaller
-loop-k-smaller c = omega (arith, c.loop-k-test.true)
+pub returns-in_err-sum : goal.returns-in_err-sum
+returns-in_err-sum c =
+    let p = err_from_is_err_and c.from_residual-in_err-sum.result c.from_residual-in_err-sum.ensures.1 in
+    let more : c.loop-k.k < min (length c.args.us.now) (length c.args.ws.now) = omega (arith, c.len.ensures.is, c.len-2.ensures.is, c.min-end.ensures, c.loop-k-test.true) in
+    rw (p.1, p.2)
+    (fill_stopped c.loop-k.invariant more
+    (c.in_err-sum.ensures ∙ ap (λ (n : ℕ). fold (term_at Plus c.args.us.now c.args.ws.now c.loop-k.k) 0 n c.args.zero c.loop-k.pool) (add-one c.loop-k.k)))
 
 pub loop-k-preserved : goal.loop-k-preserved
 loop-k-preserved c =
-    fill_onward c.loop-k.invariant c.fold_in-sum.new.kinds c.fold_in-sum.new.words c.loop-k-test.true
-    (c.fold_in-sum.ensures ∙ ap
-    (λ (n : ℕ). fold (product_term (list_of c.args.us) (list_of c.args.ws) c.loop-k.k) 0 n c.args.zero
-    (pool_of c.loop-k.kinds c.loop-k.words c.loop-k.left)) (add-one c.loop-k.k)) c.in-Node.is
+    let more : c.loop-k.k < min (length c.args.us.now) (length c.args.ws.now) = omega (arith, c.len.ensures.is, c.len-2.ensures.is, c.min-end.ensures, c.loop-k-test.true) in
+    rw c.push.ensures
+    (fill_onward c.loop-k.invariant more
+    (c.in_ok-sum.ensures ∙ ap (λ (n : ℕ). fold (term_at Plus c.args.us.now c.args.ws.now c.loop-k.k) 0 n c.args.zero c.loop-k.pool) (add-one c.loop-k.k)))
 
 pub returns : goal.returns
-returns c =
-    fill_done c.loop-k.kinds c.loop-k.words c.loop-k.left c.loop-k.invariant c.loop-k-test.false c.requires.least
+returns c = fill_done c.loop-k.invariant (omega (arith, c.len.ensures.is, c.len-2.ensures.is, c.min-end.ensures, c.loop-k-test.false))

@@ -1,17 +1,10 @@
 -- `taylor_products::product::products_in` meets its contract: it is `fill`, one coefficient a turn.
 -- Assumes nothing.
-use mathlib.Core.List.{[]}
-use Prim.Native.Nat.{◌-◌}
-use Rattle.pool.specs.Made.{pool_of}
+use Rattle.std.proofs.Common.{[], length, min}
 use Rattle.taylor.specs.Work.{fill}
 use Rattle.taylor.specs.Expansion.{product_at}
-use Rattle.taylor_base.specs.Answers.{list_of}
 use Rattle.taylor_base.proofs.Filling.{Filling}
 use Rattle.taylor_products.proofs.product.products_in.Given as goal
 
 abbrev pub invariant-loop-k : goal.invariant-loop-k
-invariant-loop-k l =
-    Filling (product_at (list_of l.us) (list_of l.ws) l.zero) l.n (fill (product_at (list_of l.us) (list_of l.ws) l.zero) l.n [] (pool_of l.initial.kinds l.initial.words l.initial.left)) l.k l.coeffs (pool_of l.kinds l.words l.left)
-
-abbrev pub decreases-loop-k : goal.decreases-loop-k
-decreases-loop-k l = l.n - l.k
+invariant-loop-k l = Filling (product_at l.us l.ws l.zero) (min (length l.us) (length l.ws)) (fill (product_at l.us l.ws l.zero) (min (length l.us) (length l.ws)) [] l.fn.pool) l.k l.list l.pool
