@@ -19,7 +19,7 @@ use Rattle.shape.specs.Demand.{KeepsRules}
 use Rattle.shape.proofs.Lists.{not_both, not_true_false}
 use Rattle.shape.proofs.Pools.{falls_in}
 use Rattle.lent.specs.Call.{demand}
-use Rattle.lent.specs.Writing.{Put, unwritten, writes, Accepted, bytes_written}
+use Rattle.lent.specs.Writing.{unwritten, writes, Accepted, bytes_written}
 use Rattle.lent.proofs.Finishing.{one_is_below}
 use Rattle.lent.proofs.Writing.{passed, bytes_are_there}
 use Rattle.engine_strip.specs.Strips.{strip_call}

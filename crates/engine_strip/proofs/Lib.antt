@@ -1,4 +1,3 @@
 pub mod Strips
-pub mod Runs
 pub mod Accepting
 pub mod Theorems

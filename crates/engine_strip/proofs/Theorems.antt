@@ -1,10 +1,10 @@
 -- C-20 of the calls: a strip that was made runs as the expression is evaluated, one shape has one strip, and the machine refuses by 28 exactly what is no tree's strip.
 -- Assumes nothing.
 use Rattle.std.specs.Prelude.{Err}
-use mathlib.Core.Path.{◌≡◌, refl, sym, ap, ◌∙◌, subst, subst⁻¹}
+use mathlib.Core.Path.{◌≡◌, sym, ap, ◌∙◌, subst}
 use mathlib.Core.Logic.{◌↔◌, inl, inr}
-use mathlib.Core.Bool.{Bool, true, false, true≢false}
-use mathlib.Core.List.{List, [], ◌∷◌}
+use mathlib.Core.Bool.{true, false}
+use mathlib.Core.List.{List}
 use Prim.Native.Nat.{ℕ, ◌^◌, ◌<◌, ◌≤◌}
 use native.Mathlib.Omega.{arith}
 use lib.Dec.{leb}
@@ -13,12 +13,11 @@ use lib.Ieee.{Float}
 use borrow.Author.Tests.{le-leb, lt-ltb}
 use Rattle.refusals.specs.Refusals.{wrong_values, wrong_strip}
 use Rattle.low_bytes.specs.LowBytes.{AreBytes}
-use Rattle.double.specs.Double.{Valued}
 use Rattle.pool.specs.Pool.{Pool, node_at}
 use Rattle.walks.specs.Evaluate.{evaluate}
 use Rattle.shape.specs.Demand.{KeepsRules, SameShape}
-use Rattle.shape.proofs.Lists.{not_both, not_true_false}
-use Rattle.key_strip.specs.Strip.{strip_of, places_of, most_places}
+use Rattle.shape.proofs.Lists.{not_true_false}
+use Rattle.key_strip.specs.Strip.{places_of, most_places}
 use Rattle.key_strip.specs.Machine.{is_strip, run_strip}
 use Rattle.key_strip.specs.Trees.{IsTreesStrip}
 use Rattle.key_strip.proofs.Theorems.{strip_is_tested, strip_runs}
