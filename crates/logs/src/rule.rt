@@ -55,6 +55,7 @@ pub fn log_rule(pool: &Pool, arg: u32) -> LogRule
 }
 
 // Lit(a) if a.is_zero(). Tried in place of this and the next function, and not proved: chains of `if let`, at whose joins what is known of the node is lost.
+#[tactic(auto, using(views::proofs::Missed::lit_missed, adds::proofs::Parts::lit_found))]
 fn is_zero_at(pool: &Pool, i: u32) -> bool
     ensures { result ≡ guarded is_zero (lit_in (node_at pool.now i)) }
 {
@@ -65,6 +66,7 @@ fn is_zero_at(pool: &Pool, i: u32) -> bool
 }
 
 // Lit(a) if a.is_one()
+#[tactic(auto, using(views::proofs::Missed::lit_missed, adds::proofs::Parts::lit_found))]
 fn is_one_at(pool: &Pool, i: u32) -> bool
     ensures { result ≡ guarded is_one (lit_in (node_at pool.now i)) }
 {
@@ -74,6 +76,7 @@ fn is_one_at(pool: &Pool, i: u32) -> bool
     literal::is_one(a)
 }
 
+#[tactic(auto, using(crate::proofs::Rules::zero_over, crate::proofs::Rules::over_one, crate::proofs::Rules::over_other))]
 pub fn div_rule(pool: &Pool, lhs: u32, rhs: u32) -> DivRule
     ensures { div_term result ≡ div_table (node_at pool.now) lhs rhs }
 {
