@@ -33,6 +33,7 @@ pub enum DivRule {
     Plain(u32, u32),
 }
 
+#[tactic(auto, using(views::proofs::Missed::lit_missed, views::proofs::Missed::mul_missed, adds::proofs::Parts::lit_found, adds::proofs::Parts::mul_found, crate::proofs::Rules::log_of_one, crate::proofs::Rules::log_of_lit, crate::proofs::Rules::log_of_product, crate::proofs::Rules::log_beside_product, crate::proofs::Rules::log_beside))]
 pub fn log_rule(pool: &Pool, arg: u32) -> LogRule
     ensures { log_term result ≡ log_table (node_at pool.now) arg }
 {
