@@ -1,27 +1,30 @@
 // The exponential of an expansion.
-ghost use Rattle.pool.specs.Made.{pool_of};
+ghost use Rattle.std.specs.Prelude.{◌≡◌};
+ghost use Rattle.taylor.specs.Answered.{answered};
 ghost use Rattle.taylor.specs.Expansion.{exponential};
-ghost use Rattle.taylor_base.specs.Answers.{expansion_of, Given, Answers};
 
-use crate::recurrence::{Operation, recurrence_in};
+use crate::coefficient::{Recurrence, rest_in};
 use constructors::DEPTH;
-use pool::{LIMIT, Room};
-use taylor_base::{Expanded, Expansion, answer_of};
+use pool::Pool;
+use refusals::Refusal;
+use taylor::Expansion;
+use taylor_base::from_in;
 
 // exp e
-pub fn exp_in(
-    kinds: &mut [u8; LIMIT],
-    words: &mut [u64; LIMIT],
-    room: Room,
-    e: Expansion,
-) -> Expanded
-    requires { Given e }
-    ensures { Answers result kinds.new words.new (exponential (expansion_of e) (pool_of kinds.old words.old room)) }
+pub fn exp_in(pool: &mut Pool, e: &Expansion) -> Result<Expansion, Refusal>
+    ensures { answered result pool.new ≡ exponential e.now pool.old }
 {
-    if e.constant {
-        let c = e.coeffs[0];
-        return answer_of(muls::exp_in(kinds, words, room, DEPTH, c));
+    match e {
+        Expansion::Constant(c) => {
+            let result = muls::exp_in(pool, DEPTH, *c)?;
+            Ok(Expansion::Constant(result))
+        }
+        Expansion::Polynomial(us) => {
+            let zero = from_in(pool, 0)?;
+            let first = muls::exp_in(pool, DEPTH, us.at(0))?;
+            let rule = Recurrence::Exponential { zero };
+            let list = rest_in(pool, rule, us, us, first, us.len())?;
+            Ok(Expansion::Polynomial(list))
+        }
     }
-    let n = e.len;
-    recurrence_in(kinds, words, room, Operation::Exp, e, e, n)
 }

@@ -5,7 +5,6 @@ mod coefficient;
 mod exp;
 mod log;
 mod quotient;
-mod recurrence;
 
 pub use coefficient::Recurrence;
 pub use exp::exp_in;

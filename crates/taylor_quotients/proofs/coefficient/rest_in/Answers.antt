@@ -1,0 +1,16 @@
+-- `taylor_quotients::coefficient::rest_in` meets its contract: it is `fill` from the first coefficient on, one coefficient a turn.
+-- Assumes nothing.
+use Rattle.std.proofs.lemmas.Result.{err_from_is_err_and}
+use Rattle.taylor_base.proofs.Filling.{fill_stopped, fill_onward, fill_done}
+use Rattle.taylor_quotients.proofs.coefficient.rest_in.Goals as goal
+
+pub returns-in_err-coefficient : goal.returns-in_err-coefficient
+returns-in_err-coefficient c =
+    let p = err_from_is_err_and c.from_residual.result c.from_residual.ensures.1 in
+    rw (p.1, p.2) (fill_stopped c.loop-k.invariant c.loop-k-test.true c.in_err-coefficient.ensures)
+
+pub loop-k-preserved : goal.loop-k-preserved
+loop-k-preserved c = rw c.push.ensures (fill_onward c.loop-k.invariant c.loop-k-test.true c.in_ok-coefficient.ensures)
+
+pub returns : goal.returns
+returns c = fill_done c.loop-k.invariant c.loop-k-test.false
