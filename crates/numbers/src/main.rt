@@ -1,129 +1,132 @@
 // Shows the numbers at work: folded literals, residues, doubles, factorials, and the names of variables, a line each.
 #![tactic(auto)]
 
-use literal::Folded;
-use residue::Divided;
+use refusals::Refusal;
+use residue::Residues;
 use std::io;
 use std::io::Print;
 use text::Text;
 
-fn put(rt: &impl Print, bytes: &[u8]) -> io::Result<()> {
-    rt.write_all(bytes)
+fn put_texts(rt: &impl Print, before: &[u8], text: &Text, after: &[u8]) -> io::Result<()> {
+    rt.write_all(before)?;
+    rt.write_all(text.as_bytes())?;
+    rt.write_all(after)
 }
 
-fn put_from(rt: &impl Print, bytes: &[u8], start: usize) -> io::Result<()> {
-    if start <= bytes.len() {
-        put(rt, &bytes[start..])?;
-    }
-    Ok(())
+// What is asked, and the answer's text.
+fn put_line(rt: &impl Print, what: &[u8], text: Text) -> io::Result<()> {
+    rt.write_all(what)?;
+    put_texts(rt, b": ", &text, b"\n")
 }
 
-fn put_text(rt: &impl Print, t: Text) -> io::Result<()> {
-    let bytes = t.bytes;
-    put_from(rt, &bytes, t.start)
-}
-
-fn put_refused(rt: &impl Print, number: u32) -> io::Result<()> {
-    put(rt, b"refused ")?;
-    put_text(rt, text::decimal_text(number as u64))?;
-    put(rt, b"\n")
-}
-
-fn put_folded(rt: &impl Print, f: Folded) -> io::Result<()> {
-    match f {
-        Folded::Value(z) => {
-            put_text(rt, text::signed_text(z))?;
-            put(rt, b"\n")
+// What is asked, and the answer's text or the refusal.
+fn put_answer<T, F: FnOnce(T) -> Text>(
+    rt: &impl Print,
+    what: &[u8],
+    answer: Result<T, Refusal>,
+    text_of: F,
+) -> io::Result<()>
+    requires { F.IsAlwaysCallable text_of }
+{
+    match answer {
+        Ok(value) => put_line(rt, what, text_of(value)),
+        Err(refusal) => {
+            rt.write_all(what)?;
+            let number = text::decimal_text(u64::from(refusal.number()));
+            put_texts(rt, b": refused ", &number, b"\n")
         }
-        Folded::Refused(number) => put_refused(rt, number),
     }
 }
 
-fn put_quotient(rt: &impl Print, q: Divided) -> io::Result<()> {
-    match q {
-        Divided::Residue(r) => {
-            put_text(rt, text::decimal_text(r))?;
-            put(rt, b"\n")
-        }
-        Divided::Refused(number) => put_refused(rt, number),
-    }
+fn put_folded(rt: &impl Print, what: &[u8], folded: Result<i64, Refusal>) -> io::Result<()> {
+    put_answer(rt, what, folded, text::signed_text)
 }
 
-fn put_bits(rt: &impl Print, x: f64) -> io::Result<()> {
-    println!(rt; "{:016x}", double::bits(x))
+fn put_quotient(rt: &impl Print, what: &[u8], quotient: Result<u64, Refusal>) -> io::Result<()> {
+    put_answer(rt, what, quotient, text::decimal_text)
+}
+
+fn put_bits(rt: &impl Print, what: &str, x: f64) -> io::Result<()> {
+    println!(rt; "{what}: {:016x}", double::bits(x))
 }
 
 fn literals(rt: &impl Print) -> io::Result<()> {
-    put(rt, b"9007199254740991 + 1: ")?;
-    put_folded(rt, literal::sum(9_007_199_254_740_991, 1))?;
-    put(rt, b"-9007199254740991 + 9007199254740990: ")?;
     put_folded(
         rt,
+        b"9007199254740991 + 1",
+        literal::sum(9_007_199_254_740_991, 1),
+    )?;
+    put_folded(
+        rt,
+        b"-9007199254740991 + 9007199254740990",
         literal::sum(-9_007_199_254_740_991, 9_007_199_254_740_990),
     )?;
-    put(rt, b"94906265 * 94906265: ")?;
-    put_folded(rt, literal::product(94_906_265, 94_906_265))?;
-    put(rt, b"94906266 * -94906266: ")?;
-    put_folded(rt, literal::product(94_906_266, -94_906_266))?;
-    put(rt, b"-(-9007199254740991): ")?;
-    put_folded(rt, literal::negation(-9_007_199_254_740_991))?;
-    put(rt, b"exp 0: ")?;
-    put_folded(rt, literal::exp_literal(0))?;
-    put(rt, b"exp 1: ")?;
-    put_folded(rt, literal::exp_literal(1))?;
-    put(rt, b"log 1: ")?;
-    put_folded(rt, literal::log_literal(1))
+    put_folded(
+        rt,
+        b"94906265 * 94906265",
+        literal::product(94_906_265, 94_906_265),
+    )?;
+    put_folded(
+        rt,
+        b"94906266 * -94906266",
+        literal::product(94_906_266, -94_906_266),
+    )?;
+    put_folded(
+        rt,
+        b"-(-9007199254740991)",
+        literal::negation(-9_007_199_254_740_991),
+    )?;
+    put_folded(rt, b"exp 0", literal::exp_literal(0))?;
+    put_folded(rt, b"exp 1", literal::exp_literal(1))?;
+    put_folded(rt, b"log 1", literal::log_literal(1))
 }
 
 fn residues(rt: &impl Print) -> io::Result<()> {
-    put(rt, b"1/2 modulo 2147483647: ")?;
-    put_quotient(rt, residue::quotient(residue::MODULUS, 1, 2))?;
-    put(rt, b"2/2 modulo 4: ")?;
-    put_quotient(rt, residue::quotient(4, 2, 2))?;
-    put(rt, b"2/3 modulo 10: ")?;
-    put_quotient(rt, residue::quotient(10, 2, 3))?;
-    put(rt, b"-1 modulo 2147483647: ")?;
-    put_text(
+    put_quotient(
         rt,
-        text::decimal_text(residue::residue_of(residue::MODULUS, -1)),
+        b"1/2 modulo 2147483647",
+        Residues::of(residue::MODULUS).quotient(1, 2),
     )?;
-    put(rt, b"\n3^4294967295 modulo 2147483647: ")?;
-    put_text(
+    put_quotient(rt, b"2/2 modulo 4", Residues::of(4).quotient(2, 2))?;
+    put_quotient(rt, b"2/3 modulo 10", Residues::of(10).quotient(2, 3))?;
+    let prime = Residues::of(residue::MODULUS);
+    put_line(
         rt,
-        text::decimal_text(residue::power(residue::MODULUS, 3, 4_294_967_295)),
+        b"-1 modulo 2147483647",
+        text::decimal_text(prime.residue_of(-1)),
     )?;
-    put(rt, b"\n")
+    put_line(
+        rt,
+        b"3^4294967295 modulo 2147483647",
+        text::decimal_text(prime.power(3, 4_294_967_295)),
+    )
 }
 
 fn doubles(rt: &impl Print) -> io::Result<()> {
-    put(rt, b"1/3: ")?;
-    put_bits(rt, double::quotient(1.0, 3.0))?;
-    put(rt, b"0.1 + 0.2: ")?;
-    put_bits(rt, double::sum(0.1, 0.2))?;
-    put(rt, b"1.1^7: ")?;
-    put_bits(rt, double::pow(1.1, 7))?;
-    put(rt, b"0/0: ")?;
-    put_bits(rt, double::quotient(0.0, 0.0))?;
-    put(rt, b"max(2, 0/0): ")?;
-    put_bits(rt, double::max(2.0, double::quotient(0.0, 0.0)))?;
-    put(rt, b"max(0/0, 2): ")?;
-    put_bits(rt, double::max(double::quotient(0.0, 0.0), 2.0))
+    put_bits(rt, "1/3", double::quotient(1.0, 3.0))?;
+    put_bits(rt, "0.1 + 0.2", double::sum(0.1, 0.2))?;
+    put_bits(rt, "1.1^7", double::pow(1.1, 7))?;
+    put_bits(rt, "0/0", double::quotient(0.0, 0.0))?;
+    put_bits(
+        rt,
+        "max(2, 0/0)",
+        double::max(2.0, double::quotient(0.0, 0.0)),
+    )?;
+    put_bits(
+        rt,
+        "max(0/0, 2)",
+        double::max(double::quotient(0.0, 0.0), 2.0),
+    )
 }
 
 fn names(rt: &impl Print) -> io::Result<()> {
-    put(rt, b"18!: ")?;
-    put_folded(rt, factorial::factorial(18))?;
-    put(rt, b"19!: ")?;
-    put_folded(rt, factorial::factorial(19))?;
-    put(rt, b"variables 0, 25, 26, 65535: ")?;
-    put_text(rt, text::variable_text(0))?;
-    put(rt, b" ")?;
-    put_text(rt, text::variable_text(25))?;
-    put(rt, b" ")?;
-    put_text(rt, text::variable_text(26))?;
-    put(rt, b" ")?;
-    put_text(rt, text::variable_text(65_535))?;
-    put(rt, b"\n")
+    put_folded(rt, b"18!", factorial::factorial(18))?;
+    put_folded(rt, b"19!", factorial::factorial(19))?;
+    rt.write_all(b"variables 0, 25, 26, 65535:")?;
+    for v in [0, 25, 26, 65_535] {
+        put_texts(rt, b" ", &text::variable_text(v), b"")?;
+    }
+    rt.write_all(b"\n")
 }
 
 fn main(rt: HostRuntime) -> io::Result<()> {
