@@ -20,6 +20,7 @@ pub enum ExpRule {
     Plain(u32),
 }
 
+#[tactic(auto, using(views::proofs::Missed::lit_missed, views::proofs::Missed::add_missed, crate::proofs::Tables::exp_of_zero, crate::proofs::Tables::exp_of_lit, crate::proofs::Tables::exp_of_shifted, crate::proofs::Tables::exp_of_sum, crate::proofs::Tables::exp_of_other))]
 pub fn exp_rule(pool: &Pool, arg: u32) -> ExpRule
     ensures { exp_term result ≡ exp_table (node_at pool.now) arg }
 {
