@@ -67,6 +67,7 @@ fn exp_at(pool: &Pool, i: u32) -> Option<u32>
 }
 
 // Two literals.
+#[tactic(auto, using(crate::proofs::Insides::left_zero, crate::proofs::Insides::right_zero, crate::proofs::Insides::left_one, crate::proofs::Insides::right_one, crate::proofs::Insides::both_others))]
 fn two_lits(a: i64, b: i64, lhs: u32, rhs: u32) -> MulRule
     ensures { arm_of (Some result) ≡ inside (two_lits a b lhs rhs) }
 {
@@ -86,6 +87,7 @@ fn two_lits(a: i64, b: i64, lhs: u32, rhs: u32) -> MulRule
 }
 
 // A literal and another node, on either side.
+#[tactic(auto, using(views::proofs::Missed::mul_missed, crate::proofs::Insides::is_zero_lem, crate::proofs::Insides::is_one_lem, crate::proofs::Insides::no_product, crate::proofs::Insides::no_factor, crate::proofs::Insides::scaled))]
 fn one_lit(pool: &Pool, a: i64, other: u32) -> Option<MulRule>
     ensures { arm_of result ≡ inside (one_lit (node_at pool.now) a other) }
 {
@@ -131,6 +133,7 @@ fn lits(pool: &Pool, factors: Factors) -> Option<MulRule>
 }
 
 // A product of a1 and a2, which may have an Exp, and exp(b).
+#[tactic(auto, using(crate::proofs::Insides::second_exp, crate::proofs::Insides::first_exp, crate::proofs::Insides::no_exp))]
 fn one_exp(pool: &Pool, a1: u32, a2: u32, b: u32) -> Option<MulRule>
     ensures { arm_of result ≡ inside (one_exp (node_at pool.now) a1 a2 b) }
 {
@@ -144,6 +147,7 @@ fn one_exp(pool: &Pool, a1: u32, a2: u32, b: u32) -> Option<MulRule>
 }
 
 // A product of a1 and a2, and one of b1 and b2: each may have an Exp.
+#[tactic(auto, using(crate::proofs::Insides::exp_1_1, crate::proofs::Insides::exp_1_2, crate::proofs::Insides::exp_2_1, crate::proofs::Insides::exp_2_2, crate::proofs::Insides::no_left_exp, crate::proofs::Insides::no_right_exp))]
 fn two_exps(pool: &Pool, a1: u32, a2: u32, b1: u32, b2: u32) -> Option<MulRule>
     ensures { arm_of result ≡ inside (two_exps (node_at pool.now) a1 a2 b1 b2) }
 {
@@ -194,6 +198,7 @@ fn exps(pool: &Pool, factors: Factors) -> Option<MulRule>
 }
 
 // A product of a1 and a2, and one of b1 and b2: both may start with a literal.
+#[tactic(auto, using(crate::proofs::Insides::left_not, crate::proofs::Insides::right_not, crate::proofs::Insides::both_ahead))]
 fn lits_ahead(pool: &Pool, a1: u32, a2: u32, b1: u32, b2: u32) -> Option<MulRule>
     ensures { arm_of result ≡ inside (lits_ahead (node_at pool.now) a1 a2 b1 b2) }
 {
@@ -203,6 +208,7 @@ fn lits_ahead(pool: &Pool, a1: u32, a2: u32, b1: u32, b2: u32) -> Option<MulRule
 }
 
 // A product of a1 and a2, and another node: the product may start with a literal.
+#[tactic(auto, using(crate::proofs::Insides::none_ahead, crate::proofs::Insides::one_ahead))]
 fn lit_ahead(pool: &Pool, a1: u32, a2: u32, other: u32) -> Option<MulRule>
     ensures { arm_of result ≡ inside (lit_ahead (node_at pool.now) a1 a2 other) }
 {
