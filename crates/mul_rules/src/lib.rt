@@ -47,6 +47,7 @@ struct Factors {
 }
 
 // The literal of a node, if it is one.
+#[tactic(auto, using(views::proofs::Missed::lit_missed, views::proofs::Patterns::lit_seen))]
 fn lit_at(pool: &Pool, i: u32) -> Option<i64>
     ensures { lit_arm result ≡ lit? (node_at pool.now) i }
 {
@@ -57,6 +58,7 @@ fn lit_at(pool: &Pool, i: u32) -> Option<i64>
 }
 
 // The argument of a node, if it is an Exp.
+#[tactic(auto, using(views::proofs::Missed::exp_missed, views::proofs::Patterns::exp_seen))]
 fn exp_at(pool: &Pool, i: u32) -> Option<u32>
     ensures { exp_arm result ≡ exp? (node_at pool.now) i }
 {
@@ -105,6 +107,7 @@ fn one_lit(pool: &Pool, a: i64, other: u32) -> Option<MulRule>
 }
 
 // Literal simplifications.
+#[tactic(auto, using(views::proofs::Missed::lit_missed, views::proofs::Missed::exp_missed, crate::proofs::Groups::lit_lit, crate::proofs::Groups::lit_other, crate::proofs::Groups::other_lit, crate::proofs::Groups::exp_lit, crate::proofs::Groups::exp_exp, crate::proofs::Groups::exp_none, crate::proofs::Groups::other_none))]
 fn lits(pool: &Pool, factors: Factors) -> Option<MulRule>
     requires { Seen (node_at pool.now) factors }
     ensures { arm_of result ≡ inside (mul_lits (node_at pool.now) factors.lhs factors.rhs) }
@@ -173,6 +176,7 @@ fn two_exps(pool: &Pool, a1: u32, a2: u32, b1: u32, b2: u32) -> Option<MulRule>
 }
 
 // Exp simplifications.
+#[tactic(auto, using(views::proofs::Missed::mul_missed, views::proofs::Missed::exp_missed, crate::proofs::Groups::mul_exp, crate::proofs::Groups::exp_mul, crate::proofs::Groups::mul_mul, crate::proofs::Groups::mul_none, crate::proofs::Groups::exp_no_mul, crate::proofs::Groups::no_mul_no_exp))]
 fn exps(pool: &Pool, factors: Factors) -> Option<MulRule>
     requires { Seen (node_at pool.now) factors }
     ensures { arm_of result ≡ inside (mul_exps (node_at pool.now) factors.lhs factors.rhs) }
@@ -217,6 +221,7 @@ fn lit_ahead(pool: &Pool, a1: u32, a2: u32, other: u32) -> Option<MulRule>
 }
 
 // Moving literals left.
+#[tactic(auto, using(views::proofs::Missed::mul_missed, crate::proofs::Groups::products, crate::proofs::Groups::product_left, crate::proofs::Groups::product_right, crate::proofs::Groups::no_product))]
 fn ahead(pool: &Pool, factors: Factors) -> Option<MulRule>
     requires { Seen (node_at pool.now) factors }
     ensures { arm_of result ≡ inside (mul_left (node_at pool.now) factors.lhs factors.rhs) }
@@ -240,6 +245,7 @@ fn ahead(pool: &Pool, factors: Factors) -> Option<MulRule>
 }
 
 // A product of a1 and a2, and the power n of b.
+#[tactic(auto, using(views::proofs::Missed::pow_missed, crate::proofs::Insides::same_base, crate::proofs::Insides::no_base, crate::proofs::Insides::both_pows, crate::proofs::Insides::other_base))]
 fn two_pows(pool: &Pool, a1: u32, a2: u32, b: u32, n: u32) -> Option<MulRule>
     ensures { arm_of result ≡ inside (two_pows (node_at pool.now) a1 a2 b n) }
 {
@@ -256,6 +262,7 @@ fn two_pows(pool: &Pool, a1: u32, a2: u32, b: u32, n: u32) -> Option<MulRule>
 }
 
 // Pow simplifications.
+#[tactic(auto, using(views::proofs::Missed::mul_missed, views::proofs::Missed::pow_missed, crate::proofs::Groups::no_factors, crate::proofs::Groups::same_factor, crate::proofs::Groups::no_power, crate::proofs::Groups::mul_pow))]
 fn pows(pool: &Pool, factors: Factors) -> Option<MulRule>
     requires { Seen (node_at pool.now) factors }
     ensures { arm_of result ≡ inside (mul_pows (node_at pool.now) factors.lhs factors.rhs) }
@@ -279,6 +286,7 @@ fn pows(pool: &Pool, factors: Factors) -> Option<MulRule>
 }
 
 // The last statements.
+#[tactic(auto, using(views::proofs::Missed::lit_missed, crate::proofs::Groups::lit_last, crate::proofs::Groups::other_last))]
 fn last(pool: &Pool, factors: Factors) -> MulRule
     requires { Seen (node_at pool.now) factors }
     ensures { mul_term result ≡ (mul_last (node_at pool.now) factors.lhs factors.rhs then Mul (# factors.lhs) (# factors.rhs)) }
