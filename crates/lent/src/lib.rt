@@ -1,4 +1,5 @@
-// What a caller lends: both tables of the pool are tested and taken in, and after an accepted call the new entries are put back.
+// What a caller lends: both tables of the pool are tested and taken in, and after an accepted call the new entries are put back. The tables and the count
+// stay three parameters in every call, since the C interface lends them so.
 #![tactic(auto)]
 
 ghost use Rattle.std.specs.Prelude.{◌≡◌, true, [], ◌∷◌, leb, OnOk, Ok, Err};

@@ -51,7 +51,8 @@ fn word_bits(words: &[u64], from: usize, to: usize) -> u64
     bits
 }
 
-// The words from the count on are 0: those up to a block's start, and then block by block.
+// The words from the count on are 0: those up to a block's start, and then block by block. A block is taken by its numbers, so that the compiler sees how
+// many words it has.
 fn words_rest(words: &[u64], from: usize) -> bool
     requires from_le_limit { from ≤ limit }
     requires words_len { length words.now ≡ limit }

@@ -1,16 +1,11 @@
 -- `lent::rules::kinds_rest` meets its contract: the bits that were gathered tell of the entries that were passed.
 -- Assumes nothing.
-use mathlib.Core.Path.{◌≡◌}
 use native.Mathlib.Omega.{arith}
-use Rattle.pool.specs.Pool.{limit}
 use Rattle.lent.proofs.Tested.{none_yet, one_gathered}
 use Rattle.lent.proofs.rules.kinds_rest.Goals as goal
 
 pub loop-i-init : goal.loop-i-init
 loop-i-init c = (omega arith, (c.requires.from_le_limit, none_yet _ c.args.kinds.now))
-
-pub bounds-kinds-i : goal.bounds-kinds-i
-bounds-kinds-i c = omega (arith, c.loop-i-test.true, c.requires.kinds_len)
 
 pub loop-i-preserved : goal.loop-i-preserved
 loop-i-preserved c =
@@ -18,9 +13,3 @@ loop-i-preserved c =
       omega (arith, c.loop-i.invariant.0),
       (omega (arith, turn), one_gathered _ c.args.kinds.now c.loop-i.i c.loop-i.invariant.0 c.loop-i.bits c.loop-i.invariant.1.1),
     )
-
-pub returns : goal.returns
-returns c =
-    let inv = c.loop-i.invariant in
-    let ended : c.loop-i.i ≡ limit = omega (arith, inv.1.0, c.loop-i-test.false) in
-    rw ended at inv.1.1

