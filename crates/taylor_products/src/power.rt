@@ -25,17 +25,18 @@ fn times_if(
     Ok(*lhs)
 }
 
-// Each turn takes a binary digit of the exponent, the lowest first. The square after the highest one bit is not taken.
+// Each round takes a binary digit of the exponent, the lowest first. There are as many rounds as digits, which the leading zeros tell, and the square after the highest one bit is not taken.
 fn rounds_in(pool: &mut Pool, one: u32, base: &Expansion, exp: u32) -> Result<Expansion, Refusal>
     ensures { answered result pool.new ≡ pow_from digits exp (Constant one) base.now pool.old }
 {
     let mut res = Expansion::Constant(one);
     let mut square = *base;
     let mut e = exp;
-    while e > 0 {
+    let rounds = 32 - exp.leading_zeros();
+    for left in (0..rounds).rev() {
         res = times_if(pool, e % 2 == 1, &res, &square)?;
+        square = times_if(pool, left > 0, &square, &square)?;
         e = e / 2;
-        square = times_if(pool, e > 0, &square, &square)?;
     }
     Ok(res)
 }
