@@ -20,17 +20,15 @@ use Rattle.pool.specs.declared.node.Node.{Node}
 use Rattle.pool.specs.declared.node.Node.TheVariants.{Lit}
 use Rattle.pool.specs.Nodes.{kind_of, word_of}
 use Rattle.pool.specs.Pool.{Pool, Out, limit, node_in, node_at, done, refused}
-use Rattle.pool.specs.Made.{pool_of}
-use Rattle.pool.specs.declared.table.Room.{Room}
 use Rattle.constructors.specs.Terms.{Term, #, return}
 use Rattle.constructors.specs.Terms as terms
 use Rattle.constructors.specs.Tables.{mul_lits, mul_table}
 use Rattle.constructors.specs.Build.{calls, depth, build, literal}
 use Rattle.constructor_laws.proofs.Growth.{appended, append_comes_to, appended_grown, earlier_same}
 use Rattle.constructor_laws.proofs.Coding.{Fine, fine_is_read}
-use Rattle.taylor.specs.Work.{Result, Work, bind, lit, from, zero_lit, one_lit, mul, at, fold}
+use Rattle.taylor.specs.Work.{Result, Work, bind, lit, from, one_lit, mul, at, fold}
 use Rattle.taylor.specs.Expansion.{derivative}
-use Rattle.taylor.specs.declared.expansion.Expansion.TheVariants.{Constant, Polynomial}
+use Rattle.taylor.specs.declared.expansion.Expansion.TheVariants.{Polynomial}
 use Rattle.taylor_base.proofs.Steps.{bind_assoc}
 use Rattle.taylor_derivative.specs.Factorials.{itself, product, factor, derivative_of}
 
@@ -38,9 +36,6 @@ use Rattle.taylor_derivative.specs.Factorials.{itself, product, factor, derivati
 pub record Long (P : Pool) : Type 0 where
   pub kinds_long : length P.kinds ≡ limit
   pub words_long : length P.words ≡ limit
-
-pub lent_tables : (ks ws : List ℕ) (room : Room) → length ks ≡ limit → length ws ≡ limit → Long (pool_of ks ws room)
-lent_tables ks ws room k w = record { kinds_long = k; words_long = w }
 
 -- a literal in such a pool
 record Literal (z : ℤ) (a : ℕ) (P : Pool) : Type 0 where
@@ -201,8 +196,3 @@ module _ (i n : ℕ) (P : Pool) where
 
   pub is_new : itself < i → lit (pos (factorial_of i)) P ≡ product (leb i itself) i n P
   is_new h = rw (lt-leb i itself h) refl
-
--- any positive derivative of a constant is a new zero
-pub zero_behind : (c k : ℕ) (P : Pool) → k ≢ 0 → zero_lit P ≡ derivative (Constant c) k P
-zero_behind c zero P h = absurd (h refl)
-zero_behind c (suc k) P h = refl

@@ -1,131 +1,82 @@
 // `derivative` of an expansion: a factorial times a coefficient.
 #![tactic(auto)]
 
-ghost use Rattle.std.specs.Prelude.{◌≡◌, ◌≤◌, ◌<◌, length};
-ghost use Rattle.pool.specs.Pool.{limit};
-ghost use Rattle.pool.specs.Made.{made, pool_of};
+ghost use Rattle.std.specs.Prelude.{◌≡◌, ◌<◌};
+ghost use Rattle.pool.specs.Made.{made};
 ghost use Rattle.taylor.specs.Work.{fold};
+ghost use Rattle.taylor.specs.Coefficients.{terms};
 ghost use Rattle.taylor.specs.Expansion.{derivative};
-ghost use Rattle.taylor_base.specs.Answers.{terms, list_of, expansion_of, Given, HasIndex};
+ghost use Rattle.taylor_base.specs.Entries.{HasIndex};
 ghost use Rattle.taylor_derivative.specs.Factorials.{factor, factorial_lits, derivative_of};
 
 use constructors::DEPTH;
-use pool::{LIMIT, Made, Room};
-use taylor_base::{Expansion, from_in};
+use pool::Pool;
+use refusals::Refusal;
+use taylor::{Coefficients, Expansion};
+use taylor_base::from_in;
 
 // Up to this number the product is the number itself: the product before it is 1.
 const ITSELF: u32 = 2;
 
 // The literal i, and the product of the numbers up to it.
-fn factor_in(kinds: &mut [u8; LIMIT], words: &mut [u64; LIMIT], room: Room, i: u32) -> Made
-    ensures { made result kinds.new words.new ≡ factor 0 i (pool_of kinds.old words.old room) }
+fn factor_in(pool: &mut Pool, i: u32) -> Result<u32, Refusal>
+    ensures { made result pool.new ≡ factor 0 i pool.old }
 {
-    let number = from_in(kinds, words, room, i);
-    let Made::Node {
-        node: n,
-        room: rest,
-    } = number
-    else {
-        return number;
-    };
+    let number = from_in(pool, i)?;
     if i <= ITSELF {
-        return Made::Node {
-            node: n,
-            room: rest,
-        };
+        return Ok(number);
     }
-    adds::lit_in(kinds, words, rest, factorial::factorial(i as u64))
-}
-
-// The literal k!, with those that the source's fold makes on the way.
-fn factorial_in(kinds: &mut [u8; LIMIT], words: &mut [u64; LIMIT], room: Room, k: u32) -> Made
-    requires { k < terms }
-    ensures { made result kinds.new words.new ≡ factorial_lits k (pool_of kinds.old words.old room) }
-{
-    let one = from_in(kinds, words, room, 1);
-    let Made::Node {
-        node: o,
-        room: rest,
-    } = one
-    else {
-        return one;
-    };
-    products_in(kinds, words, rest, o, k)
+    adds::lit_in(pool, factorial::factorial(i as u64))
 }
 
 // From 0! on.
-fn products_in(
-    kinds: &mut [u8; LIMIT],
-    words: &mut [u64; LIMIT],
-    room: Room,
-    one: u32,
-    k: u32,
-) -> Made
+fn products_in(pool: &mut Pool, one: u32, k: u32) -> Result<u32, Refusal>
     requires { k < terms }
-    ensures { made result kinds.new words.new ≡ fold factor 1 k one (pool_of kinds.old words.old room) }
+    ensures { made result pool.new ≡ fold factor 1 k one pool.old }
 {
-    let mut left = room;
     let mut product = one;
-    let end = 1 + k;
-    let mut i = 1;
-    while i < end {
-        let next = factor_in(kinds, words, left, i);
-        let Made::Node { node, room: rest } = next else {
-            return next;
-        };
-        product = node;
-        left = rest;
-        i += 1;
+    for i in 1..1 + k {
+        product = factor_in(pool, i)?;
     }
-    Made::Node {
-        node: product,
-        room: left,
-    }
+    Ok(product)
+}
+
+// The literal k!, with those that the source's fold makes on the way.
+fn factorial_in(pool: &mut Pool, k: u32) -> Result<u32, Refusal>
+    requires { k < terms }
+    ensures { made result pool.new ≡ factorial_lits k pool.old }
+{
+    let one = from_in(pool, 1)?;
+    products_in(pool, one, k)
 }
 
 // Of a list: k! times coefficient k.
-fn derivative_list(
-    kinds: &mut [u8; LIMIT],
-    words: &mut [u64; LIMIT],
-    room: Room,
-    e: Expansion,
-    k: u32,
-) -> Made
-    requires { (k < e.len) × (e.len ≤ terms) }
-    ensures { made result kinds.new words.new ≡ derivative_of (list_of e) k (pool_of kinds.old words.old room) }
+fn derivative_list(pool: &mut Pool, list: &Coefficients, k: u32) -> Result<u32, Refusal>
+    requires { k < terms }
+    ensures { made result pool.new ≡ derivative_of list.now k pool.old }
 {
-    let product = factorial_in(kinds, words, room, k);
-    let Made::Node {
-        node: f,
-        room: rest,
-    } = product
-    else {
-        return product;
-    };
-    let c = taylor_base::at(e, k);
-    muls::mul_in(kinds, words, rest, DEPTH, f, c)
+    let product = factorial_in(pool, k)?;
+    muls::mul_in(pool, DEPTH, product, list.at(k))
 }
 
 // The k-th derivative; any positive one of a constant is a new literal 0.
-pub fn derivative_in(
-    kinds: &mut [u8; LIMIT],
-    words: &mut [u64; LIMIT],
-    room: Room,
-    e: Expansion,
-    k: u64,
-) -> Made
-    requires given { Given e }
-    requires has_index { HasIndex e k }
-    requires kinds_len { length kinds.old ≡ limit }
-    requires words_len { length words.old ≡ limit }
-    ensures { made result kinds.new words.new ≡ derivative (expansion_of e) k (pool_of kinds.old words.old room) }
+pub fn derivative_in(pool: &mut Pool, e: &Expansion, k: u64) -> Result<u32, Refusal>
+    requires { HasIndex e.now k }
+    ensures { made result pool.new ≡ derivative e.now k pool.old }
 {
-    if e.constant {
-        if k == 0 {
-            let node = e.coeffs[0];
-            return Made::Node { node, room };
+    match e {
+        Expansion::Constant(c) => {
+            if k == 0 {
+                return Ok(*c);
+            }
+            from_in(pool, 0)
         }
-        return from_in(kinds, words, room, 0);
+        Expansion::Polynomial(list) => {
+            let _ = list.len();
+            // Both tables are read, so that their lengths are known: a literal that is made stands there.
+            let _ = pool.kinds[0];
+            let _ = pool.words[0];
+            derivative_list(pool, list, k as u32)
+        }
     }
-    derivative_list(kinds, words, room, e, k as u32)
 }
