@@ -1,13 +1,16 @@
 -- A call that answered an expansion: what was demanded of its arguments holds, its work was accepted, and the outcome is the expansion that the work gave.
 -- Assumes nothing.
+use Rattle.std.specs.Prelude.{Ok, Err}
 use mathlib.Core.Path.{◌≡◌, refl, sym, ap, ◌∙◌, subst}
 use mathlib.Core.Bool.{Bool, true, false, ◌&&◌}
 use mathlib.Core.List.{List, [], ◌∷◌}
 use Prim.Native.Nat.{ℕ, ◌-◌, ◌≤◌}
+use native.Mathlib.Nat.{min-eq_left}
 use native.Mathlib.Omega.{arith}
 use lib.ListN.{length, take, replicate}
+use lib.Dec.{leb}
 use lib.Seq.{take_at, length-take-le}
-use borrow.Author.Tests.{eqb-false, ne_eqb}
+use borrow.Author.Tests.{leb-true, ne_eqb}
 use Rattle.refusals.specs.Refusals.{broken_pool, unknown_node, wrong_order}
 use Rattle.pool.specs.Nodes.{all_below}
 use Rattle.pool.specs.Pool.{Pool, is_pool, done, refused}
@@ -21,10 +24,8 @@ use Rattle.taylor_rules.specs.Kept.{Fits}
 use Rattle.lent.specs.Call.{Returned, returned, leaves, lent_pool, demand}
 use Rattle.lent.proofs.Finishing.{and_left, and_right}
 use Rattle.lent_series.specs.declared.series.Series.{Series}
-use Rattle.lent_series.specs.declared.call.Outcome.{Outcome}
 use Rattle.lent_series.specs.Series.{is_constant, nodes_of, length_ok, given, series_of}
-use Rattle.lent_series.specs.Call.{accepted, refused_outcome, given_series, given_two}
-use Rattle.lent_series.proofs.Numbers.{few_entries, length_between}
+use Rattle.lent_series.specs.Call.{Outcome, accepted, refused_outcome, given_series, given_two}
 use Rattle.book_calls.specs.Calls.{Array, Answered}
 
 -- what is demanded holds where the work was accepted
@@ -36,38 +37,41 @@ demanded {A} false k {x} {e} {Q} h = absurd (never h)
     never h = let z : ◌≡◌ {A = ℕ} 0 1 = cc in omega arith
 
 -- the work of a call that answered an expansion
-pub record Done (work : Work Expansion) (ks ws : List ℕ) (n : ℕ) (r : Outcome) (ks' ws' : List ℕ) (n' : ℕ) : Type 0 where
+pub record Done (work : Work Expansion) (ks ws : List ℕ) (n : ℕ) (r : Series) (ks' ws' : List ℕ) (n' : ℕ) : Type 0 where
   pub keeps : Keeps (lent_pool ks ws n)
   pub expansion : Expansion
   pub finish : Pool
   pub worked : work (lent_pool ks ws n) ≡ done expansion finish
-  pub outcome : r ≡ accepted expansion
+  pub outcome : r ≡ series_of expansion
   pub kinds : ks' ≡ finish.kinds
   pub words : ws' ≡ finish.words
   pub count : n' ≡ finish.count
 
-pub done_by : {work : Work Expansion} {ks ws : List ℕ} {n : ℕ} {r : Outcome} {ks' ws' : List ℕ} {n' : ℕ} → Answered work ks ws n r ks' ws' n' → Done work ks ws n r ks' ws' n'
-done_by {work} {ks} {ws} {n} {r} {ks'} {ws'} {n'} h = go (demand refused (is_pool ks ws n) broken_pool (work (lent_pool ks ws n))) refl h.contract h.accepted
+pub done_by : {work : Work Expansion} {ks ws : List ℕ} {n : ℕ} {r : Series} {ks' ws' : List ℕ} {n' : ℕ} → Answered work ks ws n r ks' ws' n' → Done work ks ws n r ks' ws' n'
+done_by {work} {ks} {ws} {n} {r} {ks'} {ws'} {n'} h = go (demand refused (is_pool ks ws n) broken_pool (work (lent_pool ks ws n))) refl (rw h.accepted at h.contract)
   where
     go :
-        (x : Result Expansion) → demand refused (is_pool ks ws n) broken_pool (work (lent_pool ks ws n)) ≡ x → returned r ks' ws' n' ≡ leaves accepted refused_outcome ks ws n x → 1 ≤ r.series.order
+        (x : Result Expansion) → demand refused (is_pool ks ws n) broken_pool (work (lent_pool ks ws n)) ≡ x → returned (Ok r) ks' ws' n' ≡ leaves accepted refused_outcome ks ws n x
         → Done work ks ws n r ks' ws' n'
-    go (done e Q) d c some =
+    go (done e Q) d c =
         let both = demanded (is_pool ks ws n) broken_pool d in
         record {
           keeps = record { rules = both.0; end = omega arith };
           expansion = e;
           finish = Q;
           worked = both.1;
-          outcome = ap (λ (l : Returned Outcome). l.answer) c;
+          outcome = same (ap (λ (l : Returned Outcome). l.answer) c);
           kinds = ap (λ (l : Returned Outcome). l.kinds) c;
           words = ap (λ (l : Returned Outcome). l.words) c;
           count = ap (λ (l : Returned Outcome). l.count) c;
         }
-    go (refused k) d c some = absurd (never (ap (λ (l : Returned Outcome). l.answer.series.order) c) some)
       where
-        never : r.series.order ≡ 0 → 1 ≤ r.series.order → ⊥
-        never e l = omega arith
+        same : {s : Series} → ◌≡◌ {A = Outcome} (Ok r) (Ok s) → r ≡ s
+        same p = cc
+    go (refused k) d c = absurd (never (ap (λ (l : Returned Outcome). l.answer) c))
+      where
+        never : ◌≡◌ {A = Outcome} (Ok r) (Err k) → ⊥
+        never p = let z : ◌≡◌ {A = ℕ} 0 1 = cc in omega arith
 
 -- ---- what is returned
 
@@ -81,13 +85,13 @@ answer_is (Polynomial cs) h =
 
 -- what holds of the work's expansion and pool holds of the answer and of the pool that is returned
 pub holds_of_the_answer :
-    {work : Work Expansion} {ks ws : List ℕ} {n : ℕ} {r : Outcome} {ks' ws' : List ℕ} {n' : ℕ} (H : Pool → Expansion → Type 0)
+    {work : Work Expansion} {ks ws : List ℕ} {n : ℕ} {r : Series} {ks' ws' : List ℕ} {n' : ℕ} (H : Pool → Expansion → Type 0)
     → (d : Done work ks ws n r ks' ws' n') → Grown (lent_pool ks ws n) d.finish → Fits d.finish.count d.expansion → H d.finish d.expansion
-    → H (lent_pool ks' ws' n') (given r.series)
+    → H (lent_pool ks' ws' n') (given r)
 holds_of_the_answer {ks = ks} {ws} {n} {r} {ks'} {ws'} {n'} H d g fits h =
-    let same : given r.series ≡ d.expansion = ap (λ (o : Outcome). given o.series) d.outcome ∙ answer_is d.expansion fits in
+    let same : given r ≡ d.expansion = ap given d.outcome ∙ answer_is d.expansion fits in
     let same_pool : lent_pool ks' ws' n' ≡ d.finish = rw (d.kinds, d.words, d.count, ← g.end) in
-    subst (λ P. H P (given r.series)) (sym same_pool) (subst (H d.finish) (sym same) h)
+    subst (λ P. H P (given r)) (sym same_pool) (subst (H d.finish) (sym same) h)
 
 -- ---- what is given
 
@@ -105,10 +109,11 @@ given_fits n s array below ok = go (is_constant s) refl
     go : (t : Bool) → is_constant s ≡ t → Fits n (given s)
     go true e = rw e (record { nodes = first_below n s.coeffs array (rw e at below); least = omega arith; most = omega arith })
     go false e =
-        let list = eqb-false s.order endless e in
-        let between = length_between s list ok in
-        let long : length (take s.order s.coeffs) ≡ s.order = length-take-le s.order s.coeffs (omega (arith, between.1, array)) in
-        rw e (record { nodes = rw (few_entries s list between.1) below; least = omega (arith, long, between.0); most = omega (arith, long, between.1) })
+        let both : (leb 1 s.order && leb s.order terms) ≡ true = rw e at ok in
+        let least = leb-true 1 s.order (and_left (leb 1 s.order) _ both) in
+        let most = leb-true s.order terms (and_right (leb 1 s.order) _ both) in
+        let long : length (take s.order s.coeffs) ≡ s.order = length-take-le s.order s.coeffs (omega (arith, most, array)) in
+        rw e (record { nodes = rw (e, min-eq_left most) at below; least = omega (arith, long, least); most = omega (arith, long, most) })
 
 -- one expansion that was given, and two
 pub record OneGiven (s : Series) (work : Work Expansion) (P : Pool) (e : Expansion) (Q : Pool) : Type 0 where

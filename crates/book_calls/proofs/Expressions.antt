@@ -26,7 +26,7 @@ use Rattle.taylor.specs.Expand.{Kept, State, state, Went, Point, is_point, expan
 use Rattle.taylor.specs.Coefficients.{terms}
 use Rattle.taylor_rules.proofs.Theorems.{expand_kept}
 use Rattle.lent.specs.Call.{lent_pool}
-use Rattle.lent_series.specs.declared.call.Outcome.{Outcome}
+use Rattle.lent_series.specs.declared.series.Series.{Series}
 use Rattle.lent_series.specs.Series.{given}
 use Rattle.engine_expand.specs.Expressions.{expand_work}
 use Rattle.expand_laws.proofs.Holding.{came}
@@ -159,13 +159,13 @@ pub root_follows_the_book : {P Q : Pool} {v : ℕ} {x : Point} {order from : ℕ
 root_follows_the_book {from = from} h = h.each from (root (here from []))
 
 -- ---- the calls
-module _ {ks ws : List ℕ} {n : ℕ} {r : Outcome} {ks' ws' : List ℕ} {n' : ℕ} (from v order : ℕ) where
+module _ {ks ws : List ℕ} {n : ℕ} {r : Series} {ks' ws' : List ℕ} {n' : ℕ} (from v order : ℕ) where
   -- what holds of every accepted expansion of an expression holds of the answer
   pub expansion_holds :
       (x : Point) (H : Pool → Expansion → Type 0)
       → (Keeps (lent_pool ks ws n) → from < n → v ≤ greatest_variable → order < terms → (e : Expansion) (Q : Pool) → expand from v x order (lent_pool ks ws n) ≡ done e Q → H Q e)
       → Answered (expand_work from v x order) ks ws n r ks' ws' n'
-      → H (lent_pool ks' ws' n') (given r.series)
+      → H (lent_pool ks' ws' n') (given r)
   expansion_holds x H holds call =
       let done = done_by call in
       let inside = demanded (all_below n (from ∷ [])) unknown_node done.worked in
@@ -178,12 +178,12 @@ module _ {ks ws : List ℕ} {n : ℕ} {r : Outcome} {ks' ws' : List ℕ} {n' : �
       let k = kept_then (expand_kept done.keeps from v x order inside' known' small') small.1 in
       holds_of_the_answer H done k.grown k.fits (holds done.keeps inside' known' small' done.expansion done.finish small.1)
 
-  call_follows : (x : Point) → Answered (expand_work from v x order) ks ws n r ks' ws' n' → Expanded (lent_pool ks ws n) (lent_pool ks' ws' n') v x order from (given r.series)
+  call_follows : (x : Point) → Answered (expand_work from v x order) ks ws n r ks' ws' n' → Expanded (lent_pool ks ws n) (lent_pool ks' ws' n') v x order from (given r)
   call_follows x =
       expansion_holds x (λ Q e. Expanded (lent_pool ks ws n) Q v x order from e) (λ keeps inside known small e Q eq. expand_follows_the_book (lent_pool ks ws n) v x order small keeps known from inside eq)
 
-  pub coeffs_call_follows_the_book : Answered (expand_work from v None order) ks ws n r ks' ws' n' → Expanded (lent_pool ks ws n) (lent_pool ks' ws' n') v None order from (given r.series)
+  pub coeffs_call_follows_the_book : Answered (expand_work from v None order) ks ws n r ks' ws' n' → Expanded (lent_pool ks ws n) (lent_pool ks' ws' n') v None order from (given r)
   coeffs_call_follows_the_book = call_follows None
 
-  pub coeffs_at_call_follows_the_book : (z : ℤ) → Answered (expand_work from v (Some z) order) ks ws n r ks' ws' n' → Expanded (lent_pool ks ws n) (lent_pool ks' ws' n') v (Some z) order from (given r.series)
+  pub coeffs_at_call_follows_the_book : (z : ℤ) → Answered (expand_work from v (Some z) order) ks ws n r ks' ws' n' → Expanded (lent_pool ks ws n) (lent_pool ks' ws' n') v (Some z) order from (given r)
   coeffs_at_call_follows_the_book z = call_follows (Some z)

@@ -27,7 +27,6 @@ use Rattle.book_meaning.proofs.Recurrences.{worked_has_its_value}
 use Rattle.book_meaning.proofs.Theorems.{product_has_the_books_values, scaled_has_the_books_values, quotient_has_the_books_values, constant_quotient_has_the_books_values, divided_has_the_books_values, exp_has_the_books_values, log_has_the_books_values}
 use Rattle.lent.specs.Call.{lent_pool}
 use Rattle.lent_series.specs.declared.series.Series.{Series}
-use Rattle.lent_series.specs.declared.call.Outcome.{Outcome}
 use Rattle.lent_series.specs.Series.{length_ok, given}
 use Rattle.lent_series.specs.Call.{given_series, given_two}
 use Rattle.engine_expand.specs.Expressions.{expand_work}
@@ -87,31 +86,31 @@ module _ {A : Algebra} (M : Model A) (D : Distributive A) (fractions : Fractions
     log_values (follows.of_list {us} {vs} h) hs = λ k l. log_has_the_books_values M D fractions env P Q keeps us vs (nodes us hs) h k (omega (arith, h.1.long, l))
 
   -- ---- accepted calls
-  module _ {ks ws : List ℕ} {n : ℕ} {r : Outcome} {ks' ws' : List ℕ} {n' : ℕ} where
+  module _ {ks ws : List ℕ} {n : ℕ} {r : Series} {ks' ws' : List ℕ} {n' : ℕ} where
     module _ (lhs rhs : Series) (array : Array lhs) (array' : Array rhs) where
       pub mul_call_has_the_books_values :
           Answered (given_two lhs rhs (length_ok lhs && length_ok rhs) (times (given lhs) (given rhs))) ks ws n r ks' ws' n'
-          → HasValues A env (lent_pool ks' ws' n') (given r.series) (product_formula (given lhs) (given rhs))
+          → HasValues A env (lent_pool ks' ws' n') (given r) (product_formula (given lhs) (given rhs))
       mul_call_has_the_books_values =
           two_follow times (λ Q s t e. HasValues A env Q e (product_formula s t)) (λ s t e Q k hs ht eq. let x = kept_then (times_kept k s t hs ht) eq in (x.grown, x.fits))
           (λ s t e Q k hs ht eq. product_values (lent_pool ks ws n) Q k (product_follows k s t e hs ht eq) hs ht) lhs rhs array array'
 
       pub div_call_has_the_books_values :
           Answered (given_two lhs rhs (length_ok lhs && length_ok rhs) (quotient (given lhs) (given rhs))) ks ws n r ks' ws' n'
-          → HasValues A env (lent_pool ks' ws' n') (given r.series) (quotient_formula (given lhs) (given rhs) (given r.series))
+          → HasValues A env (lent_pool ks' ws' n') (given r) (quotient_formula (given lhs) (given rhs) (given r))
       div_call_has_the_books_values =
           two_follow quotient (λ Q s t e. HasValues A env Q e (quotient_formula s t e)) (λ s t e Q k hs ht eq. let x = kept_then (quotient_kept k s t hs ht) eq in (x.grown, x.fits))
           (λ s t e Q k hs ht eq. quotient_values (lent_pool ks ws n) Q k (quotient_follows k s t e hs ht eq) hs ht) lhs rhs array array'
 
     module _ (arg : Series) (array : Array arg) where
       pub exp_call_has_the_books_values :
-          Answered (given_series arg (exponential (given arg))) ks ws n r ks' ws' n' → HasValues A env (lent_pool ks' ws' n') (given r.series) (exp_formula (given arg) (given r.series))
+          Answered (given_series arg (exponential (given arg))) ks ws n r ks' ws' n' → HasValues A env (lent_pool ks' ws' n') (given r) (exp_formula (given arg) (given r))
       exp_call_has_the_books_values =
           one_follows exponential (λ Q s e. HasValues A env Q e (exp_formula s e)) (λ s e Q k hs eq. let x = kept_then (exponential_kept k s hs) eq in (x.grown, x.fits))
           (λ s e Q k hs eq. exp_values (lent_pool ks ws n) Q k (exponential_follows k s e hs eq) hs) arg array
 
       pub log_call_has_the_books_values :
-          Answered (given_series arg (logarithm (given arg))) ks ws n r ks' ws' n' → HasValues A env (lent_pool ks' ws' n') (given r.series) (log_formula (given arg) (given r.series))
+          Answered (given_series arg (logarithm (given arg))) ks ws n r ks' ws' n' → HasValues A env (lent_pool ks' ws' n') (given r) (log_formula (given arg) (given r))
       log_call_has_the_books_values =
           one_follows logarithm (λ Q s e. HasValues A env Q e (log_formula s e)) (λ s e Q k hs eq. let x = kept_then (logarithm_kept k s hs) eq in (x.grown, x.fits))
           (λ s e Q k hs eq. log_values (lent_pool ks ws n) Q k (logarithm_follows k s e hs eq) hs) arg array
@@ -120,14 +119,14 @@ module _ {A : Algebra} (M : Model A) (D : Distributive A) (fractions : Fractions
     module _ (from v order : ℕ) (words : (i : ℕ) → get_or ws i 0 < 2 ^ 64) where
       pub coeffs_call_means :
           Answered (expand_work from v None order) ks ws n r ks' ws' n'
-          → MeansSeries A env (lent_pool ks ws n) (suc order) (value (series A) (as_series A env v None) (node_at (lent_pool ks ws n)) from) (given r.series) (lent_pool ks' ws' n')
+          → MeansSeries A env (lent_pool ks ws n) (suc order) (value (series A) (as_series A env v None) (node_at (lent_pool ks ws n)) from) (given r) (lent_pool ks' ws' n')
       coeffs_call_means =
           expansion_holds from v order None (λ Q e. MeansSeries A env (lent_pool ks ws n) (suc order) (value (series A) (as_series A env v None) (node_at (lent_pool ks ws n)) from) e Q)
           (λ keeps inside known small e Q eq. expansion_means M env keeps D v known None order fractions words from inside eq)
 
       pub coeffs_at_call_means :
           (z : ℤ) → Answered (expand_work from v (Some z) order) ks ws n r ks' ws' n'
-          → MeansSeries A env (lent_pool ks ws n) (suc order) (value (series A) (as_series A env v (Some z)) (node_at (lent_pool ks ws n)) from) (given r.series) (lent_pool ks' ws' n')
+          → MeansSeries A env (lent_pool ks ws n) (suc order) (value (series A) (as_series A env v (Some z)) (node_at (lent_pool ks ws n)) from) (given r) (lent_pool ks' ws' n')
       coeffs_at_call_means z =
           expansion_holds from v order (Some z) (λ Q e. MeansSeries A env (lent_pool ks ws n) (suc order) (value (series A) (as_series A env v (Some z)) (node_at (lent_pool ks ws n)) from) e Q)
           (λ keeps inside known small e Q eq. expansion_means M env keeps D v known (Some z) order fractions words from inside eq)

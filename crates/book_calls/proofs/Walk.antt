@@ -331,15 +331,15 @@ module _ (P₀ : Pool) (v : ℕ) (x : Point) (ord : ℕ) where
 
       -- ---- a whole walk
 
-      none_kept : (k j : ℕ) → get_or (replicate k None) j None ≡ None
+      none_kept : (k j : ℕ) → get_or (replicate {A = Kept} k None) j None ≡ None
       none_kept zero j = refl
       none_kept (suc k) zero = refl
       none_kept (suc k) (suc j) = none_kept k j
 
-      not_kept : {B : Type 0} (j : ℕ) (d : Expansion) → get_or (replicate limit None) j None ≡ Some d → B
+      not_kept : {B : Type 0} (j : ℕ) (d : Expansion) → get_or (replicate {A = Kept} limit None) j None ≡ Some d → B
       not_kept j d h = absurd (never (none_kept limit j))
         where
-          never : get_or (replicate limit None) j None ≡ None → ⊥
+          never : get_or (replicate {A = Kept} limit None) j None ≡ None → ⊥
           never n = let z : ◌≡◌ {A = ℕ} 0 1 = cc in omega arith
 
       pub walk_explained : (root : ℕ) → root < P₀.count → {e : Expansion} {T : State} → expand_below v x ord (suc root) root (state P₀ (replicate limit None)) ≡ done e T → Right T

@@ -1,4 +1,3 @@
-pub mod Tables
-pub mod Leaves
+pub mod Results
 pub mod Parts
-pub mod Turns
+pub mod Walks

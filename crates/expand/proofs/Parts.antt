@@ -2,7 +2,7 @@
 -- Assumes nothing.
 use mathlib.Core.Bool.{Bool, true, false}
 use mathlib.Core.Path.{◌≡◌, refl, sym, ap, subst, ◌∙◌}
-use mathlib.Core.List.{List}
+use mathlib.Core.List.{List, [], ◌∷◌}
 use Prim.Native.Nat.{ℕ}
 use lib.Dec.{eqb}
 use Rattle.pool.specs.Pool.{Pool, done, refused}
@@ -11,12 +11,7 @@ use Rattle.pool.specs.declared.node.Node.TheVariants.{Empty, Variable, Lit, Add,
 use Rattle.taylor.specs.Work.{Work}
 use Rattle.taylor.specs.Expansion.{Expansion, add_to, times, quotient, exponential, logarithm, power}
 use Rattle.taylor.specs.Expand.{State, Went, Walk, bind, lifted, lift, Point, of_variable, expand_node}
-use Rattle.expand.specs.Points.{leaf_work}
-use Rattle.expand.specs.Nodes.{Parts, no_part, one_part, two_parts, visits, Visited, node_work}
-
--- the parts of the node that was found are kept
-pub parts_kept : (marks : List ℕ) (rows : List (List ℕ)) {node n : Node} → node ≡ n → Visited marks rows (visits node) → Visited marks rows (visits n)
-parts_kept marks rows e h = subst (λ (m : Node). Visited marks rows (visits m)) e h
+use Rattle.expand.specs.Nodes.{visits, leaf_work, node_work}
 
 module _ (v : ℕ) (x : Point) (order term : ℕ) where
   -- no part is walked
@@ -35,10 +30,11 @@ module _ (v : ℕ) (x : Point) (order term : ℕ) where
     pub walks : (down : ℕ → Walk) (S : State) → expand_node v x order down term node S ≡ bind (down a S) (λ s T. bind (down b T) (λ t. lift (next s t)))
     pub works : (part : ℕ → Expansion) (P : Pool) → node_work v x order part term node P ≡ next (part a) (part b) P
 
-  abbrev Step : Node → Parts → Type 0
-  Step node no_part = NoPart node
-  Step node (one_part a) = OnePart node a
-  Step node (two_parts a b) = TwoParts node a b
+  abbrev Step : Node → List ℕ → Type 0
+  Step node [] = NoPart node
+  Step node (a ∷ []) = OnePart node a
+  Step node (a ∷ b ∷ []) = TwoParts node a b
+  Step node (a ∷ b ∷ c ∷ more) = Unit {0}
 
   step : (node : Node) → Step node (visits node)
   step Empty = record { walks = λ down part S. refl }
@@ -57,10 +53,10 @@ module _ (v : ℕ) (x : Point) (order term : ℕ) where
   step (Max a b) = record { walks = λ down part S. refl }
 
   module _ (node : Node) (down : ℕ → Walk) (S : State) where
-    pub none_made : (part : ℕ → Expansion) → visits node ≡ no_part → lift (node_work v x order part term node) S ≡ expand_node v x order down term node S
+    pub none_made : (part : ℕ → Expansion) → visits node ≡ [] → lift (node_work v x order part term node) S ≡ expand_node v x order down term node S
     none_made part e = (subst (Step node) e (step node)).walks down part S
 
-    module _ {a : ℕ} (e : visits node ≡ one_part a) where
+    module _ {a : ℕ} (e : visits node ≡ a ∷ []) where
       the_one : OnePart node a
       the_one = subst (Step node) e (step node)
 
@@ -72,7 +68,7 @@ module _ (v : ℕ) (x : Point) (order term : ℕ) where
           ap (lifted T.results) (the_one.works part T.pool)
           ∙ sym (the_one.walks down S ∙ ap (λ (w : Went). bind w (λ s. lift (the_one.next s))) h)
 
-    module _ {a b : ℕ} (e : visits node ≡ two_parts a b) where
+    module _ {a b : ℕ} (e : visits node ≡ a ∷ b ∷ []) where
       the_two : TwoParts node a b
       the_two = subst (Step node) e (step node)
 

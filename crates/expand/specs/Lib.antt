@@ -1,5 +1,2 @@
-pub mod Tables
-pub mod Points
-pub mod Asked
 pub mod Nodes
-pub mod Walks
+pub mod Results

@@ -1,51 +1,37 @@
--- The expansion of a node, of those that are kept for its parts, as the code goes about it. No part of what an expansion means.
+-- The expansion of a node, of those that are kept for its parts. No part of what an expansion means.
 -- Assumes nothing.
-use Rattle.std.specs.Prelude.{◌≡◌, ℕ, zero, suc, ◌≤◌, eqb, List}
+use Rattle.std.specs.Prelude.{Bool, true, false, ℕ, eqb, List, [], ◌∷◌}
 use Rattle.refusals.specs.Refusals.{broken_pool, max_reached}
-use Rattle.pool.specs.declared.parts.CountedParts.{CountedParts}
 use Rattle.pool.specs.declared.node.Node.{Node}
 use Rattle.pool.specs.declared.node.Node.TheVariants.{Empty, Variable, Lit, Add, Mul, Div, Exp, Log, Pow, Max}
-use Rattle.taylor.specs.Work.{Work, yield, refuse}
-use Rattle.taylor.specs.Expansion.{Expansion, add_to, times, quotient, exponential, logarithm, power}
+use Rattle.taylor.specs.Work.{Work, ◌>>=◌, yield, refuse}
+use Rattle.taylor.specs.Expansion.{Expansion, var, add_to, times, quotient, exponential, logarithm, power}
 use Rattle.taylor.specs.declared.expansion.Expansion.TheVariants.{Constant}
-use Rattle.taylor.specs.Expand.{Point}
-use Rattle.expand.specs.Points.{leaf_work}
-use Rattle.expand.specs.Tables.{Marked}
-
-pub data Parts : Type 0 where
-  no_part : Parts
-  one_part : ℕ → Parts
-  two_parts : ℕ → ℕ → Parts
+use Rattle.taylor.specs.Expand.{Point, point_node}
 
 -- the parts that are visited before the node: at a Max the walk ends
-abbrev pub visits : Node → Parts
-visits Empty = no_part
-visits (Variable v) = no_part
-visits (Lit z) = no_part
-visits (Add a b) = two_parts a b
-visits (Mul a b) = two_parts a b
-visits (Div a b) = two_parts a b
-visits (Exp a) = one_part a
-visits (Log a) = one_part a
-visits (Pow a e) = one_part a
-visits (Max a b) = no_part
+abbrev pub visits : Node → List ℕ
+visits Empty = []
+visits (Variable v) = []
+visits (Lit z) = []
+visits (Add a b) = a ∷ b ∷ []
+visits (Mul a b) = a ∷ b ∷ []
+visits (Div a b) = a ∷ b ∷ []
+visits (Exp a) = a ∷ []
+visits (Log a) = a ∷ []
+visits (Pow a e) = a ∷ []
+visits (Max a b) = []
 
--- the code's parts: their count, and the left or only one first
-abbrev pub parts_for : ℕ → ℕ → ℕ → Parts
-parts_for zero a b = no_part
-parts_for (suc zero) a b = one_part a
-parts_for (suc (suc n)) a b = two_parts a b
+-- Some(x) => lit(x), None => var(var); then var(point, order)
+abbrev pub variable_work : ℕ → Point → ℕ → Work Expansion
+variable_work v x order = do
+  p ← point_node v x
+  var p order
 
--- the code tells of these parts
-pub record Told (p : CountedParts) (parts : Parts) : Type 0 where
-  pub is : parts_for p.count p.left p.right ≡ parts
-  pub most : p.count ≤ 2
-
--- expansions are kept for them
-abbrev pub Visited : List ℕ → List (List ℕ) → Parts → Type 0
-Visited marks rows no_part = Unit {0}
-Visited marks rows (one_part a) = Marked marks rows a
-Visited marks rows (two_parts a b) = Marked marks rows a × Marked marks rows b
+-- if v == var { var(point, order) } else { Constant(term) }
+abbrev pub leaf_work : Bool → ℕ → ℕ → Point → ℕ → Work Expansion
+leaf_work true term v x order = variable_work v x order
+leaf_work false term v x order = yield (Constant term)
 
 -- match term, where `part` has the expansions of the parts
 abbrev pub node_work : ℕ → Point → ℕ → (ℕ → Expansion) → ℕ → Node → Work Expansion

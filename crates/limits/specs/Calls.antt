@@ -1,6 +1,6 @@
 -- What a call answers, for the statement on the papers' numbers: a number, or the refusal number.
 -- Assumes nothing.
-use Rattle.std.specs.Prelude.{Bool, true, false, List, [], ℕ, eqb, Float, replicate, take, Ok, Err}
+use Rattle.std.specs.Prelude.{List, [], ℕ, Float, replicate, take, Ok, Err}
 use Rattle.std.specs.Float.{binary64}
 use Rattle.std.specs.Float.Ieee.{to_bits}
 use Rattle.double.specs.Double.{Valued}
@@ -9,10 +9,9 @@ use Rattle.pool.specs.Pool.{Run}
 use Rattle.taylor.specs.Work.{Work}
 use Rattle.taylor.specs.Expansion.{Expansion}
 use Rattle.lent.specs.Call.{on_pool}
-use Rattle.lent.specs.declared.Answer as lent_answer
+use Rattle.lent.specs.Answer as lent_answer
 use Rattle.lent_series.specs.declared.series.Series.{Series}
-use Rattle.lent_series.specs.declared.call.Outcome.{Outcome}
-use Rattle.lent_series.specs.Call.{series_on_pool}
+use Rattle.lent_series.specs.Call.{Outcome, series_on_pool}
 use Rattle.engine_given.specs.Read.{coefficients_of}
 use Rattle.engine_values.specs.Values.{evaluate_call, evaluate_residue_call}
 use Rattle.lent.specs.Answer.{Written}
@@ -34,12 +33,9 @@ unfoldable pub called : Run → Lent → Answer
 called work P = node_given (on_pool work P.kinds P.words P.count).answer
 
 -- ---- calls that give an expansion: `order` of it
-abbrev pub order_unless : Bool → Outcome → Answer
-order_unless true r = gives r.series.order
-order_unless false r = refuses r.number
-
 abbrev pub order_given : Outcome → Answer
-order_given r = order_unless (eqb r.number 0) r
+order_given (Ok s) = gives s.order
+order_given (Err k) = refuses k
 
 unfoldable pub expanded : Work Expansion → Lent → Answer
 expanded work P = order_given (series_on_pool work P.kinds P.words P.count).answer

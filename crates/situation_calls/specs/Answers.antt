@@ -19,9 +19,8 @@ use Rattle.engine_file.specs.Write.{write_call}
 use Rattle.key_strip.specs.Machine.{is_strip}
 use Rattle.engine_strip.specs.Strips.{strip_call, run_strip_call}
 use Rattle.lent_series.specs.declared.series.Series.{Series}
-use Rattle.lent_series.specs.declared.call.Outcome.{Outcome}
 use Rattle.lent_series.specs.Series.{nodes_of, length_ok, given}
-use Rattle.lent_series.specs.Call.{accepted, series_on_pool, given_series, given_two}
+use Rattle.lent_series.specs.Call.{Outcome, accepted, series_on_pool, given_series, given_two}
 use Rattle.engine_index.specs.Indices.{has_index, given_index}
 use Rattle.engine_given.specs.Read.{Counted}
 use Rattle.engine_given.specs.Variable.{var_call}
@@ -46,10 +45,14 @@ abbrev pub of_counted : Counted → Refusal
 of_counted (Ok m) = refusal.none
 of_counted (Err k) = by k
 
+abbrev pub of_outcome : Outcome → Refusal
+of_outcome (Ok s) = refusal.none
+of_outcome (Err k) = by k
+
 -- beside an expansion stands a number, 0 where there is no refusal
-abbrev pub of_number : ℕ → Refusal
-of_number zero = refusal.none
-of_number (suc k) = by (suc k)
+abbrev pub number_of : Outcome → ℕ
+number_of (Ok s) = 0
+number_of (Err k) = k
 
 -- ---- what is said of a call
 
@@ -71,8 +74,8 @@ ByTable c tests r = Situated (checked c) (met c) tests r
 
 -- so does one that gives an expansion, and the number 0 stands beside an expansion, never beside a refusal
 pub record ExpansionByTable (c : Call) (tests : List Bool) (o : Outcome) : Type 0 where
-  pub by_table : ByTable c tests (of_number o.number)
-  pub zero_accepts : o.number ≡ 0 → (e : Expansion) × (o ≡ accepted e)
+  pub by_table : ByTable c tests (of_outcome o)
+  pub zero_accepts : number_of o ≡ 0 → (e : Expansion) × (o ≡ accepted e)
 
 -- the tests of node numbers given
 abbrev pub nodes_tested : List ℕ → List ℕ → ℕ → List ℕ → List Bool

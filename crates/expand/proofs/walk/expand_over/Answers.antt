@@ -1,18 +1,16 @@
 -- `expand::walk::expand_over` meets its contract: it is a whole walk, and what is kept for the root is its answer.
 -- Assumes nothing.
-use mathlib.Core.Path.{refl}
-use Rattle.taylor_base.proofs.Lists.{refusal_answers}
-use Rattle.expand.proofs.Turns.{root_refused, root_marked, root_answers}
+use Rattle.std.proofs.lemmas.Result.{err_from_is_err_and}
+use Rattle.expand.proofs.Walks.{whole_walk, root_kept}
 use Rattle.expand.proofs.walk.expand_over.Goals as goal
 
-pub returns-then-k-ne0 : goal.returns-then-k-ne0
-returns-then-k-ne0 c =
-    refusal_answers _ _ _ c.answer_of.ensures refl (root_refused _ _ _ _ _ _ c.walk_at-k.ensures c.requires.rows_value c.if-k-ne0.true)
+pub kept_for-requires : goal.kept_for-requires
+kept_for-requires c = root_kept _ _ _ _ _ c.args.kept.now c.requires.nothing _ _ c.requires.within c.requires.most c.walk_below.auto.kept c.in_ok-walk_below.ensures
 
-pub load-requires : goal.load-requires
-load-requires c =
-    root_marked _ _ _ _ _ _ c.walk_at-k.ensures c.requires.rows_value c.if-k-ne0.false c.requires.ready.within c.requires.ready.most
+pub returns-in_err-walk_below : goal.returns-in_err-walk_below
+returns-in_err-walk_below c =
+    let p = err_from_is_err_and c.from_residual.result c.from_residual.ensures.1 in
+    rw (p.1, p.2) (whole_walk _ _ _ _ _ c.args.kept.now c.requires.nothing c.in_err-walk_below.ensures)
 
 pub returns : goal.returns
-returns c =
-    root_answers _ _ _ _ _ _ c.walk_at-k.ensures c.requires.rows_value c.if-k-ne0.false c.load.ensures c.tidy_of-e.ensures
+returns c = rw c.kept_for.ensures (whole_walk _ _ _ _ _ c.args.kept.now c.requires.nothing c.in_ok-walk_below.ensures)
