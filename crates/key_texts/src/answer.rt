@@ -37,7 +37,7 @@ fn put_double(out: &mut [u8], x: f64) -> usize
     ensures { Wrote 0 out.old (answer_line x) result out.new }
 {
     let end = put_hex(out, 0, BITS_DIGITS, double::bits(x));
-    if x != x {
+    if x.is_nan() {
         return write(out, end, b" NaN\n");
     }
     write(out, end, b" number\n")

@@ -1,7 +1,7 @@
 -- The pieces are short enough to be put, and all of them in order are the sheet.
 -- Assumes nothing.
 use mathlib.Core.Path.{◌≡◌, refl, sym, ap, ◌∙◌}
-use mathlib.Core.Bool.{Bool, true, false, ◌&&◌, cond}
+use mathlib.Core.Bool.{Bool, true, false, cond}
 use mathlib.Core.Logic.{◌≢◌}
 use mathlib.Core.List.{List, [], ◌∷◌, ◌++◌, append-nil, append_assoc}
 use Prim.Native.Nat.{ℕ, zero, suc, ◌+◌, ◌-◌, min, ◌≤◌, ◌<◌}
@@ -16,14 +16,17 @@ use Rattle.text.specs.Text.{most_digits, decimal, signed_decimal}
 use Rattle.text.proofs.Digits.{decimal_is_short}
 use Rattle.low_bytes.specs.Output.{longest_text, Wrote}
 use Rattle.print.specs.Output.{Printed}
-use Rattle.taylor.specs.Expand.{Point, none, point}
-use Rattle.taylor_base.specs.Answers.{terms}
-use Rattle.expand.specs.Points.{point_of}
-use Rattle.sheet_text.specs.Sheet.{line_end, space, colon, refused_text, point_text, lines_from}
-use Rattle.sheet_page.specs.Pages.{refused_line, first_line, head_by, head_of, piece_of_line, text_at, piece_of, whole_line, lines_up_to, whole_of, short, put_of, Printable, AtFront}
+use Rattle.std.specs.Prelude.{Some, None, Ok, Err}
+use Rattle.taylor.specs.Expand.{Point}
+use Rattle.refusals.specs.Numbers.{number}
+use Rattle.pool.specs.Pool.{node_in}
+use Rattle.walks.specs.Print.{text_of}
+use Rattle.taylor.specs.Coefficients.{at}
 use Rattle.sheet_page.specs.declared.first.Page.{Page}
-use Rattle.sheet_page.specs.declared.first.Verdict.{Verdict}
-use Rattle.sheet_page.specs.declared.first.Verdict.TheVariants.{Usage, Refused, Lines}
+use Rattle.sheet_page.specs.declared.first.Message.{Message}
+use Rattle.sheet_text.specs.Sheet.{line_end, space, colon, refused_text, point_text, lines_from}
+use Rattle.sheet_page.specs.Pages.{refused_line, first_line, Sheet, lines_in, head_of, piece_of_line, text_at, piece_of, whole_line, lines_up_to, whole_of, short, put_of, Printable, AtFront}
+use Rattle.sheet_page.specs.declared.first.Message.TheVariants.{Usage, Refused}
 
 -- ---- what is written is put
 pub wrote_put : {l l' : List ℕ} {to : ℕ} (text : List ℕ) → Wrote 0 l text to l' → length text ≤ longest_text → longest_text ≤ length l → AtFront text l to l'
@@ -71,8 +74,8 @@ signed_short (pos n) = omega (arith, decimal_is_short n)
 signed_short (negsuc n) = omega (arith, decimal_is_short (suc n))
 
 point_short : (x : Point) → length (point_text x) ≤ most_digits + 1
-point_short none = omega arith
-point_short (point z) = signed_short z
+point_short None = omega arith
+point_short (Some z) = signed_short z
 
 pub end_short : length line_end ≤ longest_text
 end_short = omega arith
@@ -101,16 +104,26 @@ first_short v order x =
     let d = joined_length (decimal v ++ space ++ decimal order ++ space) (point_text x) (n + 1 + n + 1) (n + 1) c (point_short x) in
     omega (arith, joined_length (decimal v ++ space ++ decimal order ++ space ++ point_text x) line_end (n + 1 + n + 1 + (n + 1)) 1 d one)
 
-pub head_short : (page : Page) → length (head_of page) ≤ longest_text
-head_short page = go page.verdict
-  where
-    go : (v : Verdict) → length (head_by v page) ≤ longest_text
-    go Usage = omega arith
-    go (Refused k) = refused_short k
-    go Lines = first_short page.var page.order (point_of page.point)
+pub head_short : (page : Sheet) → length (head_of page) ≤ longest_text
+head_short (Ok page) = first_short page.var page.order page.point
+head_short (Err Usage) = omega arith
+head_short (Err (Refused r)) = refused_short (number r)
+
+-- ---- the lines of a page
+pub no_lines : (sheet : Sheet) {m : Message} (line : ℕ) → sheet ≡ Err m → line ≢ 0 → lines_in sheet < line
+no_lines sheet line is some = rw is (omega (arith, some))
+
+pub in_lines : (sheet : Sheet) {page : Page} {n line : ℕ} → sheet ≡ Ok page → n ≡ length page.nodes → line ≤ n → line ≤ lines_in sheet
+in_lines sheet is e h = rw is (omega arith)
+
+pub beyond_lines : (sheet : Sheet) {page : Page} {n line : ℕ} → sheet ≡ Ok page → n ≡ length page.nodes → n < line → lines_in sheet < line
+beyond_lines sheet is e h = rw is (omega arith)
+
+pub text_is : (sheet : Sheet) (ks ws : List ℕ) {page : Page} {node : ℕ} (i : ℕ) → sheet ≡ Ok page → node ≡ at page.nodes i → text_of (node_in ks ws) node ≡ text_at sheet ks ws i
+text_is sheet ks ws i is e = rw (is, e) refl
 
 -- ---- which piece it is
-module _ (page : Page) (ks ws : List ℕ) where
+module _ (page : Sheet) (ks ws : List ℕ) where
   pub first_piece : {line part : ℕ} → line ≡ 0 → part ≡ 0 → head_of page ≡ piece_of page ks ws line part
   unfolding piece_of
   first_piece e d = rw (e, d) refl
@@ -125,17 +138,17 @@ module _ (page : Page) (ks ws : List ℕ) where
     next : suc (line - 1) ≡ line
     next = omega (arith, some)
 
-    pub no_line : (part : ℕ) → page.lines < line → [] ≡ piece_of page ks ws line part
+    pub no_line : (part : ℕ) → lines_in page < line → [] ≡ piece_of page ks ws line part
     unfolding piece_of
-    no_line part h = rw (← next, le-ltb (line - 1) page.lines (omega (arith, h, some))) refl
+    no_line part h = rw (← next, le-ltb (line - 1) (lines_in page) (omega (arith, h, some))) refl
 
-    module _ (there : line ≤ page.lines) where
-      below : line - 1 < page.lines
+    module _ (there : line ≤ lines_in page) where
+      below : line - 1 < lines_in page
       below = omega (arith, there, some)
 
       of_line : (part : ℕ) → piece_of_line (text_at page ks ws (line - 1)) (line - 1) part ≡ piece_of page ks ws line part
       unfolding piece_of
-      of_line part = ap (λ (t : Bool). cond t (piece_of_line (text_at page ks ws (line - 1)) (line - 1) part) []) (sym (lt-ltb (line - 1) page.lines below)) ∙ ap (λ (n : ℕ). piece_of page ks ws n part) next
+      of_line part = ap (λ (t : Bool). cond t (piece_of_line (text_at page ks ws (line - 1)) (line - 1) part) []) (sym (lt-ltb (line - 1) (lines_in page) below)) ∙ ap (λ (n : ℕ). piece_of page ks ws n part) next
 
       pub index_piece : {part : ℕ} → part ≡ 0 → decimal (line - 1) ++ colon ≡ piece_of page ks ws line part
       index_piece e = rw e (of_line 0)
@@ -157,74 +170,71 @@ module _ (page : Page) (ks ws : List ℕ) where
 
 -- ---- all pieces in order
 -- the texts of the coefficients from i on
-unfoldable pub texts_from : Page → List ℕ → List ℕ → ℕ → ℕ → List (List ℕ)
+unfoldable pub texts_from : Sheet → List ℕ → List ℕ → ℕ → ℕ → List (List ℕ)
 texts_from page ks ws i zero = []
 texts_from page ks ws i (suc todo) = text_at page ks ws i ∷ texts_from page ks ws (suc i) todo
 
-module _ (page : Page) (ks ws : List ℕ) where
+module _ (page : Sheet) (ks ws : List ℕ) where
   -- the line of a coefficient
-  line_is : (i : ℕ) → i < page.lines → whole_line page ks ws (suc i) ≡ decimal i ++ colon ++ text_at page ks ws i ++ line_end
+  line_is : (i : ℕ) → i < lines_in page → whole_line page ks ws (suc i) ≡ decimal i ++ colon ++ text_at page ks ws i ++ line_end
   unfolding piece_of
-  line_is i h = rw (lt-ltb i page.lines h) refl
+  line_is i h = rw (lt-ltb i (lines_in page) h) refl
 
   first_is : whole_line page ks ws 0 ≡ head_of page
   unfolding piece_of
   first_is = append-nil (head_of page ++ []) ∙ append-nil (head_of page)
 
   -- the lines of todo coefficients behind those before them
-  lines_are : (todo i : ℕ) → i + todo ≤ page.lines → lines_up_to page ks ws (suc (i + todo)) ≡ lines_up_to page ks ws (suc i) ++ lines_from i (texts_from page ks ws i todo)
+  lines_are : (todo i : ℕ) → i + todo ≤ lines_in page → lines_up_to page ks ws (suc (i + todo)) ≡ lines_up_to page ks ws (suc i) ++ lines_from i (texts_from page ks ws i todo)
   unfolding lines_up_to lines_from texts_from
   lines_are zero i h = ap (λ (n : ℕ). lines_up_to page ks ws (suc n)) (add-zero i) ∙ sym (append-nil (lines_up_to page ks ws (suc i)))
   lines_are (suc todo) i h =
-      let here : i < page.lines = omega arith in
+      let here : i < lines_in page = omega arith in
       let next : suc i + todo ≡ i + suc todo = omega arith in
-      let rest : suc i + todo ≤ page.lines = omega arith in
+      let rest : suc i + todo ≤ lines_in page = omega arith in
       let line = decimal i ++ colon ++ text_at page ks ws i ++ line_end in
       ap (λ (n : ℕ). lines_up_to page ks ws (suc n)) (sym next) ∙ lines_are todo (suc i) rest
       ∙ ap (λ (l : List ℕ). (lines_up_to page ks ws (suc i) ++ l) ++ lines_from (suc i) (texts_from page ks ws (suc i) todo)) (line_is i here)
       ∙ append_assoc (lines_up_to page ks ws (suc i)) line (lines_from (suc i) (texts_from page ks ws (suc i) todo))
 
   -- the whole: the first line, and the lines of all coefficients
-  pub whole_is : whole_of page ks ws ≡ head_of page ++ lines_from 0 (texts_from page ks ws 0 page.lines)
+  pub whole_is : whole_of page ks ws ≡ head_of page ++ lines_from 0 (texts_from page ks ws 0 (lines_in page))
   unfolding lines_up_to
   whole_is =
-      let all : 0 + page.lines ≡ page.lines = omega arith in
-      let most : 0 + page.lines ≤ page.lines = omega arith in
-      ap (λ (n : ℕ). lines_up_to page ks ws (suc n)) (sym all) ∙ lines_are page.lines 0 most ∙ ap (λ (l : List ℕ). l ++ lines_from 0 (texts_from page ks ws 0 page.lines)) first_is
+      let all : 0 + lines_in page ≡ lines_in page = omega arith in
+      let most : 0 + lines_in page ≤ lines_in page = omega arith in
+      ap (λ (n : ℕ). lines_up_to page ks ws (suc n)) (sym all) ∙ lines_are (lines_in page) 0 most ∙ ap (λ (l : List ℕ). l ++ lines_from 0 (texts_from page ks ws 0 (lines_in page))) first_is
 
 -- ---- every piece of a printable page is put whole, where there is room
-module _ (page : Page) (ks ws : List ℕ) (p : Printable page ks ws) where
+module _ (page : Sheet) (ks ws : List ℕ) (p : Printable page ks ws) where
   piece_short : (line part : ℕ) → length (piece_of page ks ws line part) ≤ longest_text
   unfolding piece_of
   piece_short zero zero = head_short page
   piece_short zero (suc part) = omega arith
-  piece_short (suc i) part = go (ltb i page.lines) refl part
+  piece_short (suc i) part = go (ltb i (lines_in page)) refl part
     where
-      go : (t : Bool) → ltb i page.lines ≡ t → (part : ℕ) → length (cond t (piece_of_line (text_at page ks ws i) i part) []) ≤ longest_text
+      go : (t : Bool) → ltb i (lines_in page) ≡ t → (part : ℕ) → length (cond t (piece_of_line (text_at page ks ws i) i part) []) ≤ longest_text
       go true e zero = label_short i
-      go true e (suc zero) = p.short i (ltb-true i page.lines e)
+      go true e (suc zero) = p.short i (ltb-true i (lines_in page) e)
       go true e (suc (suc zero)) = end_short
       go true e (suc (suc (suc part))) = omega arith
       go false e part = omega arith
 
   pub whole_put : (line part room : ℕ) → longest_text ≤ room → put_of page ks ws line part room ≡ piece_of page ks ws line part
   whole_put line part room h =
-      rw (le-leb longest_text room h, le-leb page.lines terms p.few, le-leb (length (piece_of page ks ws line part)) longest_text (piece_short line part)) refl
+      rw (le-leb longest_text room h, le-leb (length (piece_of page ks ws line part)) longest_text (piece_short line part)) refl
 
 -- what is put is nothing, or the piece
-module _ (page : Page) (ks ws : List ℕ) (line part room : ℕ) where
+module _ (page : Sheet) (ks ws : List ℕ) (line part room : ℕ) where
   pub no_room : room < longest_text → [] ≡ put_of page ks ws line part room
   no_room h = rw (lt-leb longest_text room h) refl
 
-  pub too_many : longest_text ≤ room → terms < page.lines → [] ≡ put_of page ks ws line part room
-  too_many h k = rw (le-leb longest_text room h, lt-leb page.lines terms k) refl
-
-  pub may_be_put : longest_text ≤ room → page.lines ≤ terms → short (piece_of page ks ws line part) ≡ put_of page ks ws line part room
-  may_be_put h k = rw (le-leb longest_text room h, le-leb page.lines terms k) refl
+  pub may_be_put : longest_text ≤ room → short (piece_of page ks ws line part) ≡ put_of page ks ws line part room
+  may_be_put h = rw (le-leb longest_text room h) refl
 
   -- what is put has room
   pub put_fits : length (put_of page ks ws line part room) ≤ room
-  put_fits = go (leb longest_text room) (leb page.lines terms) refl
+  put_fits = go (leb longest_text room) refl
     where
       piece : List ℕ
       piece = piece_of page ks ws line part
@@ -233,7 +243,6 @@ module _ (page : Page) (ks ws : List ℕ) (line part room : ℕ) where
       is_short true e = leb-true (length piece) longest_text e
       is_short false e = omega arith
 
-      go : (t u : Bool) → leb longest_text room ≡ t → length (cond (t && u) (short piece) []) ≤ room
-      go true true e = omega (arith, is_short (leb (length piece) longest_text) refl, leb-true longest_text room e)
-      go true false e = omega arith
-      go false u e = omega arith
+      go : (t : Bool) → leb longest_text room ≡ t → length (cond t (short piece) []) ≤ room
+      go true e = omega (arith, is_short (leb (length piece) longest_text) refl, leb-true longest_text room e)
+      go false e = omega arith

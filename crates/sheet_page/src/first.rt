@@ -1,31 +1,36 @@
 // The first line of a sheet.
-ghost use Rattle.std.specs.Prelude.{◌++◌, ◌≤◌};
+ghost use Rattle.std.specs.Prelude.{◌≡◌, ◌++◌, ◌≤◌};
 ghost use Rattle.low_bytes.specs.Output.{Wrote, past_longest};
 ghost use Rattle.text.specs.Text.{decimal};
-ghost use Rattle.expand.specs.Points.{point_of};
 ghost use Rattle.sheet_text.specs.Sheet.{point_text, colon};
 ghost use Rattle.sheet_page.specs.Pages.{refused_line, first_line, head_of};
+ghost use Rattle.sheet_page.specs.declared.first.Message.TheVariants.{Refused};
 
-use expand::Point;
-use taylor_base::TERMS;
+use refusals::Refusal;
+use taylor::Coefficients;
 
-// What a sheet is: `usage`, a refusal, or coefficients.
-#[derive(Clone, Copy)]
-pub enum Verdict {
+// What a sheet without coefficients says: that the line has not the form, or why there are none.
+#[derive(Clone, Copy, Debug, PartialEq, Eq)]
+pub enum Message {
     Usage,
-    Refused(u32),
-    Lines,
+    Refused(Refusal),
 }
 
-// A sheet: what its first line says, and how many coefficients follow, which are nodes of a pool.
+impl From<Refusal> for Message {
+    ghost from_gives = { λ refusal m. m ≡ Refused refusal };
+
+    fn from(refusal: Refusal) -> Message {
+        Message::Refused(refusal)
+    }
+}
+
+// What was asked for, and the coefficients, which are nodes of a pool. A sheet is a page or a message.
 #[derive(Clone, Copy)]
 pub struct Page {
-    pub verdict: Verdict,
     pub var: u32,
     pub order: u32,
-    pub point: Point,
-    pub lines: u32,
-    pub nodes: [u32; TERMS],
+    pub point: Option<i64>,
+    pub nodes: Coefficients,
 }
 
 // `refused`, a space and the number.
@@ -38,19 +43,19 @@ fn refused_line(out: &mut [u8], number: u32) -> usize
 }
 
 // The point, or `none`.
-fn point_text(out: &mut [u8], at: usize, point: Point) -> usize
+fn point_text(out: &mut [u8], at: usize, point: Option<i64>) -> usize
     requires { at ≤ past_longest }
-    ensures { Wrote at out.old (point_text (point_of point)) result out.new }
+    ensures { Wrote at out.old (point_text point) result out.new }
 {
     match point {
-        Point::None => low_bytes::write(out, at, b"none"),
-        Point::At(z) => print::write_literal(out, at, z),
+        None => low_bytes::write(out, at, b"none"),
+        Some(z) => print::write_literal(out, at, z),
     }
 }
 
 // Variable, order, and point or `none`.
-fn first_line(out: &mut [u8], var: u32, order: u32, point: Point) -> usize
-    ensures { Wrote 0 out.old (first_line var order (point_of point)) result out.new }
+fn first_line(out: &mut [u8], var: u32, order: u32, point: Option<i64>) -> usize
+    ensures { Wrote 0 out.old (first_line var order point) result out.new }
 {
     let a = print::write_exponent(out, 0, var);
     let b = low_bytes::write(out, a, b" ");
@@ -61,17 +66,13 @@ fn first_line(out: &mut [u8], var: u32, order: u32, point: Point) -> usize
 }
 
 // The first line, or the only one.
-pub fn head(out: &mut [u8], page: Page) -> usize
-    ensures { Wrote 0 out.old (head_of page) result out.new }
+pub fn head(out: &mut [u8], sheet: &Result<Page, Message>) -> usize
+    ensures { Wrote 0 out.old (head_of sheet.now) result out.new }
 {
-    let verdict = page.verdict;
-    match verdict {
-        Verdict::Usage => low_bytes::write(out, 0, b"usage\n"),
-        Verdict::Refused(number) => refused_line(out, number),
-        Verdict::Lines => {
-            let point = page.point;
-            first_line(out, page.var, page.order, point)
-        }
+    match sheet {
+        Ok(page) => first_line(out, page.var, page.order, page.point),
+        Err(Message::Usage) => low_bytes::write(out, 0, b"usage\n"),
+        Err(Message::Refused(refusal)) => refused_line(out, refusal.number()),
     }
 }
 

@@ -4,5 +4,5 @@
 mod first;
 mod pieces;
 
-pub use first::{Page, Verdict};
+pub use first::{Message, Page};
 pub use pieces::{PIECES, piece};

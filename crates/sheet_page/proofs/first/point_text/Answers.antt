@@ -8,8 +8,8 @@ use Rattle.sheet_page.proofs.first.point_text.Goals as goal
 pub returns-in-None : goal.returns-in-None
 returns-in-None c = rw c.in-None.is c.write.ensures
 
-pub returns-in-At : goal.returns-in-At
-returns-in-At c =
-    rw c.in-At.is
-    (rw (to_z-of_z w64 c.in-At.z (search rules))
+pub returns-in-Some : goal.returns-in-Some
+returns-in-Some c =
+    rw c.in-Some.is
+    (rw (to_z-of_z w64 c.in-Some.z (search rules))
     at c.write_literal.ensures)
