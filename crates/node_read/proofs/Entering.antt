@@ -7,8 +7,7 @@ use mathlib.Core.List.{List}
 use Prim.Native.Nat.{ℕ, ◌+◌, ◌*◌, ◌<◌, ◌≤◌}
 use native.Mathlib.Nat.{not-suc-le-zero}
 use native.Mathlib.Omega.{arith}
-use lib.ListN.{length, get_or, set, length-set, replicate, length-replicate, get_or-replicate, get_or-eq_default}
-use lib.Seq.{get_or-set_same, get_or-set_other}
+use lib.ListN.{length, get_or, replicate, length-replicate, get_or-replicate, get_or-eq_default}
 use borrow.Author.Tests.{lt-ltb, le-ltb}
 use Rattle.low_bytes.specs.LowBytes.{number_at}
 use Rattle.pool.specs.Nodes.{decode, may_stand_at}
@@ -16,7 +15,7 @@ use Rattle.pool.specs.Pool.{limit, Pool, empty, node_in}
 use Rattle.pool.specs.declared.node.Node.{Node}
 use Rattle.pool.specs.declared.node.Node.TheVariants.{Empty}
 use Rattle.shape.specs.File.{entry_in}
-use Rattle.shape.proofs.Lists.{same_or_not, below_or_not}
+use Rattle.shape.proofs.Lists.{below_or_not}
 use Rattle.shape.proofs.Pools.{Rules, node_free, node_falls}
 use Rattle.node_read.specs.Reads.{Entered}
 use Rattle.node_read.proofs.Testing.{all_pass, one_fails}
@@ -40,21 +39,6 @@ pub record Filled (i : ℕ) (f : ℕ → ℕ) (t : List ℕ) : Type 0 where
 
 none_filled : (f : ℕ → ℕ) {t : List ℕ} → Zeros t → Filled 0 f t
 none_filled f z = record { long = z.long; filled = λ j l. absurd (not-suc-le-zero l); free = λ j l. z.zero j }
-
-one_filled : {i : ℕ} {f : ℕ → ℕ} {t : List ℕ} → Filled i f t → i < limit → {x : ℕ} → x ≡ f i → Filled (i + 1) f (set t i x)
-one_filled {i} {f} {t} h l {x} e =
-    record {
-      long = length-set t i x ∙ h.long;
-      filled = λ j m.
-          ⊎_elim
-          (λ same. ap (λ y. get_or (set t i x) y 0) same ∙ get_or-set_same t i x 0 (subst⁻¹ (λ n. i < n) h.long l) ∙ e ∙ ap f (sym same))
-          (λ other. get_or-set_other t i j x 0 other ∙ h.filled j (omega arith))
-          (same_or_not j i);
-      free = λ j m. get_or-set_other t i j x 0 (past j m) ∙ h.free j (omega arith);
-    }
-  where
-    past : (j : ℕ) → i + 1 ≤ j → j ≡ i → ⊥
-    past j m e = omega arith
 
 -- an entry's kind byte and word
 abbrev pub kind_in : ℕ → List ℕ → ℕ → ℕ

@@ -2,9 +2,10 @@
 -- Assumes nothing.
 use mathlib.Core.Path.{◌≡◌, sym, ap, ◌∙◌, fun_ext}
 use mathlib.Core.Logic.{⊎_elim}
-use mathlib.Core.Bool.{◌&&◌}
+use mathlib.Core.Bool.{Bool, ◌&&◌}
+use Rattle.std.specs.Prelude.{IsTrue, ◌↔◌}
 use mathlib.Core.List.{List}
-use Prim.Native.Nat.{ℕ, suc, ◌+◌}
+use Prim.Native.Nat.{ℕ, suc, ◌+◌, ◌<◌}
 use native.Mathlib.Omega.{arith}
 use lib.Dec.{eqb}
 use lib.ListN.{get_or}
@@ -16,6 +17,7 @@ use Rattle.shape.specs.Order.{numbered, num}
 use Rattle.shape.specs.File.{are_in_order}
 use Rattle.shape.specs.Walked.{Walked}
 use Rattle.shape.proofs.Lists.{same_tests, true_or_false}
+use Rattle.shape.proofs.Tests.{each_holds, each_of}
 use Rattle.shape.proofs.Walked.{mark_of_others, walked_number}
 
 next_place : (m i : ℕ) → eqb (suc m) (i + 1) ≡ eqb m i
@@ -42,3 +44,10 @@ pub in_order_by_marks : (p : ℕ → Node) (roots : List ℕ) (n : ℕ) {number 
     → each n (λ i. eqb (get_or number i 0) (i + 1)) ≡ are_in_order p roots n
 unfolding are_in_order
 in_order_by_marks p roots n {number} {order} {d} w = ap (each n) (fun_ext (mark_tells p (numbered p roots) number order d w))
+
+-- marks that are all the place + 1 pass the test
+pub marks_pass : (number : List ℕ) (n : ℕ) {r : Bool} → IsTrue r ↔ ((i : ℕ) → i < n → get_or number i 0 ≡ i + 1) → r ≡ each n (λ i. eqb (get_or number i 0) (i + 1))
+marks_pass number n {r} told =
+    same_tests r (each n (λ i. eqb (get_or number i 0) (i + 1)))
+    (λ h. each_of n (λ i. eqb (get_or number i 0) (i + 1)) (λ i l. eq-eqb (get_or number i 0) (i + 1) (told.0 h i l)))
+    (λ h. told.1 (λ i l. eqb-true (get_or number i 0) (i + 1) (each_holds n (λ j. eqb (get_or number j 0) (j + 1)) h i l)))

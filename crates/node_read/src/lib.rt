@@ -1,9 +1,9 @@
 // nodes.bin read into a pool: its length, its entries and their order are looked at, and then the nodes are appended.
 #![tactic(auto)]
 
-ghost use Rattle.std.specs.Prelude.{◌≡◌, ◌+◌, ◌≤◌, eqb, get_or};
+ghost use Rattle.std.specs.Prelude.{◌≡◌, ℕ, ◌+◌, ◌<◌, ◌≤◌, ◌↔◌, IsTrue, get_or};
 ghost use Rattle.refusals.specs.Numbers.{numbered};
-ghost use Rattle.pool.specs.Pool.{limit, empty, node_at, each};
+ghost use Rattle.pool.specs.Pool.{limit, empty, node_at};
 ghost use Rattle.pool.specs.Made.{made};
 ghost use Rattle.pool.specs.Rows.{row_numbers};
 ghost use Rattle.shape.specs.Shape.{rename};
@@ -58,14 +58,13 @@ fn entries_in(table: &[u64; ROWS], file: &[u8], first: usize, n: usize, entries:
 // Whether each of the first n nodes has its own place as its number; a mark is the number + 1.
 fn in_place(number: &[u32; LIMIT], n: usize) -> bool
     requires { n ≤ limit }
-    ensures { result ≡ each n (λ i. eqb (get_or number.now i 0) (i + 1)) }
+    ensures { IsTrue result ↔ ((i : ℕ) → i < n → get_or number.now i 0 ≡ i + 1) }
 {
-    for i in 0..n {
-        if number[i] != i as u32 + 1 {
-            return false;
-        }
-    }
-    true
+    (0..n).all(
+        |i|
+            requires { i < limit }
+        { number[i] == i as u32 + 1 },
+    )
 }
 
 // Whether the walk over the roots numbers each of the n entries by its place.

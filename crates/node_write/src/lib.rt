@@ -53,7 +53,7 @@ fn entry(kinds: &[u8; LIMIT], words: &[u64; LIMIT], numbering: &Numbering, m: us
     renumbered(&numbering.number, node)
 }
 
-// The kinds of the entries, from the place `first` on.
+// The kinds of the entries, from the place `first` on. One generic function for kinds and words would take a width and a closure, and is no plainer.
 fn put_kinds(
     kinds: &[u8; LIMIT],
     words: &[u64; LIMIT],

@@ -1,4 +1,5 @@
-// The number that follows a code, by its width and low byte first. The halves of a number are read alike, so that a processor reads each number at once.
+// The number that follows a code, by its width and low byte first: a function for each width, where `low_bytes::number_at` goes byte by byte. The halves of a number are
+// read alike, so that a processor reads each number at once.
 ghost use Rattle.std.specs.Prelude.{◌≡◌, ◌+◌, ◌≤◌, length};
 ghost use Rattle.low_bytes.specs.LowBytes.{number_at};
 

