@@ -6,7 +6,7 @@ use Rattle.pool.specs.Pool.{refused}
 use Rattle.taylor.specs.Work.{Work}
 use Rattle.taylor.specs.Expansion.{Expansion}
 use Rattle.taylor.specs.Expand.{Point, is_point, expand}
-use Rattle.taylor_base.specs.Answers.{terms}
+use Rattle.taylor.specs.Coefficients.{terms}
 use Rattle.lent.specs.Call.{demand, given_nodes, given_variable}
 use Rattle.lent_series.specs.Call.{given_order}
 

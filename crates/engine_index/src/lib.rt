@@ -1,56 +1,41 @@
 // A coefficient or a derivative of an expansion, by its index, as calls from outside.
 #![tactic(auto)]
 
-ghost use Rattle.std.specs.Prelude.{◌≡◌, length};
-ghost use Rattle.pool.specs.Made.{made, pool_of};
-ghost use Rattle.pool.specs.Pool.{limit};
+ghost use Rattle.std.specs.Prelude.{◌≡◌, ◌||◌, nat_lt};
+ghost use Rattle.refusals.specs.Numbers.{numbered};
+ghost use Rattle.pool.specs.Made.{made};
+ghost use Rattle.taylor_base.specs.Entries.{HasIndex};
 ghost use Rattle.lent.specs.Call.{returned, on_pool};
-ghost use Rattle.taylor_base.specs.Answers.{expansion_of, Given, HasIndex};
-ghost use Rattle.engine_index.specs.Indices.{indexed_work, has_index, on_index, coeff_call, derivative_call};
+ghost use Rattle.lent_series.specs.Series.{is_constant};
+ghost use Rattle.engine_index.specs.Indices.{indexed_work, on_index, coeff_call, derivative_call};
 
-use lent::Answer;
 use lent_series::{ENDLESS, Series};
-use pool::{LIMIT, Made, Room};
-use taylor_base::Expansion;
+use pool::Pool;
+use refusals::Refusal;
+use taylor::Expansion;
 
+// A reading by name, since theorems speak of it so: a closure in its place would state the same work at each call.
 #[derive(Clone, Copy)]
 pub enum Indexed {
     Coeff,
     Derivative,
 }
 
-fn indexed_in(
-    kinds: &mut [u8; LIMIT],
-    words: &mut [u64; LIMIT],
-    room: Room,
-    op: Indexed,
-    e: Expansion,
-    index: u64,
-) -> Made
-    requires given { Given e }
-    requires has_index { HasIndex e index }
-    requires kinds_len { length kinds.old ≡ limit }
-    requires words_len { length words.old ≡ limit }
-    ensures { made result kinds.new words.new ≡ indexed_work op (expansion_of e) index (pool_of kinds.old words.old room) }
+fn indexed_in(pool: &mut Pool, op: Indexed, e: &Expansion, index: u64) -> Result<u32, Refusal>
+    requires { HasIndex e.now index }
+    ensures { made result pool.new ≡ indexed_work op e.now index pool.old }
 {
     match op {
-        Indexed::Coeff => taylor_base::coeff_in(kinds, words, room, e, index),
-        Indexed::Derivative => taylor_derivative::derivative_in(kinds, words, room, e, index),
+        Indexed::Coeff => taylor_base::coeff_in(pool, e, index),
+        Indexed::Derivative => taylor_derivative::derivative_in(pool, e, index),
     }
 }
 
-// Whether there is a length, and the index is in the list; a constant takes any.
-fn index_fits(s: Series, index: u64) -> bool
-    ensures { result ≡ has_index s index }
+// Whether the index is in the list; a constant takes any.
+fn index_fits(s: &Series, index: u64) -> bool
+    ensures { result ≡ (is_constant s.now || nat_lt index s.now.order) }
 {
-    if !lent_series::has_length(s) {
-        return false;
-    }
-    let n = s.order;
-    if n == ENDLESS {
-        return true;
-    }
-    index < n
+    s.order == ENDLESS || index < s.order
 }
 
 // 1, 2 and 5, then the work.
@@ -61,30 +46,21 @@ fn on_index(
     op: Indexed,
     s: Series,
     index: u64,
-) -> Answer
-    ensures { returned result kinds.new words.new count.new ≡ on_pool (on_index op s index) kinds.old words.old count.old }
+) -> Result<u64, Refusal>
+    ensures { returned (numbered result) kinds.new words.new count.new ≡ on_pool (on_index op s index) kinds.old words.old count.old }
 {
-    let mut k = [0u8; LIMIT];
-    let mut w = [0u64; LIMIT];
-    let n = *count;
-    if !lent::take_in(kinds, words, n, &mut k, &mut w) {
-        return Answer::Refused(refusals::BROKEN_POOL);
-    }
-    if !lent_series::nodes_below(n, s) {
-        return Answer::Refused(refusals::UNKNOWN_NODE);
-    }
-    if !index_fits(s, index) {
-        return Answer::Refused(refusals::WRONG_ORDER);
-    }
-    let room = pool::room_between(n as u32, LIMIT as u32);
-    let e = lent_series::expansion_of(s);
-    let made = indexed_in(&mut k, &mut w, room, op, e, index);
-    lent::finish(kinds, words, count, &k, &w, made)
+    let mut pool = Pool::empty();
+    lent::take_in(kinds, words, *count, &mut pool)?;
+    s.nodes_given(*count)?;
+    let e = s.expansion()?;
+    lent_series::order_given(index_fits(&s, index))?;
+    let node = indexed_in(&mut pool, op, &e, index);
+    lent::finish(kinds, words, count, &pool, node)
 }
 
 // Coefficient `index`.
-pub fn coeff(kinds: &mut [u8], words: &mut [u64], count: &mut u64, e: Series, index: u64) -> Answer
-    ensures { returned result kinds.new words.new count.new ≡ on_pool (coeff_call e index) kinds.old words.old count.old }
+pub fn coeff(kinds: &mut [u8], words: &mut [u64], count: &mut u64, e: Series, index: u64) -> Result<u64, Refusal>
+    ensures { returned (numbered result) kinds.new words.new count.new ≡ on_pool (coeff_call e index) kinds.old words.old count.old }
 {
     on_index(kinds, words, count, Indexed::Coeff, e, index)
 }
@@ -96,8 +72,8 @@ pub fn derivative(
     count: &mut u64,
     e: Series,
     index: u64,
-) -> Answer
-    ensures { returned result kinds.new words.new count.new ≡ on_pool (derivative_call e index) kinds.old words.old count.old }
+) -> Result<u64, Refusal>
+    ensures { returned (numbered result) kinds.new words.new count.new ≡ on_pool (derivative_call e index) kinds.old words.old count.old }
 {
     on_index(kinds, words, count, Indexed::Derivative, e, index)
 }
