@@ -6,9 +6,9 @@ ghost use Rattle.engine_given.specs.Read.{count_of, coefficients_of};
 ghost use Rattle.c_answers.specs.Interface.{returned_in_c, in_c, value_in_c};
 ghost use Rattle.c_answers.specs.Expansions.{series, count_in_c, outcome_returned_in_c, outcome_in_c};
 
-use c_answers::{answered, count_answered, outcome_answered};
+use c_answers::{answered, outcome_answered};
 use lent_series::Series;
-use taylor_base::TERMS;
+use taylor::TERMS;
 
 // Coefficient `index`.
 #[unsafe(no_mangle)]
@@ -23,10 +23,9 @@ pub extern "C" fn bunlayog_taylor_coeff(
 ) -> u32
     ensures { returned_in_c result kinds.new words.new count.new node.new ≡ in_c node.old (on_pool (coeff_call (series order coeffs.now) index) kinds.old words.old count.old) }
 {
-    let given = *coeffs;
     let s = Series {
         order,
-        coeffs: given,
+        coeffs: *coeffs,
     };
     answered(engine_index::coeff(kinds, words, count, s, index), node)
 }
@@ -44,10 +43,9 @@ pub extern "C" fn bunlayog_taylor_derivative(
 ) -> u32
     ensures { returned_in_c result kinds.new words.new count.new node.new ≡ in_c node.old (on_pool (derivative_call (series order coeffs.now) index) kinds.old words.old count.old) }
 {
-    let given = *coeffs;
     let s = Series {
         order,
-        coeffs: given,
+        coeffs: *coeffs,
     };
     answered(
         engine_index::derivative(kinds, words, count, s, index),
@@ -67,12 +65,11 @@ pub extern "C" fn bunlayog_taylor_order(
 ) -> u32
     ensures { value_in_c result order_out.new ≡ count_in_c order_out.old (count_of kinds.now words.now count (series order coeffs.now)) }
 {
-    let given = *coeffs;
     let s = Series {
         order,
-        coeffs: given,
+        coeffs: *coeffs,
     };
-    count_answered(engine_given::order(kinds, words, count, s), order_out)
+    answered(engine_given::order(kinds, words, count, s), order_out)
 }
 
 // The expansion of given coefficients.
@@ -88,10 +85,9 @@ pub extern "C" fn bunlayog_taylor_from_coefficients(
 ) -> u32
     ensures { outcome_returned_in_c result order_out.new coeffs_out.new ≡ outcome_in_c order_out.old coeffs_out.old (coefficients_of kinds.now words.now count (series order coeffs.now)) }
 {
-    let given = *coeffs;
     let s = Series {
         order,
-        coeffs: given,
+        coeffs: *coeffs,
     };
     outcome_answered(
         engine_given::from_coefficients(kinds, words, count, s),

@@ -7,7 +7,7 @@ ghost use Rattle.c_answers.specs.Expansions.{series, series_returned_in_c, serie
 
 use c_answers::outcome_answered;
 use lent_series::Series;
-use taylor_base::TERMS;
+use taylor::TERMS;
 
 // -e
 #[unsafe(no_mangle)]
@@ -22,10 +22,9 @@ pub extern "C" fn bunlayog_taylor_neg(
 ) -> u32
     ensures { series_returned_in_c result kinds.new words.new count.new order_out.new coeffs_out.new ≡ series_in_c order_out.old coeffs_out.old (series_on_pool (neg_call (series order coeffs.now)) kinds.old words.old count.old) }
 {
-    let given = *coeffs;
     let s = Series {
         order,
-        coeffs: given,
+        coeffs: *coeffs,
     };
     outcome_answered(
         engine_series::neg(kinds, words, count, s),
@@ -47,10 +46,9 @@ pub extern "C" fn bunlayog_taylor_exp(
 ) -> u32
     ensures { series_returned_in_c result kinds.new words.new count.new order_out.new coeffs_out.new ≡ series_in_c order_out.old coeffs_out.old (series_on_pool (exp_call (series order coeffs.now)) kinds.old words.old count.old) }
 {
-    let given = *coeffs;
     let s = Series {
         order,
-        coeffs: given,
+        coeffs: *coeffs,
     };
     outcome_answered(
         engine_series::exp(kinds, words, count, s),
@@ -72,10 +70,9 @@ pub extern "C" fn bunlayog_taylor_log(
 ) -> u32
     ensures { series_returned_in_c result kinds.new words.new count.new order_out.new coeffs_out.new ≡ series_in_c order_out.old coeffs_out.old (series_on_pool (log_call (series order coeffs.now)) kinds.old words.old count.old) }
 {
-    let given = *coeffs;
     let s = Series {
         order,
-        coeffs: given,
+        coeffs: *coeffs,
     };
     outcome_answered(
         engine_series::log(kinds, words, count, s),
@@ -98,10 +95,9 @@ pub extern "C" fn bunlayog_taylor_pow(
 ) -> u32
     ensures { series_returned_in_c result kinds.new words.new count.new order_out.new coeffs_out.new ≡ series_in_c order_out.old coeffs_out.old (series_on_pool (pow_call (series order coeffs.now) exp) kinds.old words.old count.old) }
 {
-    let given = *coeffs;
     let s = Series {
         order,
-        coeffs: given,
+        coeffs: *coeffs,
     };
     outcome_answered(
         engine_series::pow(kinds, words, count, s, exp),

@@ -6,7 +6,7 @@ ghost use Rattle.c_answers.specs.Expansions.{series, series_returned_in_c, serie
 
 use c_answers::outcome_answered;
 use lent_series::Series;
-use taylor_base::TERMS;
+use taylor::TERMS;
 
 // lhs + rhs
 #[unsafe(no_mangle)]
@@ -23,15 +23,13 @@ pub extern "C" fn bunlayog_taylor_add(
 ) -> u32
     ensures { series_returned_in_c result kinds.new words.new count.new order_out.new coeffs_out.new ≡ series_in_c order_out.old coeffs_out.old (series_on_pool (add_call (series lhs_order lhs.now) (series rhs_order rhs.now)) kinds.old words.old count.old) }
 {
-    let left = *lhs;
-    let right = *rhs;
     let s = Series {
         order: lhs_order,
-        coeffs: left,
+        coeffs: *lhs,
     };
     let t = Series {
         order: rhs_order,
-        coeffs: right,
+        coeffs: *rhs,
     };
     outcome_answered(
         engine_pairs::add(kinds, words, count, s, t),
@@ -55,15 +53,13 @@ pub extern "C" fn bunlayog_taylor_sub(
 ) -> u32
     ensures { series_returned_in_c result kinds.new words.new count.new order_out.new coeffs_out.new ≡ series_in_c order_out.old coeffs_out.old (series_on_pool (sub_call (series lhs_order lhs.now) (series rhs_order rhs.now)) kinds.old words.old count.old) }
 {
-    let left = *lhs;
-    let right = *rhs;
     let s = Series {
         order: lhs_order,
-        coeffs: left,
+        coeffs: *lhs,
     };
     let t = Series {
         order: rhs_order,
-        coeffs: right,
+        coeffs: *rhs,
     };
     outcome_answered(
         engine_pairs::sub(kinds, words, count, s, t),
@@ -87,15 +83,13 @@ pub extern "C" fn bunlayog_taylor_mul(
 ) -> u32
     ensures { series_returned_in_c result kinds.new words.new count.new order_out.new coeffs_out.new ≡ series_in_c order_out.old coeffs_out.old (series_on_pool (mul_call (series lhs_order lhs.now) (series rhs_order rhs.now)) kinds.old words.old count.old) }
 {
-    let left = *lhs;
-    let right = *rhs;
     let s = Series {
         order: lhs_order,
-        coeffs: left,
+        coeffs: *lhs,
     };
     let t = Series {
         order: rhs_order,
-        coeffs: right,
+        coeffs: *rhs,
     };
     outcome_answered(
         engine_pairs::mul(kinds, words, count, s, t),
@@ -119,15 +113,13 @@ pub extern "C" fn bunlayog_taylor_div(
 ) -> u32
     ensures { series_returned_in_c result kinds.new words.new count.new order_out.new coeffs_out.new ≡ series_in_c order_out.old coeffs_out.old (series_on_pool (div_call (series lhs_order lhs.now) (series rhs_order rhs.now)) kinds.old words.old count.old) }
 {
-    let left = *lhs;
-    let right = *rhs;
     let s = Series {
         order: lhs_order,
-        coeffs: left,
+        coeffs: *lhs,
     };
     let t = Series {
         order: rhs_order,
-        coeffs: right,
+        coeffs: *rhs,
     };
     outcome_answered(
         engine_pairs::div(kinds, words, count, s, t),
@@ -151,15 +143,13 @@ pub extern "C" fn bunlayog_taylor_max(
 ) -> u32
     ensures { series_returned_in_c result kinds.new words.new count.new order_out.new coeffs_out.new ≡ series_in_c order_out.old coeffs_out.old (series_on_pool (max_call (series lhs_order lhs.now) (series rhs_order rhs.now)) kinds.old words.old count.old) }
 {
-    let left = *lhs;
-    let right = *rhs;
     let s = Series {
         order: lhs_order,
-        coeffs: left,
+        coeffs: *lhs,
     };
     let t = Series {
         order: rhs_order,
-        coeffs: right,
+        coeffs: *rhs,
     };
     outcome_answered(
         engine_pairs::max(kinds, words, count, s, t),
@@ -183,15 +173,13 @@ pub extern "C" fn bunlayog_taylor_subst(
 ) -> u32
     ensures { series_returned_in_c result kinds.new words.new count.new order_out.new coeffs_out.new ≡ series_in_c order_out.old coeffs_out.old (series_on_pool (subst_call (series lhs_order lhs.now) (series rhs_order rhs.now)) kinds.old words.old count.old) }
 {
-    let left = *lhs;
-    let right = *rhs;
     let s = Series {
         order: lhs_order,
-        coeffs: left,
+        coeffs: *lhs,
     };
     let t = Series {
         order: rhs_order,
-        coeffs: right,
+        coeffs: *rhs,
     };
     outcome_answered(
         engine_pairs::subst(kinds, words, count, s, t),

@@ -1,12 +1,11 @@
 // The expansion of an expression as a C function.
-ghost use Rattle.std.specs.Prelude.{◌≡◌};
-ghost use Rattle.taylor.specs.Expand.{none, point};
+ghost use Rattle.std.specs.Prelude.{◌≡◌, Some, None};
 ghost use Rattle.lent_series.specs.Call.{series_on_pool};
 ghost use Rattle.engine_expand.specs.Expressions.{expand_work};
 ghost use Rattle.c_answers.specs.Expansions.{series_returned_in_c, series_in_c};
 
 use c_answers::outcome_answered;
-use taylor_base::TERMS;
+use taylor::TERMS;
 
 // At the variable itself.
 #[unsafe(no_mangle)]
@@ -20,7 +19,7 @@ pub extern "C" fn bunlayog_taylor_coeffs(
     order_out: &mut u64,
     coeffs_out: &mut [u64; TERMS],
 ) -> u32
-    ensures { series_returned_in_c result kinds.new words.new count.new order_out.new coeffs_out.new ≡ series_in_c order_out.old coeffs_out.old (series_on_pool (expand_work root var none order) kinds.old words.old count.old) }
+    ensures { series_returned_in_c result kinds.new words.new count.new order_out.new coeffs_out.new ≡ series_in_c order_out.old coeffs_out.old (series_on_pool (expand_work root var None order) kinds.old words.old count.old) }
 {
     outcome_answered(
         engine_expand::coeffs(kinds, words, count, root, var, order),
@@ -42,7 +41,7 @@ pub extern "C" fn bunlayog_taylor_coeffs_at(
     order_out: &mut u64,
     coeffs_out: &mut [u64; TERMS],
 ) -> u32
-    ensures { series_returned_in_c result kinds.new words.new count.new order_out.new coeffs_out.new ≡ series_in_c order_out.old coeffs_out.old (series_on_pool (expand_work root var (point x) order) kinds.old words.old count.old) }
+    ensures { series_returned_in_c result kinds.new words.new count.new order_out.new coeffs_out.new ≡ series_in_c order_out.old coeffs_out.old (series_on_pool (expand_work root var (Some x) order) kinds.old words.old count.old) }
 {
     outcome_answered(
         engine_expand::coeffs_at(kinds, words, count, root, var, x, order),

@@ -5,7 +5,7 @@ ghost use Rattle.lent.specs.Call.{on_pool};
 ghost use Rattle.engine_file.specs.Write.{write_call};
 ghost use Rattle.c_answers.specs.Interface.{returned_in_c, in_c, output_in_c, written_in_c};
 
-use c_answers::{answered, written_answered};
+use c_answers::answered;
 
 #[unsafe(no_mangle)]
 pub extern "C" fn bunlayog_write(
@@ -18,7 +18,7 @@ pub extern "C" fn bunlayog_write(
 ) -> u32
     ensures { output_in_c result out.new written.new ≡ written_in_c written.old (write_call kinds.now words.now count root out.old) }
 {
-    written_answered(engine_file::write(kinds, words, count, root, out), written)
+    answered(engine_file::write(kinds, words, count, root, out), written)
 }
 
 #[unsafe(no_mangle)]

@@ -3,7 +3,7 @@ ghost use Rattle.std.specs.Prelude.{◌≡◌};
 ghost use Rattle.engine_print.specs.Printing.{print_call};
 ghost use Rattle.c_answers.specs.Interface.{output_in_c, written_in_c};
 
-use c_answers::written_answered;
+use c_answers::answered;
 
 #[unsafe(no_mangle)]
 pub extern "C" fn bunlayog_print(
@@ -16,5 +16,5 @@ pub extern "C" fn bunlayog_print(
 ) -> u32
     ensures { output_in_c result out.new written.new ≡ written_in_c written.old (print_call kinds.now words.now count root out.old) }
 {
-    written_answered(engine_print::print(kinds, words, count, root, out), written)
+    answered(engine_print::print(kinds, words, count, root, out), written)
 }

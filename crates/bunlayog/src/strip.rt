@@ -4,7 +4,7 @@ ghost use Rattle.engine_strip.specs.Strips.{strip_call, run_strip_call};
 ghost use Rattle.c_answers.specs.Interface.{value_in_c, output_in_c, written_in_c};
 ghost use Rattle.c_answers.specs.Values.{bits_in_c};
 
-use c_answers::{bits_answered, written_answered};
+use c_answers::{answered, bits_answered};
 
 #[unsafe(no_mangle)]
 pub extern "C" fn bunlayog_strip(
@@ -17,7 +17,7 @@ pub extern "C" fn bunlayog_strip(
 ) -> u32
     ensures { output_in_c result out.new written.new ≡ written_in_c written.old (strip_call kinds.now words.now count root out.old) }
 {
-    written_answered(engine_strip::strip(kinds, words, count, root, out), written)
+    answered(engine_strip::strip(kinds, words, count, root, out), written)
 }
 
 #[unsafe(no_mangle)]

@@ -1,26 +1,21 @@
 // Evaluation as C functions.
 ghost use Rattle.std.specs.Prelude.{◌≡◌};
+ghost use Rattle.refusals.specs.Numbers.{numbered};
 ghost use Rattle.residue.specs.Residue.{fixed_modulus};
 ghost use Rattle.evaluate_residue.specs.Residues.{Below};
 ghost use Rattle.engine_values.specs.Values.{evaluate_call, evaluate_residue_call};
 ghost use Rattle.c_answers.specs.Interface.{value_in_c};
 ghost use Rattle.c_answers.specs.Values.{bits_in_c, residue_in_c};
 
-use c_answers::bits_answered;
-use residue::Divided;
+use c_answers::{answered, bits_answered};
+use refusals::Refusal;
 
 // A residue, or the refusal, in its place. A residue of the modulus fits 32 bits.
-fn residue_answered(answer: Divided, residue: &mut u32) -> u32
-    requires { Below fixed_modulus answer }
-    ensures { value_in_c result residue.new ≡ residue_in_c residue.old answer }
+fn residue_answered(answer: Result<u64, Refusal>, residue: &mut u32) -> u32
+    requires { Below fixed_modulus (numbered answer) }
+    ensures { value_in_c result residue.new ≡ residue_in_c residue.old (numbered answer) }
 {
-    match answer {
-        Divided::Residue(x) => {
-            *residue = x as u32;
-            0
-        }
-        Divided::Refused(number) => number,
-    }
+    answered(answer.map(|x| x as u32), residue)
 }
 
 #[unsafe(no_mangle)]

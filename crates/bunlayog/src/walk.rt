@@ -6,6 +6,7 @@ ghost use Rattle.engine_walk.specs.Walks.{substitute_work, derive_work};
 ghost use Rattle.c_answers.specs.Interface.{returned_in_c, in_c, check_number};
 
 use c_answers::answered;
+use refusals::Refusal;
 
 #[unsafe(no_mangle)]
 pub extern "C" fn bunlayog_check(kinds: &[u8], words: &[u64], count: u64) -> u32
@@ -14,7 +15,7 @@ pub extern "C" fn bunlayog_check(kinds: &[u8], words: &[u64], count: u64) -> u32
     if lent::is_pool(kinds, words, count) {
         return 0;
     }
-    refusals::BROKEN_POOL
+    Refusal::BrokenPool.number()
 }
 
 #[unsafe(no_mangle)]

@@ -1,9 +1,14 @@
 // The operations on two expansions.
-ghost use Rattle.std.specs.Prelude.{◌≡◌, true, ◌&&◌};
+ghost use Rattle.std.specs.Prelude.{◌≡◌, true, ◌&&◌, Ok, Err};
+ghost use Rattle.refusals.specs.Refusals.{unknown_node, wrong_order};
+ghost use Rattle.refusals.specs.Demand.{demand};
+ghost use Rattle.pool.specs.Pool.{limit};
+ghost use Rattle.pool.specs.Nodes.{all_below};
+ghost use Rattle.lent.specs.Lent.{demanded};
 ghost use Rattle.refusals.specs.Numbers.{numbered};
 ghost use Rattle.taylor.specs.Answered.{answered};
 ghost use Rattle.lent.specs.Call.{returned};
-ghost use Rattle.lent_series.specs.Series.{length_ok};
+ghost use Rattle.lent_series.specs.Series.{nodes_of, length_ok, given};
 ghost use Rattle.lent_series.specs.Call.{series_on_pool};
 ghost use Rattle.engine_pairs.specs.Pairs.{binary_work, agree, lengths_ok, on_expansions, add_call, sub_call, mul_call, div_call, max_call, subst_call};
 
@@ -63,7 +68,27 @@ fn lengths_fit(op: Binary, s: &Series, t: &Series) -> bool
     }
 }
 
-// 1, 2 of both and 5, then the work.
+// 2 of both.
+fn nodes_given(count: u64, s: &Series, t: &Series) -> Result<(), Refusal>
+    ensures { numbered result ≡ demanded (all_below count (nodes_of s.now) && all_below count (nodes_of t.now)) unknown_node }
+{
+    s.nodes_given(count)?;
+    t.nodes_given(count)
+}
+
+// The expansions that are given, where they have lengths that the operation takes, or 5.
+fn expansions(op: Binary, s: &Series, t: &Series) -> Result<(Expansion, Expansion), Refusal>
+    requires left { all_below limit (nodes_of s.now) ≡ true }
+    requires right { all_below limit (nodes_of t.now) ≡ true }
+    ensures { numbered result ≡ demand Err (lengths_ok op s.now t.now) wrong_order (Ok (given s.now, given t.now)) }
+{
+    let lhs = s.expansion()?;
+    let rhs = t.expansion()?;
+    lent_series::order_given(lengths_fit(op, s, t))?;
+    Ok((lhs, rhs))
+}
+
+// 1, 2 and 5, then the work.
 fn on_two(
     kinds: &mut [u8],
     words: &mut [u64],
@@ -76,11 +101,8 @@ fn on_two(
 {
     let mut pool = Pool::empty();
     lent::take_in(kinds, words, *count, &mut pool)?;
-    s.nodes_given(*count)?;
-    t.nodes_given(*count)?;
-    let lhs = s.expansion()?;
-    let rhs = t.expansion()?;
-    lent_series::order_given(lengths_fit(op, &s, &t))?;
+    nodes_given(*count, &s, &t)?;
+    let (lhs, rhs) = expansions(op, &s, &t)?;
     let result = binary_in(&mut pool, op, &lhs, &rhs);
     lent_series::finish(kinds, words, count, &pool, result)
 }

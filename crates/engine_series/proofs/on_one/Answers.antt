@@ -6,8 +6,8 @@ use Rattle.lent_series.proofs.Numbers.{nodes_fit}
 use Rattle.engine_series.proofs.Growing.{unary_grows}
 use Rattle.engine_series.proofs.on_one.Goals as goal
 
-pub expansion-e-requires : goal.expansion-e-requires
-expansion-e-requires c =
+pub expansion-requires : goal.expansion-requires
+expansion-requires c =
     let a = c.args in
     nodes_fit a.kinds.now a.words.now a.count.now (nodes_of a.s) c.in_ok-take_in.ensures.tested c.in_ok-nodes_given.ensures
 

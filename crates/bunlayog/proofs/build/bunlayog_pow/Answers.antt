@@ -1,7 +1,0 @@
--- `bunlayog::build::bunlayog_pow` meets its contract: the entry point's outcome in C's terms.
--- Assumes nothing.
-use Rattle.c_answers.proofs.InC.{in_c_lem}
-use Rattle.bunlayog.proofs.build.bunlayog_pow.Goals as goal
-
-pub returns : goal.returns
-returns c = in_c_lem _ c.pow.ensures c.answered.ensures.value c.answered.ensures.node_after

@@ -1,7 +1,0 @@
--- `bunlayog::expansion_one::bunlayog_taylor_var` meets its contract: the entry point's outcome in C's terms.
--- Assumes nothing.
-use Rattle.c_answers.proofs.Expansions.{series_in_c_lem}
-use Rattle.bunlayog.proofs.expansion_one.bunlayog_taylor_var.Goals as goal
-
-pub returns : goal.returns
-returns c = series_in_c_lem _ _ c.var.ensures c.outcome_answered.ensures

@@ -1,7 +1,0 @@
--- `bunlayog::strip::bunlayog_strip` meets its contract: the entry point's outcome in C's terms.
--- Assumes nothing.
-use Rattle.c_answers.proofs.InC.{written_in_c_lem}
-use Rattle.bunlayog.proofs.strip.bunlayog_strip.Goals as goal
-
-pub returns : goal.returns
-returns c = written_in_c_lem _ c.strip.ensures c.written_answered.ensures.value c.written_answered.ensures.written_after
