@@ -1,38 +1,44 @@
--- The lengths of two expansions, whatever the operation.
+-- What is known of two expansions that are given.
 -- Assumes nothing.
-use mathlib.Core.Path.{◌≡◌, refl}
-use mathlib.Core.Bool.{true, false, ◌&&◌}
+use Rattle.std.specs.Prelude.{Result, Ok, Err}
+use mathlib.Core.Path.{◌≡◌, refl, ap}
+use mathlib.Core.Bool.{Bool, true, false, ◌&&◌}
+use mathlib.Core.List.{List}
+use Prim.Native.Nat.{ℕ}
+use Rattle.refusals.specs.Refusals.{broken_pool, unknown_node, wrong_order}
+use Rattle.refusals.specs.Demand.{demand}
+use Rattle.pool.specs.Nodes.{all_below}
+use Rattle.pool.specs.Pool.{limit, is_pool}
+use Rattle.taylor.specs.Expansion.{Expansion}
+use Rattle.lent.specs.Lent.{demanded}
 use Rattle.lent.proofs.Finishing.{and_left, and_right}
+use Rattle.lent.proofs.Calling.{is_met, sizes}
 use Rattle.lent_series.specs.declared.series.Series.{Series}
 use Rattle.lent_series.specs.Series.{length_ok}
+use Rattle.lent_series.proofs.Numbers.{nodes}
 use Rattle.engine_pairs.specs.Pairs.{lengths_ok}
 use Rattle.engine_pairs.specs.declared.binary.Binary.{Binary}
 use Rattle.engine_pairs.specs.declared.binary.Binary.TheVariants as binary
 
-module _ (s t : Series) where
-  pub left_fails : (op : Binary) → length_ok s ≡ false → false ≡ lengths_ok op s t
-  left_fails binary.Add h = rw h refl
-  left_fails binary.Sub h = rw h refl
-  left_fails binary.Mul h = rw h refl
-  left_fails binary.Div h = rw h refl
-  left_fails binary.Max h = rw h refl
-  left_fails binary.Subst h = rw h refl
+-- one that has no length is enough, whatever the operation
+pub one_fails : (op : Binary) (s t : Series) → (length_ok s && length_ok t) ≡ false → lengths_ok op s t ≡ false
+one_fails binary.Add s t h = h
+one_fails binary.Sub s t h = h
+one_fails binary.Mul s t h = h
+one_fails binary.Div s t h = h
+one_fails binary.Max s t h = h
+one_fails binary.Subst s t h = rw h refl
 
-  pub right_fails : (op : Binary) → length_ok s ≡ true → length_ok t ≡ false → false ≡ lengths_ok op s t
-  right_fails binary.Add g h = rw (g, h) refl
-  right_fails binary.Sub g h = rw (g, h) refl
-  right_fails binary.Mul g h = rw (g, h) refl
-  right_fails binary.Div g h = rw (g, h) refl
-  right_fails binary.Max g h = rw (g, h) refl
-  right_fails binary.Subst g h = rw (g, h) refl
+-- numbers that are given are nodes
+pub both_fit : (ks ws : List ℕ) (n : ℕ) (xs ys : List ℕ) → Ok tt ≡ demanded (is_pool ks ws n) broken_pool → Ok tt ≡ demanded (all_below n xs && all_below n ys) unknown_node → (all_below limit xs ≡ true) × (all_below limit ys ≡ true)
+both_fit ks ws n xs ys taken given =
+    let both = is_met (all_below n xs && all_below n ys) unknown_node given in
+    let small = (sizes ks ws n taken).small in
+    (nodes n xs small (and_left (all_below n xs) _ both), nodes n ys small (and_right (all_below n xs) _ both))
 
-  -- both are met
-  pub both_lengths : (op : Binary) → lengths_ok op s t ≡ true → (length_ok s ≡ true) × (length_ok t ≡ true)
-  both_lengths binary.Add h = (and_left (length_ok s) _ h, and_right (length_ok s) _ h)
-  both_lengths binary.Sub h = (and_left (length_ok s) _ h, and_right (length_ok s) _ h)
-  both_lengths binary.Mul h = (and_left (length_ok s) _ h, and_right (length_ok s) _ h)
-  both_lengths binary.Div h = (and_left (length_ok s) _ h, and_right (length_ok s) _ h)
-  both_lengths binary.Max h = (and_left (length_ok s) _ h, and_right (length_ok s) _ h)
-  both_lengths binary.Subst h =
-      let both : (length_ok s && length_ok t) ≡ true = and_left (length_ok s && length_ok t) _ h in
-      (and_left (length_ok s) _ both, and_right (length_ok s) _ both)
+-- the expansions that were accepted are those that are given
+pub accepted_two : (t : Bool) (x y a b : Expansion) → ◌≡◌ {A = Result (Expansion × Expansion) ℕ} (Ok (x, y)) (demand Err t wrong_order (Ok (a, b))) → (t ≡ true) × (x ≡ a) × (y ≡ b)
+accepted_two true x y a b e =
+    let both : ◌≡◌ {A = Expansion × Expansion} (x, y) (a, b) = cc in
+    (refl, ap (λ (p : Expansion × Expansion). p.0) both, ap (λ (p : Expansion × Expansion). p.1) both)
+accepted_two false x y a b e = cc

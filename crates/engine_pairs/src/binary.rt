@@ -77,6 +77,7 @@ fn nodes_given(count: u64, s: &Series, t: &Series) -> Result<(), Refusal>
 }
 
 // The expansions that are given, where they have lengths that the operation takes, or 5.
+#[tactic(auto, using(crate::proofs::Lengths::one_fails))]
 fn expansions(op: Binary, s: &Series, t: &Series) -> Result<(Expansion, Expansion), Refusal>
     requires left { all_below limit (nodes_of s.now) ≡ true }
     requires right { all_below limit (nodes_of t.now) ≡ true }

@@ -1,7 +1,7 @@
 -- `engine_series::on_one` meets its contract: given numbers are nodes, and the operation only appends.
 -- Assumes nothing.
 use Rattle.lent.proofs.Calling.{appended}
-use Rattle.lent_series.specs.Series.{nodes_of, given}
+use Rattle.lent_series.specs.Series.{nodes_of}
 use Rattle.lent_series.proofs.Numbers.{nodes_fit}
 use Rattle.engine_series.proofs.Growing.{unary_grows}
 use Rattle.engine_series.proofs.on_one.Goals as goal
