@@ -1,3 +1,2 @@
 pub mod Modulo
 pub mod Theorems
-pub mod Walk

@@ -1,2 +1,2 @@
 pub mod Residues
-pub mod Keeps
+pub mod Laws

@@ -1,15 +1,16 @@
-// Evaluation by residues: a walk from the root to the parts. Each visited node's residue is kept, so that a shared part is evaluated once.
+// Evaluation by residues: what is done at each node of the walk.
 #![tactic(auto)]
 
 ghost use Rattle.std.specs.Prelude.{◌≡◌, ◌<◌};
 ghost use Rattle.refusals.specs.Numbers.{numbered};
-ghost use Rattle.pool.specs.Pool.{limit, node_in};
+ghost use Rattle.pool.specs.Pool.{node_in};
 ghost use Rattle.walks.specs.EvaluateResidue.{value_of_variable, residue_node, evaluate_residue};
 ghost use Rattle.evaluate_residue.specs.Residues.{Residues};
-ghost use Rattle.evaluate_residue.specs.Keeps.{kept_of, Keeps, Ready, Walked};
+ghost use Rattle.evaluate_residue.specs.Laws.{laws};
 
-use pool::{LIMIT, Node, counted_parts};
+use pool::{LIMIT, Node};
 use refusals::Refusal;
+use value_walk::{Values, kept_at};
 
 // A variable's entry in the table of values.
 fn value_of_variable(values: &[u32], v: u32) -> Result<u64, Refusal>
@@ -22,63 +23,39 @@ fn value_of_variable(values: &[u32], v: u32) -> Result<u64, Refusal>
     Err(Refusal::NoValue)
 }
 
-// The residue of a node whose parts' residues are kept. Exp, Log and Max have none.
-fn joined(
+// The residues of the variables, by a modulus.
+#[derive(Drop)]
+struct Given<'a> {
     residues: residue::Residues,
-    values: &[u32],
-    kept: &[u64; LIMIT],
-    node: Node,
-) -> Result<u64, Refusal>
-    requires { Ready residues.modulus node kept.now }
-    ensures { numbered result ≡ residue_node residues.modulus values.now (kept_of kept.now) node }
-{
-    match node {
-        Node::Empty => Err(Refusal::BrokenPool),
-        Node::Variable(v) => value_of_variable(values, v),
-        Node::Lit(z) => Ok(residues.residue_of(z)),
-        Node::Add(a, b) => Ok(residues.sum(kept[a as usize], kept[b as usize])),
-        Node::Mul(a, b) => Ok(residues.product(kept[a as usize], kept[b as usize])),
-        Node::Div(a, b) => residues.quotient(kept[a as usize], kept[b as usize]),
-        Node::Exp(_) => Err(Refusal::NotEvaluated),
-        Node::Log(_) => Err(Refusal::NotEvaluated),
-        Node::Pow(a, e) => Ok(residues.power(kept[a as usize], e)),
-        Node::Max(_, _) => Err(Refusal::NotEvaluated),
-    }
+    values: &'a [u32],
+    ghost below: { Residues residues.modulus values.now },
 }
 
-// Keeps the residue of node i, if it is not refused. The parts, which have smaller numbers, are done first, the left one before the right one.
-fn residue_at(
-    kinds: &[u8; LIMIT],
-    words: &[u64; LIMIT],
-    residues: residue::Residues,
-    values: &[u32],
-    kept: &mut [u64; LIMIT],
-    seen: &mut [u8; LIMIT],
-    i: u32,
-) -> Result<(), Refusal>
-    requires i_lt_limit { i < limit }
-    requires residues { Residues residues.modulus values.now }
-    requires keeps { Keeps residues.modulus (node_in kinds.now words.now) values.now kept.old seen.old }
-    ensures { Walked residues.modulus (node_in kinds.now words.now) values.now seen.old i (numbered result) kept.new seen.new }
-{
-    let at = i as usize;
-    if seen[at] != 0 {
-        return Ok(());
-    }
-    let node = pool::node_at(kinds, words, i);
-    let parts = counted_parts(node);
-    let mut part = parts.left;
-    for _ in 0..parts.count {
-        if i <= part {
-            return Err(Refusal::BrokenPool);
+impl<'a> Values for Given<'a> {
+    type Value = u64;
+
+    ghost at_node = { λ of. residue_node of.residues.modulus of.values.now };
+
+    ghost fits = { λ of x. x < of.residues.modulus };
+
+    ghost laws = { λ of. laws of.residues.modulus of.values.now of.residues.is_modulus of.below };
+
+    // Exp, Log and Max have no residue.
+    fn joined(&self, kept: &[u64], node: Node) -> Result<u64, Refusal> {
+        let residues = self.residues;
+        match node {
+            Node::Empty => Err(Refusal::BrokenPool),
+            Node::Variable(v) => value_of_variable(self.values, v),
+            Node::Lit(z) => Ok(residues.residue_of(z)),
+            Node::Add(a, b) => Ok(residues.sum(kept_at(kept, a), kept_at(kept, b))),
+            Node::Mul(a, b) => Ok(residues.product(kept_at(kept, a), kept_at(kept, b))),
+            Node::Div(a, b) => residues.quotient(kept_at(kept, a), kept_at(kept, b)),
+            Node::Exp(_) => Err(Refusal::NotEvaluated),
+            Node::Log(_) => Err(Refusal::NotEvaluated),
+            Node::Pow(a, e) => Ok(residues.power(kept_at(kept, a), e)),
+            Node::Max(_, _) => Err(Refusal::NotEvaluated),
         }
-        residue_at(kinds, words, residues, values, kept, seen, part)?;
-        part = parts.right;
     }
-    let x = joined(residues, values, kept, node)?;
-    kept[at] = x;
-    seen[at] = 1;
-    Ok(())
 }
 
 // The residue of the expression at a root.
@@ -92,12 +69,7 @@ pub fn evaluate_residue_from(
     requires { Residues residues.modulus values.now }
     ensures { numbered result ≡ evaluate_residue residues.modulus (node_in kinds.now words.now) values.now root }
 {
-    let at = root as usize;
-    if LIMIT <= at {
-        return Err(Refusal::BrokenPool);
-    }
-    let mut kept = [0u64; LIMIT];
-    let mut seen = [0u8; LIMIT];
-    residue_at(kinds, words, residues, values, &mut kept, &mut seen, root)?;
-    Ok(kept[at])
+    let mut kept = [0; LIMIT];
+    let given = Given { residues, values };
+    value_walk::value_from(&given, kinds, words, &mut kept, root)
 }
