@@ -1,3 +1,2 @@
 pub mod Reached
 pub mod Tables
-pub mod Keeping

@@ -4,4 +4,3 @@ pub mod Derive
 pub mod Evaluate
 pub mod EvaluateResidue
 pub mod Print
-pub mod Kept
