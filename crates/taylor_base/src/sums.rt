@@ -45,6 +45,7 @@ pub fn coeff_in(pool: &mut Pool, e: &Expansion, k: u64) -> Result<u32, Refusal>
             from_in(pool, 0)
         }
         Expansion::Polynomial(list) => {
+            // The length is asked, so that it is known to be at most 25.
             let _ = list.len();
             Ok(list.at(k as u32))
         }

@@ -72,8 +72,8 @@ pub fn derivative_in(pool: &mut Pool, e: &Expansion, k: u64) -> Result<u32, Refu
             from_in(pool, 0)
         }
         Expansion::Polynomial(list) => {
+            // The length is asked, so that it is known to be at most 25, and both tables are read, so that theirs are known: a literal that is made stands there.
             let _ = list.len();
-            // Both tables are read, so that their lengths are known: a literal that is made stands there.
             let _ = pool.kinds[0];
             let _ = pool.words[0];
             derivative_list(pool, list, k as u32)

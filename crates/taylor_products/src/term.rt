@@ -69,7 +69,8 @@ pub fn fold_in(
     start: u32,
 ) -> Result<u32, Refusal>
     requires within { first + todo ≤ k + 1 }
-    requires below { k < terms }
+    requires rising { first + todo ≤ terms }
+    requires falling { k < terms + first }
     ensures { made result pool.new ≡ fold (term_at rule xs.now ys.now k) first todo start pool.old }
 {
     let mut sum = start;
