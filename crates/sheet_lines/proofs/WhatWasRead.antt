@@ -13,12 +13,13 @@ use Rattle.shape.proofs.Lists.{below_or_not}
 use Rattle.taylor.specs.Expand.{Point}
 use Rattle.inputs.specs.Rooms.{Holds}
 use Rattle.inputs.proofs.Enough.{longest_file, room_is_enough}
-use Rattle.sheet_text.specs.Line.{Line, usage, asks, longest_line, parse}
+use Rattle.sheet_text.specs.Line.{Line, longest_line, parse}
+use Rattle.std.specs.Prelude.{Some, None}
 use Rattle.sheet_text.specs.Sheet.{empty, coefficients, sheet_text, answer_to, sheet}
 use Rattle.sheet_lines.specs.Prepared.{LookedAt}
 
 -- ---- the line
-pub long_is_usage : (line : List ℕ) → longest_line < length line → parse line ≡ usage
+pub long_is_usage : (line : List ℕ) → longest_line < length line → parse line ≡ None
 unfolding parse
 long_is_usage line h = rw (lt-leb (length line) longest_line h) refl
 
@@ -40,8 +41,8 @@ same_coefficients f g e v order x = rw e refl
 
 module _ (room : List ℕ) (n : ℕ) (big : longest_file < length room) where
   pub file_decides : (line : Line) (file : List ℕ) → LookedAt line room n file → answer_to (take n room) line ≡ answer_to file line
-  file_decides usage file h = refl
-  file_decides (asks v order x) file h = ap (sheet_text v order x) (same_coefficients (take n room) file (room_is_enough room n big file h empty) v order x)
+  file_decides None file h = refl
+  file_decides (Some a) file h = ap (sheet_text a.var a.order a.point) (same_coefficients (take n room) file (room_is_enough room n big file h empty) a.var a.order a.point)
 
   pub what_was_read_decides : (line_room : List ℕ) (m : ℕ) → longest_line < length line_room → (file line : List ℕ) → Holds line_room m line → LookedAt (parse line) room n file
       → sheet (take n room) (take m line_room) ≡ sheet file line

@@ -1,126 +1,101 @@
 // The sheet of a file, for numbers that were asked for.
-ghost use Rattle.std.specs.Prelude.{◌≡◌, ◌≤◌, ◌<◌, take};
-ghost use Rattle.pool.specs.Pool.{node_in};
-ghost use Rattle.taylor_base.specs.Answers.{terms, Answers};
-ghost use Rattle.expand.specs.Points.{point_of};
+ghost use Rattle.std.specs.Prelude.{◌≡◌, ◌<◌};
+ghost use Rattle.pool.specs.Pool.{empty, node_in};
+ghost use Rattle.taylor.specs.Answered.{answered};
+ghost use Rattle.taylor.specs.Coefficients.{terms};
 ghost use Rattle.sheet_text.specs.Sheet.{sheet_text, coefficients};
-ghost use Rattle.sheet_lines.specs.Prepared.{Blank, all_short, only_page, expand_file, file_coefficients, Prepared};
+ghost use Rattle.sheet_lines.specs.Prepared.{all_short, nodes_of, expand_file, file_coefficients, Prepared};
 
-use expand::{Point, is_point};
-use pool::{LIMIT, Made};
-use sheet_page::{Page, Verdict};
-use taylor_base::{Expanded, Expansion, Status, TERMS};
-
-// A sheet with no coefficients.
-pub fn only(verdict: Verdict) -> Page
-    ensures { result ≡ only_page verdict }
-{
-    Page {
-        verdict,
-        var: 0,
-        order: 0,
-        point: Point::None,
-        lines: 0,
-        nodes: [0u32; TERMS],
-    }
-}
+use expand::is_point;
+use pool::{LIMIT, Pool};
+use refusals::Refusal;
+use sheet_page::{Message, Page};
+use sheet_text::Asked;
+use taylor::{Coefficients, Expansion, TERMS};
 
 // Whether no coefficient's text is too long.
-fn all_short(kinds: &[u8; LIMIT], words: &[u64; LIMIT], e: Expansion) -> bool
-    requires { e.len ≤ terms }
-    ensures { result ≡ all_short (node_in kinds.now words.now) (take e.len e.coeffs) }
+fn all_short(kinds: &[u8; LIMIT], words: &[u64; LIMIT], nodes: &Coefficients) -> bool
+    ensures { result ≡ all_short (node_in kinds.now words.now) nodes.now }
 {
-    let n = e.len;
-    let end = n as usize;
-    let mut i = 0;
-    while i < end {
-        let node = e.coeffs[i];
-        let length = print::text_length(kinds, words, node);
+    for i in 0..nodes.len() {
+        let length = print::text_length(kinds, words, nodes.at(i));
         if (length as usize) > low_bytes::TEXT_MAX {
             return false;
         }
-        i += 1;
     }
     true
+}
+
+// A constant has coefficient 0 only.
+fn nodes_of(expansion: Expansion) -> Coefficients
+    ensures { result ≡ nodes_of expansion }
+{
+    match expansion {
+        Expansion::Constant(node) => Coefficients::one(node),
+        Expansion::Polynomial(nodes) => nodes,
+    }
 }
 
 // The expansion of a file's root.
 fn expand_file(
     file: &[u8],
-    kinds: &mut [u8; LIMIT],
-    words: &mut [u64; LIMIT],
+    pool: &mut Pool,
     var: u32,
-    point: Point,
+    point: Option<i64>,
     order: u32,
-) -> Expanded
+) -> Result<Expansion, Refusal>
     requires order_lt_terms { order < terms }
-    requires blank { Blank kinds.old words.old }
-    ensures { Answers result kinds.new words.new (expand_file file.now var (point_of point) order) }
+    requires blank { pool.old ≡ empty }
+    ensures { answered result pool.new ≡ expand_file file.now var point order }
 {
-    let room = pool::room_between(0, LIMIT as u32);
-    let made = node_read::read_file(file, kinds, words, room);
-    let Made::Node { node, room: rest } = made else {
-        return taylor_base::answer_of(made);
-    };
-    expand::expand_in(kinds, words, rest, node, var, point, order)
+    let root = node_read::read_file(file, pool)?;
+    expand::expand_in(pool, root, var, point, order)
 }
 
 // The sheet of numbers that are in their ranges.
 fn lines_of(
     file: &[u8],
-    kinds: &mut [u8; LIMIT],
-    words: &mut [u64; LIMIT],
+    pool: &mut Pool,
     var: u32,
-    point: Point,
+    point: Option<i64>,
     order: u32,
-) -> Page
+) -> Result<Page, Message>
     requires order_lt_terms { order < terms }
-    requires blank { Blank kinds.old words.old }
-    ensures { Prepared result kinds.new words.new (sheet_text var order (point_of point) (file_coefficients file.now var order (point_of point))) }
+    requires blank { pool.old ≡ empty }
+    ensures { Prepared result pool.new.kinds pool.new.words (sheet_text var order point (file_coefficients file.now var order point)) }
 {
-    let result = expand_file(file, kinds, words, var, point, order);
-    let status = result.status;
-    match status {
-        Status::Done(_) => {
-            let e = result.expansion;
-            if !all_short(kinds, words, e) {
-                return only(Verdict::Refused(refusals::NO_ROOM));
-            }
-            let lines = e.len;
-            let nodes = e.coeffs;
-            Page {
-                verdict: Verdict::Lines,
-                var,
-                order,
-                point,
-                lines,
-                nodes,
-            }
-        }
-        Status::Refused(number) => only(Verdict::Refused(number)),
+    let expansion = expand_file(file, pool, var, point, order)?;
+    let nodes = nodes_of(expansion);
+    if !all_short(&pool.kinds, &pool.words, &nodes) {
+        return Err(Message::Refused(Refusal::NoRoom));
     }
+    Ok(Page {
+        var,
+        order,
+        point,
+        nodes,
+    })
 }
 
 // 3, 4 and 5, then the file.
-pub fn asked(
-    file: &[u8],
-    kinds: &mut [u8; LIMIT],
-    words: &mut [u64; LIMIT],
-    var: u64,
-    point: Point,
-    order: u64,
-) -> Page
-    requires { Blank kinds.old words.old }
-    ensures { Prepared result kinds.new words.new (sheet_text var order (point_of point) (coefficients file.now var order (point_of point))) }
+pub fn answer_to(file: &[u8], pool: &mut Pool, asked: Asked) -> Result<Page, Message>
+    requires { pool.old ≡ empty }
+    ensures { Prepared result pool.new.kinds pool.new.words (sheet_text asked.var asked.order asked.point (coefficients file.now asked.var asked.order asked.point)) }
 {
-    if var > pool::VARIABLE_MAX {
-        return only(Verdict::Refused(refusals::UNKNOWN_VARIABLE));
+    if asked.var > pool::VARIABLE_MAX {
+        return Err(Message::Refused(Refusal::UnknownVariable));
     }
-    if !is_point(point) {
-        return only(Verdict::Refused(refusals::NOT_LITERAL));
+    if !is_point(asked.point) {
+        return Err(Message::Refused(Refusal::NotLiteral));
     }
-    if order >= TERMS as u64 {
-        return only(Verdict::Refused(refusals::WRONG_ORDER));
+    if asked.order >= TERMS as u64 {
+        return Err(Message::Refused(Refusal::WrongOrder));
     }
-    lines_of(file, kinds, words, var as u32, point, order as u32)
+    lines_of(
+        file,
+        pool,
+        asked.var as u32,
+        asked.point,
+        asked.order as u32,
+    )
 }

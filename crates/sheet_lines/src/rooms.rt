@@ -6,8 +6,8 @@ ghost use Rattle.sheet_lines.specs.Prepared.{Prepared, PreparedFrom};
 
 use crate::prepare::prepared;
 use inputs::FILE_ROOM;
-use pool::LIMIT;
-use sheet_page::Page;
+use pool::Pool;
+use sheet_page::{Message, Page};
 
 // One byte more than the longest line has.
 pub const LINE_ROOM: usize = sheet_line::LINE_MAX + 1;
@@ -18,13 +18,12 @@ fn prepared_of(
     n: usize,
     line: &[u8],
     m: usize,
-    kinds: &mut [u8; LIMIT],
-    words: &mut [u64; LIMIT],
-) -> Page
+    pool: &mut Pool,
+) -> Result<Page, Message>
     requires { IsPrefixLen n file.now × IsPrefixLen m line.now }
-    ensures { Prepared result kinds.new words.new (sheet (take n file.now) (take m line.now)) }
+    ensures { Prepared result pool.new.kinds pool.new.words (sheet (take n file.now) (take m line.now)) }
 {
-    prepared(&file[..n], &line[..m], kinds, words)
+    prepared(&file[..n], &line[..m], pool)
 }
 
 // The sheet of the file and the line that were read, n bytes of the one and m of the other.
@@ -33,11 +32,10 @@ pub fn prepared_from(
     n: usize,
     line: &[u8; LINE_ROOM],
     m: usize,
-    kinds: &mut [u8; LIMIT],
-    words: &mut [u64; LIMIT],
-) -> Page
+    pool: &mut Pool,
+) -> Result<Page, Message>
     requires { IsPrefixLen n file.now × IsPrefixLen m line.now }
-    ensures { PreparedFrom file.now n line.now m result kinds.new words.new }
+    ensures { PreparedFrom file.now n line.now m result pool.new.kinds pool.new.words }
 {
-    prepared_of(file, n, line, m, kinds, words)
+    prepared_of(file, n, line, m, pool)
 }

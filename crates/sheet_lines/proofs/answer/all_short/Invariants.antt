@@ -1,14 +1,10 @@
 -- `sheet_lines::answer::all_short` meets its contract: one text that is too long is enough.
 -- Assumes nothing.
-use Prim.Native.Nat.{ℕ, ◌-◌, ◌≤◌, ◌<◌}
-use lib.ListN.{length, get_or}
+use Rattle.std.proofs.Common.{ℕ, ◌≤◌, ◌<◌, length, get_or}
 use Rattle.low_bytes.specs.Output.{longest_text}
 use Rattle.pool.specs.Pool.{node_in}
 use Rattle.walks.specs.Print.{text_of}
 use Rattle.sheet_lines.proofs.answer.all_short.Given as goal
 
 abbrev pub invariant-loop-i : goal.invariant-loop-i
-invariant-loop-i l = (j : ℕ) → j < l.i → length (text_of (node_in l.kinds l.words) (get_or l.e.coeffs j 0)) ≤ longest_text
-
-abbrev pub decreases-loop-i : goal.decreases-loop-i
-decreases-loop-i l = l.n - l.i
+invariant-loop-i l = (j : ℕ) → j < l.i → length (text_of (node_in l.kinds l.words) (get_or l.nodes j 0)) ≤ longest_text

@@ -1,28 +1,32 @@
 -- `sheet_lines::answer::lines_of` meets its contract: a refusal, a text that is too long, or the lines.
 -- Assumes nothing.
-use mathlib.Core.Path.{sym, ◌∙◌}
-use Rattle.refusals.specs.Refusals.{no_room}
-use Rattle.pool.specs.Made.{pool_of}
-use Rattle.expand.specs.Points.{point_of}
-use Rattle.taylor_base.specs.Answers.{list_of}
-use Rattle.sheet_lines.proofs.Pages.{coefficients_found, refusal_found, one_not_printed, all_printed, lines_prepared, refusal_prepared}
+use Rattle.std.proofs.Common.{◌≡◌, sym, ◌∙◌, true, false}
+use Rattle.refusals.specs.declared.Refusal.TheVariants.{NoRoom}
+use Rattle.pool.specs.Pool.{node_at}
+use Rattle.sheet_lines.specs.Prepared.{all_short}
+use Rattle.sheet_lines.proofs.Pages.{refused_as, coefficients_found, refusal_found, one_not_printed, all_printed, lines_prepared, refusal_prepared}
 use Rattle.sheet_lines.proofs.answer.lines_of.Goals as goal
+
+pub returns-in_err-expansion : goal.returns-in_err-expansion
+returns-in_err-expansion c =
+    let a = c.args in
+    rw (refused_as c.from_residual.result c.from_residual.ensures.1)
+    (refusal_prepared _ a.var a.order a.point _ _ (refusal_found a.file.now a.var a.point a.order c.expand_file.new.pool c.expand_file.ensures c.in_err-expansion.was))
 
 pub returns-then-not-all_short : goal.returns-then-not-all_short
 returns-then-not-all_short c =
-    refusal_prepared no_room c.args.var c.args.order (point_of c.args.point) c.expand_file-result.new.kinds c.expand_file-result.new.words c.only.ensures
-    (coefficients_found c.args.file.now c.args.var (point_of c.args.point) c.args.order c.expand_file-result.ensures c.in-Done.is
-    ∙ one_not_printed (pool_of c.expand_file-result.new.kinds c.expand_file-result.new.words c.in-Done.field-0) (list_of c.expand_file-result.result.expansion)
-    (sym c.all_short.ensures ∙ c.if-not-all_short.true))
+    let a = c.args in
+    let P = c.expand_file.new.pool in
+    let cs = c.nodes_of-nodes.result in
+    let long : all_short (node_at P) cs ≡ false = sym c.all_short.ensures ∙ c.if-not-all_short.true in
+    refusal_prepared NoRoom a.var a.order a.point P.kinds P.words
+    (coefficients_found a.file.now a.var a.point a.order P c.expand_file.ensures c.in_ok-expansion.was ∙ one_not_printed P _ (rw c.nodes_of-nodes.ensures at long))
 
-pub returns-else-not-all_short : goal.returns-else-not-all_short
-returns-else-not-all_short c =
-    let short = sym c.all_short.ensures ∙ c.if-not-all_short.false in
-    lines_prepared c.args.var c.args.order c.args.point c.expand_file-result.result.expansion c.expand_file-result.new.kinds c.expand_file-result.new.words c.expand_file-result.ensures.tidy short
-    (coefficients_found c.args.file.now c.args.var (point_of c.args.point) c.args.order c.expand_file-result.ensures c.in-Done.is ∙ all_printed
-    (pool_of c.expand_file-result.new.kinds c.expand_file-result.new.words c.in-Done.field-0) (list_of c.expand_file-result.result.expansion) short)
-
-pub returns-in-Refused : goal.returns-in-Refused
-returns-in-Refused c =
-    refusal_prepared c.in-Refused.number c.args.var c.args.order (point_of c.args.point) c.expand_file-result.new.kinds c.expand_file-result.new.words
-    c.only-in-Refused.ensures (refusal_found c.args.file.now c.args.var (point_of c.args.point) c.args.order c.expand_file-result.ensures c.in-Refused.is)
+pub returns : goal.returns
+returns c =
+    let a = c.args in
+    let P = c.expand_file.new.pool in
+    let cs = c.nodes_of-nodes.result in
+    let short : all_short (node_at P) cs ≡ true = sym c.all_short.ensures ∙ c.if-not-all_short.false in
+    lines_prepared a.var a.order a.point cs P.kinds P.words short
+    (rw c.nodes_of-nodes.ensures (coefficients_found a.file.now a.var a.point a.order P c.expand_file.ensures c.in_ok-expansion.was ∙ all_printed P _ (rw c.nodes_of-nodes.ensures at short)))
