@@ -12,6 +12,7 @@ ghost use Rattle.constructor_laws.specs.Grown.{Grown};
 ghost use Rattle.lent.specs.Lent.{demanded};
 ghost use Rattle.lent.specs.Call.{returned, leaves, lent_pool, lent_pool_to, Appended};
 
+mod copies;
 mod rules;
 
 use pool::{LIMIT, Pool};
@@ -37,7 +38,7 @@ pub fn take_in(kinds: &[u8], words: &[u64], count: u64, pool: &mut Pool) -> Resu
 }
 
 // As `take_in`, over two tables of any entries: all are copied. Where a call only reads the tables, the compiler leaves this copy out and reads the lent
-// ones, which it does not for a pool: so these are no pool.
+// ones, which it does not for a pool, nor for `copy_from_slice`: so these are no pool, and are copied entry by entry.
 #[tactic(auto, using(crate::proofs::Finishing::pool_sized))]
 pub fn take_whole(
     kinds: &[u8],
@@ -53,8 +54,8 @@ pub fn take_whole(
     if !is_pool(kinds, words, count) {
         return Err(Refusal::BrokenPool);
     }
-    k.copy_from_slice(kinds);
-    w.copy_from_slice(words);
+    copies::copy(kinds, k);
+    copies::copy(words, w);
     Ok(())
 }
 
