@@ -59,7 +59,13 @@ fn on_index(
 }
 
 // Coefficient `index`.
-pub fn coeff(kinds: &mut [u8], words: &mut [u64], count: &mut u64, e: Series, index: u64) -> Result<u64, Refusal>
+pub fn coeff(
+    kinds: &mut [u8],
+    words: &mut [u64],
+    count: &mut u64,
+    e: Series,
+    index: u64,
+) -> Result<u64, Refusal>
     ensures { returned (numbered result) kinds.new words.new count.new ≡ on_pool (coeff_call e index) kinds.old words.old count.old }
 {
     on_index(kinds, words, count, Indexed::Coeff, e, index)

@@ -10,9 +10,9 @@ unfolding append
 returns-then-self-count c =
     let P = c.args.self.now in
     elim c.then-self-count.branch [
-      then-self-count-via-then-self-count w ↦ rw (le-ltb P.count P.end w.if-self-count.true)
-    | then-self-count-via-else-self-count+then-at-ge-LIMIT w ↦
-        rw (lt-ltb P.count P.end w.if-self-count.false, le-ltb P.count limit w.if-at-ge-LIMIT.true)
+      | then-self-count-via-then-self-count w ↦ rw (le-ltb P.count P.end w.if-self-count.true)
+      | then-self-count-via-else-self-count+then-at-ge-LIMIT w ↦
+          rw (lt-ltb P.count P.end w.if-self-count.false, le-ltb P.count limit w.if-at-ge-LIMIT.true)
     ]
 
 pub returns : goal.returns
