@@ -14,10 +14,7 @@ pub const LITERAL_MAX: u64 = 9_007_199_254_740_991;
 pub fn size(z: i64) -> u64
     ensures { result ≡ nat_abs z }
 {
-    if z < 0 {
-        return ((-1 - z) as u64) + 1;
-    }
-    z as u64
+    z.unsigned_abs()
 }
 
 pub fn is_literal(z: i64) -> bool
@@ -29,16 +26,13 @@ pub fn is_literal(z: i64) -> bool
 pub fn is_zero(z: i64) -> bool
     ensures { result ≡ is_zero z }
 {
-    size(z) == 0
+    z == 0
 }
 
 pub fn is_one(z: i64) -> bool
     ensures { result ≡ is_one z }
 {
-    if z < 0 {
-        return false;
-    }
-    size(z) == 1
+    z == 1
 }
 
 // The number itself, where it is a literal.
@@ -129,18 +123,12 @@ pub fn log_literal(z: i64) -> Result<i64, Refusal>
 pub fn from_word(w: u64) -> i64
     ensures { result ≡ signed w }
 {
-    if w < 0x8000_0000_0000_0000 {
-        return w as i64;
-    }
-    -1 - ((0xffff_ffff_ffff_ffff - w) as i64)
+    w.cast_signed()
 }
 
 // The word of a number in two's complement.
 pub fn to_word(z: i64) -> u64
     ensures { result ≡ word z }
 {
-    if z < 0 {
-        return 0xffff_ffff_ffff_ffff - ((-1 - z) as u64);
-    }
-    z as u64
+    z.cast_unsigned()
 }
