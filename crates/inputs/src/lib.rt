@@ -105,23 +105,20 @@ fn read_named(rt: &(impl Files + Eprint), name: &[u8], room: &mut [u8]) -> Resul
     }
 }
 
-// That there is not exactly one argument.
-fn say_usage(rt: &impl Eprint) -> Failed {
-    let _ = eprintln!(rt; "one argument is needed, the name of a strip's file");
-    Failed
-}
+// What is said where there is not exactly one argument.
+const USAGE: &str = "one argument is needed, the name of a strip's file";
 
 // The file that the program's only argument names.
 fn read_argument(rt: &(impl Env + Files + Eprint), room: &mut [u8]) -> Result<usize, Failed>
     ensures { IfOk result (λ n. IsPrefixLen n room.new) }
 {
     let Err(FillError::NotPresent) = rt.arg(2, &mut []) else {
-        return Err(say_usage(rt));
+        return Err(outputs::say_usage(rt, USAGE));
     };
     let mut name = [0u8; NAME_ROOM];
     match rt.arg(1, &mut name) {
         Ok(n) => read_named(rt, &name[..n], room),
-        Err(FillError::NotPresent) => Err(say_usage(rt)),
+        Err(FillError::NotPresent) => Err(outputs::say_usage(rt, USAGE)),
         Err(FillError::TooLong) => {
             let failed = outputs::say(rt, b"the name of the strip's file", "File name too long");
             Err(failed)

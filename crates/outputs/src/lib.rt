@@ -38,6 +38,12 @@ pub fn say_failed(rt: &impl Eprint, what: &[u8], error: io::Error) -> Failed {
     }
 }
 
+// How a program is to be called.
+pub fn say_usage(rt: &impl Eprint, usage: &str) -> Failed {
+    let _ = eprintln!(rt; "{usage}");
+    Failed
+}
+
 // That there is no file of that name.
 pub fn say_missing(rt: &impl Eprint, name: &[u8]) -> Failed {
     say(rt, name, "No such file or directory")
