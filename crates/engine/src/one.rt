@@ -9,7 +9,8 @@ use constructor_calls::{One, one_in};
 use pool::Pool;
 use refusals::Refusal;
 
-// 1 and 2, then the work.
+// 1 and 2, then the work. This and `on_two` are not one function that is passed the work: each of the eight calls would have to say what its closure makes, and
+// that it only appends, which the enum of operations says once.
 fn on_one(
     kinds: &mut [u8],
     words: &mut [u64],

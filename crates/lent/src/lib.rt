@@ -38,7 +38,7 @@ pub fn take_in(kinds: &[u8], words: &[u64], count: u64, pool: &mut Pool) -> Resu
 }
 
 // As `take_in`, over two tables of any entries: all are copied. Where a call only reads the tables, the compiler leaves this copy out and reads the lent
-// ones, which it does not for a pool, nor for `copy_from_slice`: so these are no pool, and are copied entry by entry.
+// ones; with `copy_from_slice` it does not, and an evaluation takes 2 µs more.
 #[tactic(auto, using(crate::proofs::Finishing::pool_sized))]
 pub fn take_whole(
     kinds: &[u8],

@@ -23,6 +23,7 @@ fn nodes_keep(table: &[u64; ROWS], kinds: &[u8], words: &[u64], count: usize) ->
 }
 
 // The kinds from the count on are 0: their bits are gathered from all of them, with no early way out, so that many can be looked at in one step.
+// `word_bits` is no instance of the same generic function, since kinds are not gathered in blocks.
 fn kinds_rest(kinds: &[u8], from: usize) -> bool
     requires from_le_limit { from ≤ limit }
     requires kinds_len { length kinds.now ≡ limit }
