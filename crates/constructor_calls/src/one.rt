@@ -7,6 +7,7 @@ use constructors::DEPTH;
 use pool::Pool;
 use refusals::Refusal;
 
+// A constructor by name, as `Two`.
 #[derive(Clone, Copy)]
 pub enum One {
     Neg,

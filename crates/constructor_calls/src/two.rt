@@ -7,6 +7,7 @@ use constructors::DEPTH;
 use pool::Pool;
 use refusals::Refusal;
 
+// A constructor by name, since the definitions and the entry points speak of it so: a closure in its place would state the same work at each call.
 #[derive(Clone, Copy)]
 pub enum Two {
     Add,

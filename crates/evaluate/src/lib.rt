@@ -23,7 +23,7 @@ pub fn value_of_variable(values: &[f64], v: u32) -> Result<f64, Refusal>
     Err(Refusal::NoValue)
 }
 
-// What is done with the values of two parts.
+// What is done with the values of two parts, by name, since a key strip has it as a code: evaluation and the machine of key strips share one contract.
 #[derive(Clone, Copy)]
 pub enum Binary {
     Add,

@@ -9,7 +9,7 @@ ghost use Rattle.reached.specs.Kept.{test_of, kept_below, FoundBelow};
 
 use pool::{LIMIT, Node, Parts};
 
-// What is looked for.
+// What is looked for: a test by name, since a closure would need its own contract, that it is the test of the definition, at each call.
 #[derive(Clone, Copy)]
 pub enum Test {
     Max,
