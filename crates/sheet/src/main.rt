@@ -3,97 +3,88 @@
 // An input that cannot be read is named on standard error, and then nothing is printed.
 #![tactic(auto)]
 
-ghost use Rattle.inputs.specs.Rooms.{Within};
+ghost use Rattle.std.specs.Prelude.{IfOk};
+ghost use Rattle.io.specs.Counts.{IsPrefixLen};
 
-use inputs::{FILE_ROOM, Input};
-use pool::LIMIT;
-use sheet_line::Line;
+use inputs::FILE_ROOM;
+use outputs::Failed;
+use pool::Pool;
 use sheet_lines::LINE_ROOM;
-use sheet_page::{PIECES, Page};
+use sheet_page::{Message, PIECES, Page};
 use std::fs::Files;
 use std::io::{Eprint, Print};
 
 // nodes.bin, a missing one counting as 0 bytes.
-fn read_nodes(rt: &(impl Files + Eprint), file: &mut [u8; FILE_ROOM]) -> Input
-    ensures { Within result file.new }
+fn read_nodes(rt: &(impl Files + Eprint), file: &mut [u8; FILE_ROOM]) -> Result<usize, Failed>
+    ensures { IfOk result (λ n. IsPrefixLen n file.new) }
 {
-    let input = inputs::read_nodes(rt, file);
-    match input {
-        Input::Missing => Input::Bytes(0),
-        Input::Bytes(n) => Input::Bytes(n),
-        Input::Failed => Input::Failed,
+    match inputs::read_nodes(rt, file)? {
+        Some(n) => Ok(n),
+        None => Ok(0),
     }
 }
 
 // The file, unless the line asks for no sheet: then the file is not looked at.
-fn nodes_for(rt: &(impl Files + Eprint), line: &[u8], file: &mut [u8; FILE_ROOM]) -> Input
-    ensures { Within result file.new }
+fn nodes_for(
+    rt: &(impl Files + Eprint),
+    line: &[u8],
+    file: &mut [u8; FILE_ROOM],
+) -> Result<usize, Failed>
+    ensures { IfOk result (λ n. IsPrefixLen n file.new) }
 {
     match sheet_line::parse(line) {
-        Line::Usage => Input::Bytes(0),
-        Line::Asks { .. } => read_nodes(rt, file),
+        Some(_) => read_nodes(rt, file),
+        None => Ok(0),
+    }
+}
+
+// How many coefficients follow the first line.
+fn lines_of(sheet: &Result<Page, Message>) -> u32 {
+    match sheet {
+        Ok(page) => page.nodes.len(),
+        Err(_) => 0,
     }
 }
 
 // One piece.
 fn print_part(
     rt: &(impl Print + Eprint),
-    page: Page,
-    kinds: &[u8; LIMIT],
-    words: &[u64; LIMIT],
+    sheet: &Result<Page, Message>,
+    pool: &Pool,
     line: u32,
     part: u32,
     out: &mut [u8],
-) -> bool {
-    let n = sheet_page::piece(page, kinds, words, line, part, out);
+) -> Result<(), Failed> {
+    let n = sheet_page::piece(sheet, &pool.kinds, &pool.words, line, part, out);
     outputs::put(rt, &out[..n])
 }
 
-// The pieces of one line.
-fn print_line(
+// The first line and those of the coefficients, each in its pieces.
+fn print_sheet(
     rt: &(impl Print + Eprint),
-    page: Page,
-    kinds: &[u8; LIMIT],
-    words: &[u64; LIMIT],
-    line: u32,
-    out: &mut [u8],
-) -> bool {
-    let mut part = 0;
-    while part < PIECES {
-        if !print_part(rt, page, kinds, words, line, part, out) {
-            return false;
+    sheet: &Result<Page, Message>,
+    pool: &Pool,
+) -> Result<(), Failed> {
+    let mut out = [0u8; low_bytes::TEXT_MAX];
+    for line in 0..=lines_of(sheet) {
+        for part in 0..PIECES {
+            print_part(rt, sheet, pool, line, part, &mut out)?;
         }
-        part += 1;
     }
-    true
+    Ok(())
 }
 
-// The first line and those of the coefficients.
-fn print_page(rt: &(impl Print + Eprint), page: Page, kinds: &[u8; LIMIT], words: &[u64; LIMIT]) {
-    let mut out = [0u8; low_bytes::TEXT_MAX];
-    let lines = page.lines as u64;
-    let mut line: u64 = 0;
-    while line <= lines {
-        if !print_line(rt, page, kinds, words, line as u32, &mut out) {
-            return;
-        }
-        line += 1;
-    }
+// What failed has been told.
+fn run(rt: &HostRuntime) -> Result<(), Failed> {
+    let mut line = [0u8; LINE_ROOM];
+    let m = inputs::read_input(rt, &mut rt.stdin(), b"standard input", &mut line)?;
+    let mut file = [0u8; FILE_ROOM];
+    let n = nodes_for(rt, &line[..m], &mut file)?;
+    let mut pool = Pool::empty();
+    let sheet = sheet_lines::prepared_from(&file, n, &line, m, &mut pool);
+    print_sheet(rt, &sheet, &pool)
 }
 
 fn main(rt: HostRuntime) {
-    let mut line = [0u8; LINE_ROOM];
-    let typed = inputs::read_input(&rt, &mut rt.stdin(), b"standard input", &mut line);
-    let Input::Bytes(m) = typed else {
-        return;
-    };
-    let mut file = [0u8; FILE_ROOM];
-    let nodes = nodes_for(&rt, &line[..m], &mut file);
-    let Input::Bytes(n) = nodes else {
-        return;
-    };
-    let mut kinds = [0u8; LIMIT];
-    let mut words = [0u64; LIMIT];
-    let page = sheet_lines::prepared_from(&file, n, &line, m, &mut kinds, &mut words);
-    print_page(&rt, page, &kinds, &words);
+    let _ = run(&rt);
 }

@@ -2,57 +2,39 @@
 // Standard output has the strip and nothing else; a refusal is said on standard error, and then nothing is printed.
 #![tactic(auto)]
 
-use inputs::{FILE_ROOM, Input};
-use lent::{Answer, Written};
+use inputs::FILE_ROOM;
+use outputs::Failed;
 use pool::LIMIT;
+use refusals::Refusal;
 use std::io::{Eprint, Print};
 
-// The bytes of the strip.
-fn put_strip(rt: &(impl Print + Eprint), bytes: &[u8], n: u64) -> bool {
-    let end = n as usize;
-    if end <= bytes.len() {
-        return outputs::put(rt, &bytes[..end]);
-    }
-    false
-}
-
-// The strip of a root.
-fn strip_root(
-    rt: &(impl Print + Eprint),
-    kinds: &[u8],
-    words: &[u64],
-    count: u64,
-    root: u64,
-) -> bool {
-    let mut bytes = [0u8; low_bytes::TEXT_MAX];
-    match engine_strip::strip(kinds, words, count, root, &mut bytes) {
-        Written::Length(n) => put_strip(rt, &bytes, n),
-        Written::Refused(number) => outputs::say_refused(rt, number),
-    }
-}
-
-// The file's nodes in an empty pool.
-fn strip_file(rt: &(impl Print + Eprint), file: &[u8]) -> bool {
+// The strip, put at the front of an output: the file's nodes are read into an empty pool. How many bytes it has.
+fn strip_of(file: &[u8], strip: &mut [u8]) -> Result<u64, Refusal> {
     let mut kinds = [0u8; LIMIT];
     let mut words = [0u64; LIMIT];
     let mut count = 0;
-    match engine_file::read(&mut kinds, &mut words, &mut count, file) {
-        Answer::Node(root) => strip_root(rt, &kinds, &words, count, root),
-        Answer::Refused(number) => outputs::say_refused(rt, number),
+    let root = engine_file::read(&mut kinds, &mut words, &mut count, file)?;
+    engine_strip::strip(&kinds, &words, count, root, strip)
+}
+
+// The bytes of the strip, or the refusal.
+fn strip_file(rt: &(impl Print + Eprint), file: &[u8]) -> Result<(), Failed> {
+    let mut strip = [0u8; low_bytes::TEXT_MAX];
+    match strip_of(file, &mut strip) {
+        Ok(n) => outputs::put(rt, strip.get(..n as usize).unwrap_or(b"")),
+        Err(refusal) => Err(outputs::say_refused(rt, refusal)),
     }
 }
 
-// A missing file counts as 0 bytes.
-fn main(rt: HostRuntime) {
+// What failed has been told. A missing file counts as 0 bytes.
+fn run(rt: &HostRuntime) -> Result<(), Failed> {
     let mut file = [0u8; FILE_ROOM];
-    let input = inputs::read_nodes(&rt, &mut file);
-    match input {
-        Input::Bytes(n) => {
-            strip_file(&rt, &file[..n]);
-        }
-        Input::Missing => {
-            strip_file(&rt, b"");
-        }
-        Input::Failed => {}
+    match inputs::read_nodes(rt, &mut file)? {
+        Some(n) => strip_file(rt, &file[..n]),
+        None => strip_file(rt, b""),
     }
+}
+
+fn main(rt: HostRuntime) {
+    let _ = run(&rt);
 }
