@@ -1,6 +1,6 @@
 -- What is said of every call: it refuses by the table, and in the table's order.
 -- Assumes nothing.
-use Rattle.std.specs.Prelude.{◌≡◌, Bool, true, false, ◌&&◌, List, [], ◌∷◌, ℕ, zero, suc, leb, ltb, ℤ, length, Float, Ok, Err, Some, None}
+use Rattle.std.specs.Prelude.{◌≡◌, Bool, true, false, ◌&&◌, List, [], ◌∷◌, ℕ, leb, ltb, ℤ, length, Float, Ok, Err, Some, None}
 use Rattle.literal.specs.Literal.{is_literal}
 use Rattle.pool.specs.Nodes.{all_below, greatest_variable}
 use Rattle.pool.specs.Pool.{Run, is_pool}
