@@ -1,10 +1,10 @@
 -- A call that evaluates by residues answers a residue below the modulus, or a refusal.
 -- Assumes nothing.
-use Rattle.std.specs.Prelude.{Ok, Err}
+use Rattle.std.specs.Prelude.{Err}
 use mathlib.Core.Path.{◌≡◌, refl}
 use mathlib.Core.Bool.{Bool, true, false}
 use mathlib.Core.List.{List, [], ◌∷◌}
-use Prim.Native.Nat.{ℕ, suc, ◌<◌}
+use Prim.Native.Nat.{ℕ, suc}
 use native.Mathlib.Omega.{arith}
 use Rattle.refusals.specs.Refusals.{broken_pool, unknown_node, wrong_values}
 use Rattle.residue.specs.Residue.{Modulus, fixed_modulus}
@@ -18,9 +18,6 @@ use Rattle.evaluate_residue.proofs.Modulo.{answer_below}
 use Rattle.engine_values.specs.Values.{are_residues, evaluate_residue_call}
 use Rattle.lent.specs.Call.{demand}
 use Rattle.engine_values.proofs.Evaluates.{residues_below}
-
-pub is_below : {r : Divided} {x : ℕ} → r ≡ Ok x → Below fixed_modulus r → x < fixed_modulus
-is_below e h = rw e at h
 
 fixed : Modulus fixed_modulus
 fixed = record { least = omega arith; most = omega arith }

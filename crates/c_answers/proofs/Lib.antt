@@ -1,2 +1,0 @@
-pub mod InC
-pub mod Expansions
