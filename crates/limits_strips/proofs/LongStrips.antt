@@ -1,14 +1,12 @@
 -- Long strips of products: a product's strip is as long as its parts' and one byte more, so that the length of a strip with 2^14 variables is had in 14 steps.
 -- Assumes nothing.
 use mathlib.Core.Path.{◌≡◌, ap, ap₂, ◌∙◌}
-use mathlib.Core.Bool.{Bool, false}
-use mathlib.Core.List.{List, [], ◌∷◌, ◌++◌}
+use mathlib.Core.Bool.{false}
+use mathlib.Core.List.{[], ◌∷◌, ◌++◌}
 use Prim.Native.Nat.{ℕ, ◌+◌, ◌<◌, max}
-use native.Mathlib.Omega.{arith}
 use lib.ListN.{length, length-append}
 use Rattle.pool.specs.declared.node.Node.{Node}
 use Rattle.pool.specs.declared.node.Node.TheVariants.{Mul}
-use Rattle.pool.specs.Fold.{fold_nodes}
 use Rattle.pool.specs.Reaches.{reaches_at, reaches, is_exp_or_log}
 use Rattle.pool.proofs.Folds.{visits, below}
 use Rattle.key_strip.specs.Strip.{node_strip, strip_of, node_places, places_of, has_exp_or_log}

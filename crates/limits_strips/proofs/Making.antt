@@ -3,11 +3,11 @@
 use Rattle.std.specs.Prelude.{Ok}
 use mathlib.Core.Path.{◌≡◌, refl, ◌∙◌}
 use mathlib.Core.Bool.{Bool, true, false, not, ◌&&◌, cond}
-use mathlib.Core.List.{List, ◌++◌}
+use mathlib.Core.List.{◌++◌}
 use Prim.Native.Nat.{ℕ, ◌+◌, max}
 use native.Mathlib.Omega.{arith}
 use lib.Dec.{leb}
-use lib.ListN.{length, drop, length-replicate}
+use lib.ListN.{drop, length-replicate}
 use Rattle.refusals.specs.Refusals.{not_evaluated, no_room, too_many_places}
 use Rattle.low_bytes.specs.Output.{longest_text, text_fits}
 use Rattle.pool.specs.declared.node.Node.{Node}

@@ -1,6 +1,6 @@
 -- C-20's numbers in document 02's digits: codes, bytes, places and refusals. No name of a limit, of a code or of a refusal is used.
 -- Assumes nothing.
-use Rattle.std.specs.Prelude.{◌≡◌, List, [], ◌∷◌, ◌++◌, ℕ, Float, length, replicate}
+use Rattle.std.specs.Prelude.{◌≡◌, [], ◌∷◌, ◌++◌, ℕ, Float, length, replicate}
 use Rattle.std.specs.Float.{binary64}
 use Rattle.std.specs.Float.Ieee.{to_bits}
 use Rattle.pool.specs.Pool.{node_in}
