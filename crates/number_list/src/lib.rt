@@ -82,9 +82,9 @@ impl<'a> Numbers<'a> {
         self.rest = &self.rest[end.unwrap_or(self.rest.len())..];
     }
 
-    // A length, cut off above all tables, so that a wrong list takes no more turns than a right one.
+    // The next number as a length.
     pub fn next_length(&mut self) -> usize {
-        self.next().min(LENGTH_MAX as u64) as usize
+        length_of(self.next())
     }
 
     // As many of the next numbers as said, each turned into a table's entry. What finds no place in the table is passed over.
@@ -98,6 +98,11 @@ impl<'a> Numbers<'a> {
             }
         }
     }
+}
+
+// A length, cut off above all tables, so that a wrong list takes no more turns than a right one.
+pub fn length_of(n: u64) -> usize {
+    n.min(LENGTH_MAX as u64) as usize
 }
 
 // A number as an entry of a table of bytes; 0 where it is none.

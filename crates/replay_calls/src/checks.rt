@@ -1,17 +1,20 @@
 // The rules of the pool as a call.
-use pool::LIMIT;
+use crate::pools::Lent;
+use number_list::Numbers;
+use pool::Pool;
+use refusals::Refusal;
 
-// 0, or 1 where the tables and the count break a rule.
-fn refusal_of(kinds: &[u8], words: &[u64], count: u64) -> u32 {
-    let mut k = [0u8; LIMIT];
-    let mut w = [0u64; LIMIT];
-    if lent::take_in(kinds, words, count, &mut k, &mut w) {
-        return 0;
-    }
-    refusals::BROKEN_POOL
+// Whether the tables and the count keep the rules.
+fn checked(lent: &Lent) -> Result<(), Refusal> {
+    let mut pool = Pool::empty();
+    lent::take_in(lent.kinds, lent.words, *lent.count, &mut pool)
 }
 
 // The refusal number against the list's.
-pub fn check_is_right(text: &[u8], at: &mut usize, k: &[u8], w: &[u64], count: u64) -> bool {
-    refusal_of(k, w, count) as u64 == number_list::next(text, at)
+pub fn check_is_right(list: &mut Numbers, lent: &Lent) -> bool {
+    let number = match checked(lent) {
+        Ok(()) => 0,
+        Err(refusal) => u64::from(refusal.number()),
+    };
+    number == list.next()
 }

@@ -12,8 +12,8 @@ mod walked;
 
 pub use builds::build;
 pub use checks::check_is_right;
-pub use got::{Got, expected, of_answer, of_refusal, same};
-pub use pools::{grow, same_pools, set};
+pub use got::{Got, expected, of_answer};
+pub use pools::{Lent, grow, same_pools, set};
 pub use strips::run;
 pub use texts::text_is_right;
 pub use values::value;

@@ -1,6 +1,7 @@
 // Printing, writing and making strips, into an output whose every byte is compared: past the result, and after a refusal, it is as it was.
-use crate::got::{Got, UNLISTED, expected, of_refusal, same};
-use number_list::{length_of, next, next_bytes, same_bytes};
+use crate::got::{Got, UNLISTED, expected, of_answer};
+use crate::pools::Lent;
+use number_list::{Numbers, byte_of, length_of};
 use std::num::wrapping_sub_usize;
 
 pub const WRITE: u64 = 25;
@@ -14,109 +15,55 @@ const ROOM_MAX: usize = 65_536;
 
 const BEFORE: u8 = 165;
 
-fn of_written(answer: lent::Written) -> Got {
-    match answer {
-        lent::Written::Length(n) => Got {
-            number: 0,
-            value: n,
-        },
-        lent::Written::Refused(number) => of_refusal(number),
-    }
-}
-
 // The text in the first bytes of an output.
-fn print_in(k: &[u8], w: &[u64], count: u64, root: u64, out: &mut [u8], room: usize) -> Got {
-    if room <= out.len() {
-        return of_written(engine_print::print(k, w, count, root, &mut out[..room]));
-    }
-    of_refusal(UNLISTED)
-}
-
-fn write_in(k: &[u8], w: &[u64], count: u64, root: u64, out: &mut [u8], room: usize) -> Got {
-    if room <= out.len() {
-        return of_written(engine_file::write(k, w, count, root, &mut out[..room]));
-    }
-    of_refusal(UNLISTED)
-}
-
-fn strip_in(k: &[u8], w: &[u64], count: u64, root: u64, out: &mut [u8], room: usize) -> Got {
-    if room <= out.len() {
-        return of_written(engine_strip::strip(k, w, count, root, &mut out[..room]));
-    }
-    of_refusal(UNLISTED)
-}
-
-fn put(op: u64, k: &[u8], w: &[u64], count: u64, root: u64, out: &mut [u8], room: usize) -> Got {
-    match op {
-        WRITE => write_in(k, w, count, root, out, room),
-        STRIP => strip_in(k, w, count, root, out, room),
-        _ => print_in(k, w, count, root, out, room),
-    }
-}
-
-fn set_byte(out: &mut [u8], i: usize, byte: u8) {
-    if i < out.len() {
-        out[i] = byte;
-    }
-}
-
-fn byte_at(bytes: &[u8], i: usize) -> u8 {
-    if i < bytes.len() {
-        return bytes[i];
-    }
-    0
+fn put(op: u64, lent: &Lent, root: u64, out: &mut [u8], room: usize) -> Got {
+    let Some(out) = out.get_mut(..room) else {
+        return Err(UNLISTED);
+    };
+    let (k, w, count) = (&*lent.kinds, &*lent.words, *lent.count);
+    of_answer(match op {
+        WRITE => engine_file::write(k, w, count, root, out),
+        STRIP => engine_strip::strip(k, w, count, root, out),
+        _ => engine_print::print(k, w, count, root, out),
+    })
 }
 
 // From the place `period` up to a length each byte is the one so many places before it.
 fn repeat(out: &mut [u8], period: usize, length: usize) {
-    let mut i = period;
-    while i < length {
-        let byte = byte_at(out, wrapping_sub_usize(i, period));
-        set_byte(out, i, byte);
-        i += 1;
+    for i in period..length {
+        let byte = out.get(wrapping_sub_usize(i, period)).copied().unwrap_or(0);
+        if let Some(place) = out.get_mut(i) {
+            *place = byte;
+        }
     }
 }
 
-// A long text: a piece again and again, and its last byte.
-fn next_repeated(text: &[u8], at: &mut usize, length: usize, out: &mut [u8]) {
-    let period = length_of(next(text, at));
-    next_bytes(text, at, period, out);
+// A text of so many bytes; a long one is a piece again and again, and its last byte.
+fn next_text(op: u64, list: &mut Numbers, length: usize, out: &mut [u8]) {
+    if op != PRINT_REPEATED {
+        return list.next_into(length, out, byte_of);
+    }
+    let period = list.next_length();
+    list.next_into(period, out, byte_of);
     repeat(out, period, length);
-    let mut last = [0u8; 1];
-    next_bytes(text, at, 1, &mut last);
-    set_byte(out, wrapping_sub_usize(length, 1), last[0]);
-}
-
-fn next_text(op: u64, text: &[u8], at: &mut usize, length: usize, out: &mut [u8]) {
-    if op == PRINT_REPEATED {
-        return next_repeated(text, at, length, out);
+    let last = byte_of(list.next());
+    if let Some(place) = out.get_mut(wrapping_sub_usize(length, 1)) {
+        *place = last;
     }
-    next_bytes(text, at, length, out);
 }
 
 // The answer and the output against the list's.
-fn compare(op: u64, text: &[u8], at: &mut usize, got: Got, out: &[u8]) -> bool {
-    let want = expected(text, at);
-    let length = want.value;
+fn compare(op: u64, list: &mut Numbers, got: Got, out: &[u8; ROOM_MAX]) -> bool {
+    let want = expected(list);
     let mut bytes = [BEFORE; ROOM_MAX];
-    next_text(op, text, at, length_of(length), &mut bytes);
-    if !same(got, want) {
-        return false;
-    }
-    same_bytes(out, &bytes)
+    next_text(op, list, length_of(want.unwrap_or(0)), &mut bytes);
+    got == want && *out == bytes
 }
 
-pub fn text_is_right(
-    op: u64,
-    text: &[u8],
-    at: &mut usize,
-    k: &[u8],
-    w: &[u64],
-    count: u64,
-) -> bool {
-    let room = length_of(next(text, at));
-    let root = next(text, at);
+pub fn text_is_right(op: u64, list: &mut Numbers, lent: &Lent) -> bool {
+    let room = list.next_length();
+    let root = list.next();
     let mut out = [BEFORE; ROOM_MAX];
-    let got = put(op, k, w, count, root, &mut out, room);
-    compare(op, text, at, got, &out)
+    let got = put(op, lent, root, &mut out, room);
+    compare(op, list, got, &out)
 }
