@@ -1,8 +1,8 @@
 // One call of the list, by the number of its operation.
 use crate::answers::{node_is_right, value_is_right};
-use number_list::{length_of, next};
+use number_list::Numbers;
 use pool::LIMIT;
-use replay_calls::same_pools;
+use replay_calls::{Lent, same_pools};
 
 pub const EVALUATE: u64 = 22;
 
@@ -38,160 +38,76 @@ pub const RUN_STRIP_ALIKE: u64 = 51;
 
 const FIRST_EXPANSION: u64 = 30;
 
-// How an operation is made and its answer compared.
-#[derive(Clone, Copy)]
-enum Group {
-    Node,
-    Value,
-    Text,
-    Check,
-    List,
-    Expansion,
-}
-
-fn plain_group(op: u64) -> Group {
+// The answer alone. What is not named here gives a node below FIRST_EXPANSION, and an expansion from there on.
+fn answer_is_right(op: u64, list: &mut Numbers, lent: &mut Lent, listed: &mut Lent) -> bool {
     match op {
-        EVALUATE => Group::Value,
-        EVALUATE_RESIDUE => Group::Value,
-        PRINT => Group::Text,
-        WRITE => Group::Text,
-        CHECK => Group::Check,
-        EVALUATE_ALIKE => Group::Value,
-        EVALUATE_RESIDUE_ALIKE => Group::Value,
-        _ => Group::Node,
-    }
-}
-
-fn group_of(op: u64) -> Group {
-    if op < FIRST_EXPANSION {
-        return plain_group(op);
-    }
-    match op {
-        FROM_COEFFICIENTS => Group::List,
-        COEFF => Group::Node,
-        DERIVATIVE => Group::Node,
-        ORDER => Group::Value,
-        PRINT_REPEATED => Group::Text,
-        STRIP => Group::Text,
-        RUN_STRIP => Group::Value,
-        RUN_STRIP_ALIKE => Group::Value,
-        _ => Group::Expansion,
-    }
-}
-
-// A call that leaves the pool alone.
-fn reading_is_right(
-    group: Group,
-    op: u64,
-    text: &[u8],
-    at: &mut usize,
-    k: &[u8],
-    w: &[u64],
-    count: u64,
-) -> bool {
-    match group {
-        Group::Value => value_is_right(op, text, at, k, w, count),
-        Group::Text => replay_calls::text_is_right(op, text, at, k, w, count),
-        Group::Check => replay_calls::check_is_right(text, at, k, w, count),
-        _ => replay_series::list_is_right(text, at, k, w, count),
-    }
-}
-
-// The answer alone.
-fn answer_is_right(
-    op: u64,
-    text: &[u8],
-    at: &mut usize,
-    k: &mut [u8],
-    w: &mut [u64],
-    count: &mut u64,
-    kinds: &mut [u8],
-    words: &mut [u64],
-    counted: &mut u64,
-) -> bool {
-    let group = group_of(op);
-    match group {
-        Group::Node => node_is_right(op, text, at, k, w, count, kinds, words, counted),
-        Group::Expansion => replay_series::expansion_is_right(
-            op, text, at, k, w, count, kinds, words, counted,
-        ),
-        _ => reading_is_right(group, op, text, at, k, w, *count),
+        EVALUATE | EVALUATE_RESIDUE | EVALUATE_ALIKE | EVALUATE_RESIDUE_ALIKE => {
+            value_is_right(op, list, lent)
+        }
+        ORDER | RUN_STRIP | RUN_STRIP_ALIKE => value_is_right(op, list, lent),
+        PRINT | WRITE | PRINT_REPEATED | STRIP => replay_calls::text_is_right(op, list, lent),
+        CHECK => replay_calls::check_is_right(list, lent),
+        FROM_COEFFICIENTS => replay_series::list_is_right(list, lent),
+        COEFF | DERIVATIVE => node_is_right(op, list, lent, listed),
+        _ => {
+            if op < FIRST_EXPANSION {
+                return node_is_right(op, list, lent, listed);
+            }
+            replay_series::expansion_is_right(op, list, lent, listed)
+        }
     }
 }
 
 // The answer, and then every entry of both tables and the count.
-fn all_is_right(
-    op: u64,
-    text: &[u8],
-    at: &mut usize,
-    k: &mut [u8],
-    w: &mut [u64],
-    count: &mut u64,
-    kinds: &mut [u8],
-    words: &mut [u64],
-    counted: &mut u64,
-) -> bool {
-    if !answer_is_right(op, text, at, k, w, count, kinds, words, counted) {
+fn all_is_right(op: u64, list: &mut Numbers, lent: &mut Lent, listed: &mut Lent) -> bool {
+    if !answer_is_right(op, list, lent, listed) {
         return false;
     }
-    same_pools(k, w, *count, kinds, words, *counted)
+    same_pools(lent, listed)
 }
 
-// With the first entries of the tables lent, as many kinds and as many words as said.
+// The first entries of the tables, as many kinds and as many words as said.
+fn first_of<'a>(
+    kinds: &'a mut [u8],
+    words: &'a mut [u64],
+    count: &'a mut u64,
+    m: usize,
+    n: usize,
+) -> Option<Lent<'a>> {
+    let kinds = kinds.get_mut(..m)?;
+    let words = words.get_mut(..n)?;
+    Some(Lent {
+        kinds,
+        words,
+        count,
+    })
+}
+
+// With the first entries of the tables lent.
 fn lent_is_right(
     m: usize,
     n: usize,
     op: u64,
-    text: &[u8],
-    at: &mut usize,
-    k: &mut [u8],
-    w: &mut [u64],
-    count: &mut u64,
-    kinds: &mut [u8],
-    words: &mut [u64],
-    counted: &mut u64,
+    list: &mut Numbers,
+    lent: &mut Lent,
+    listed: &mut Lent,
 ) -> bool {
-    if m <= k.len() {
-        if n <= w.len() {
-            if m <= kinds.len() {
-                if n <= words.len() {
-                    return all_is_right(
-                        op,
-                        text,
-                        at,
-                        &mut k[..m],
-                        &mut w[..n],
-                        count,
-                        &mut kinds[..m],
-                        &mut words[..n],
-                        counted,
-                    );
-                }
-            }
-        }
-    }
-    false
+    let Some(mut first) = first_of(lent.kinds, lent.words, lent.count, m, n) else {
+        return false;
+    };
+    let Some(mut first_listed) = first_of(listed.kinds, listed.words, listed.count, m, n) else {
+        return false;
+    };
+    all_is_right(op, list, &mut first, &mut first_listed)
 }
 
 // A call with tables of the right lengths, or of those that the list gives before it.
-pub fn call_is_right(
-    op: u64,
-    text: &[u8],
-    at: &mut usize,
-    k: &mut [u8],
-    w: &mut [u64],
-    count: &mut u64,
-    kinds: &mut [u8],
-    words: &mut [u64],
-    counted: &mut u64,
-) -> bool {
+pub fn call_is_right(op: u64, list: &mut Numbers, lent: &mut Lent, listed: &mut Lent) -> bool {
     if op != LENT {
-        return lent_is_right(
-            LIMIT, LIMIT, op, text, at, k, w, count, kinds, words, counted,
-        );
+        return lent_is_right(LIMIT, LIMIT, op, list, lent, listed);
     }
-    let m = length_of(next(text, at));
-    let n = length_of(next(text, at));
-    let call = next(text, at);
-    lent_is_right(m, n, call, text, at, k, w, count, kinds, words, counted)
+    let m = list.next_length();
+    let n = list.next_length();
+    let call = list.next();
+    lent_is_right(m, n, call, list, lent, listed)
 }

@@ -3,9 +3,11 @@ ghost use Rattle.std.specs.Io.{ReadsAtMost};
 
 use crate::calls::call_is_right;
 use crate::raw::{TABLE, set_both};
-use number_list::{at_end, next};
+use number_list::Numbers;
+use replay_calls::Lent;
 use std::io;
 use std::io::{Print, Read};
+use std::num::wrapping_add_u64;
 
 const FIRST_CALL: u64 = 10;
 
@@ -14,74 +16,48 @@ const BLOCK: usize = 16_384;
 
 const BLOCKS: usize = 64;
 
-fn one_more(n: &mut u64) {
-    *n = std::num::wrapping_add_u64(*n, 1);
+// How many calls were made, and how many of them differ.
+#[derive(Clone, Copy)]
+struct Tally {
+    calls: u64,
+    differing: u64,
 }
 
-// A difference, with what finds its line.
-fn report(rt: &impl Print, call: u64, op: u64) -> io::Result<()> {
-    println!(rt; "call {call}, operation {op}: differs")
-}
-
-fn tell(rt: &impl Print, right: bool, call: u64, op: u64, differing: &mut u64) -> io::Result<()> {
-    if right {
-        return Ok(());
-    }
-    one_more(differing);
-    report(rt, call, op)
-}
-
-fn report_all(rt: &impl Print, calls: u64, differing: u64) -> io::Result<()> {
-    println!(rt; "{calls} calls replayed, {differing} differ")
-}
-
-// The next line, if there is one.
+// The next line. A difference is printed with what finds its line.
 fn line(
     rt: &impl Print,
-    text: &[u8],
-    at: &mut usize,
-    k: &mut [u8],
-    w: &mut [u64],
-    count: &mut u64,
-    kinds: &mut [u8],
-    words: &mut [u64],
-    counted: &mut u64,
-    calls: &mut u64,
-    differing: &mut u64,
+    list: &mut Numbers,
+    lent: &mut Lent,
+    listed: &mut Lent,
+    tally: &mut Tally,
 ) -> io::Result<()> {
-    if at_end(text, *at) {
-        return Ok(());
-    }
-    let op = next(text, at);
+    let op = list.next();
     if op < FIRST_CALL {
-        set_both(op, text, at, k, w, count, kinds, words, counted);
+        set_both(op, list, lent, listed);
         return Ok(());
     }
-    one_more(calls);
-    let right = call_is_right(op, text, at, k, w, count, kinds, words, counted);
-    tell(rt, right, *calls, op, differing)
+    tally.calls = wrapping_add_u64(tally.calls, 1);
+    if call_is_right(op, list, lent, listed) {
+        return Ok(());
+    }
+    tally.differing = wrapping_add_u64(tally.differing, 1);
+    println!(rt; "call {}, operation {op}: differs", tally.calls)
 }
 
 // All lines of a block: there are fewer of them than bytes.
 fn run(
     rt: &impl Print,
     text: &[u8],
-    k: &mut [u8],
-    w: &mut [u64],
-    count: &mut u64,
-    kinds: &mut [u8],
-    words: &mut [u64],
-    counted: &mut u64,
-    calls: &mut u64,
-    differing: &mut u64,
+    lent: &mut Lent,
+    listed: &mut Lent,
+    tally: &mut Tally,
 ) -> io::Result<()> {
-    let mut at: usize = 0;
-    let mut i: usize = 0;
-    while i < text.len() {
-        line(
-            rt, text, &mut at, k, w, count, kinds, words, counted, calls, differing,
-        )?;
-        i += 1;
+    let mut list = Numbers::of(text);
+    for _ in 0..text.len() {
+        if list.is_at_end() {
+            return Ok(());
+        }
+        line(rt, &mut list, lent, listed, tally)?;
     }
     Ok(())
 }
@@ -105,67 +81,45 @@ fn read_full<R: Read>(reader: &mut R, room: &mut [u8]) -> io::Result<usize>
 fn block<R: Read>(
     rt: &impl Print,
     reader: &mut R,
-    k: &mut [u8],
-    w: &mut [u64],
-    count: &mut u64,
-    kinds: &mut [u8],
-    words: &mut [u64],
-    counted: &mut u64,
-    calls: &mut u64,
-    differing: &mut u64,
+    lent: &mut Lent,
+    listed: &mut Lent,
+    tally: &mut Tally,
 ) -> io::Result<()> {
     let mut text = [0u8; BLOCK];
     let n = read_full(reader, &mut text)?;
-    run(
-        rt,
-        &text[..n],
-        k,
-        w,
-        count,
-        kinds,
-        words,
-        counted,
-        calls,
-        differing,
-    )
+    run(rt, &text[..n], lent, listed, tally)
 }
 
 fn all_blocks<R: Read>(
     rt: &impl Print,
     reader: &mut R,
-    k: &mut [u8],
-    w: &mut [u64],
-    kinds: &mut [u8],
-    words: &mut [u64],
+    lent: &mut Lent,
+    listed: &mut Lent,
 ) -> io::Result<()> {
-    let mut count: u64 = 0;
-    let mut counted: u64 = 0;
-    let mut calls: u64 = 0;
-    let mut differing: u64 = 0;
-    let mut i: usize = 0;
-    while i < BLOCKS {
-        block(
-            rt,
-            reader,
-            k,
-            w,
-            &mut count,
-            kinds,
-            words,
-            &mut counted,
-            &mut calls,
-            &mut differing,
-        )?;
-        i += 1;
+    let mut tally = Tally {
+        calls: 0,
+        differing: 0,
+    };
+    for _ in 0..BLOCKS {
+        block(rt, reader, lent, listed, &mut tally)?;
     }
-    report_all(rt, calls, differing)
+    println!(rt;
+        "{} calls replayed, {} differ",
+        tally.calls, tally.differing
+    )
 }
 
 // The engine's tables, and beside them those that the list's entries go to.
 pub fn replay<R: Read>(rt: &impl Print, reader: &mut R) -> io::Result<()> {
-    let mut k = [0u8; TABLE];
-    let mut w = [0u64; TABLE];
-    let mut kinds = [0u8; TABLE];
-    let mut words = [0u64; TABLE];
-    all_blocks(rt, reader, &mut k, &mut w, &mut kinds, &mut words)
+    let mut lent = Lent {
+        kinds: &mut [0u8; TABLE],
+        words: &mut [0u64; TABLE],
+        count: &mut 0,
+    };
+    let mut listed = Lent {
+        kinds: &mut [0u8; TABLE],
+        words: &mut [0u64; TABLE],
+        count: &mut 0,
+    };
+    all_blocks(rt, reader, &mut lent, &mut listed)
 }

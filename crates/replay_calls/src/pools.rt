@@ -6,6 +6,7 @@ use pool::LIMIT;
 use std::num::wrapping_add_u64;
 
 // Both tables and the count, as they are lent.
+#[derive(Drop)]
 pub struct Lent<'a> {
     pub kinds: &'a mut [u8],
     pub words: &'a mut [u64],
@@ -42,8 +43,8 @@ pub fn grow(accepted: bool, list: &mut Numbers, lent: &mut Lent) {
 }
 
 // Whether two pools are equal in every entry of both tables and in the count.
-pub fn same_pools(k: &[u8], w: &[u64], n: u64, l: &[u8], v: &[u64], m: u64) -> bool
-    ensures { IsTrue result ↔ ((n ≡ m) × (k.now ≡ l.now) × (w.now ≡ v.now)) }
+pub fn same_pools(a: &Lent, b: &Lent) -> bool
+    ensures { IsTrue result ↔ ((a.now.count.now ≡ b.now.count.now) × (a.now.kinds.now ≡ b.now.kinds.now) × (a.now.words.now ≡ b.now.words.now)) }
 {
-    n == m && k == l && w == v
+    *a.count == *b.count && *a.kinds == *b.kinds && *a.words == *b.words
 }
