@@ -48,6 +48,7 @@ pub fn read_input<R: Read>(
 ) -> Result<usize, Failed>
     ensures { IfOk result (λ n. IsPrefixLen n room.new) }
 {
+    // A loop of reads: std's reading to the end fills a Vec, and the room is one byte longer than what may be read.
     let mut done = 0;
     while done < room.len() {
         let n = read_more(rt, reader, name, room, done)?;

@@ -18,7 +18,7 @@ pub struct KeyLine {
     pub next: usize,
 }
 
-// A variable is pushed.
+// A variable is pushed. Each of these three lines has another value between the same two writes: a closure for it would be as long as the line.
 fn push_variable(out: &mut [u8], v: u32) -> usize
     ensures { Wrote 0 out.old (bytes "push " ++ display v ++ bytes "\n") result out.new }
 {

@@ -12,6 +12,7 @@ use std::io::{Eprint, Print};
 fn list(rt: &(impl Print + Eprint), strip: &[u8]) -> Result<(), Failed> {
     let mut out = [0u8; LINE_ROOM];
     let mut at = 0;
+    // The next key's place is known once the key is read.
     while at < strip.len() {
         let line = key_texts::line_at(strip, at, &mut out);
         outputs::put(rt, &out[..line.end])?;

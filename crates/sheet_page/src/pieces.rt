@@ -8,7 +8,7 @@ ghost use Rattle.sheet_page.specs.Pages.{piece_of, short, put_of, AtFront};
 use crate::first::{Message, Page, head, label};
 use pool::LIMIT;
 
-// How many pieces a line has at most.
+// How many pieces a line has at most. A piece goes by a number, as its line does, since the program counts through both.
 pub const PIECES: u32 = 3;
 
 // The text of a node, unless it is too long.
