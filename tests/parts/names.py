@@ -17,7 +17,7 @@ def read(path):
 
 
 def pages():
-    return ["README.md", *sorted(it for it in glob.glob("docs/**/*.md", recursive=True) if os.path.basename(it) != "PORT.md")]
+    return ["README.md", *sorted(it for it in glob.glob("docs/**/*.md", recursive=True) if os.path.basename(it) not in ("PORT.md", "DESIGN-PASS.md"))]
 
 
 def main():
