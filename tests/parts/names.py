@@ -1,5 +1,5 @@
 #!/usr/bin/env python3
-"""Says which names that README.md and docs/ have in backticks stand nowhere in crates/, and which files, folders and must-fail edits that they name are not there.
+"""Says which names that README.md and docs/ (but for PORT.md and DESIGN-PASS.md, which name what is gone) have in backticks stand nowhere in crates/, and which files, folders and must-fail edits that they name are not there.
 usage: tests/parts/names.py, at the root. A name of a definition, theorem, function or type is a word with _ or with a small and a capital letter; others are too common to look for."""
 import glob
 import os

@@ -62,7 +62,7 @@ fn run(
     Ok(())
 }
 
-// Reads until the room is full or the input ends, and answers how many bytes there are.
+// Reads until the room is full or the input ends, and answers how many bytes there are. A read says itself how many it gave, so the loop goes by no index.
 fn read_full<R: Read>(reader: &mut R, room: &mut [u8]) -> io::Result<usize>
     ensures { ReadsAtMost result room.new }
 {
