@@ -34,7 +34,9 @@ plain() {
 awk '/^enum bunlayog_refusal/ { on = 1 } on && /^ *\/\*/ { said = $0; gsub(/^ *\/\* | \*\/$/, "", said) }
   on && /BUNLAYOG_[A-Z_]+ = [1-9]/ { name = $1; sub("BUNLAYOG_", "", name); number = $3; sub(",", "", number); print number, name, said } /^};/ { on = 0 }' "$header" > "$out/header"
 sed -n 's|^ */\* \([0-9]*\) \*/ "\(.*\)",$|\1 \2|p' "$text" | sed 1d > "$out/texts"
-sed -n 's/^pub const \([A-Z_]*\): u32 = \([0-9]*\);$/\2 \1/p' crates/refusals/src/lib.rt > "$out/names_in_code"
+# the code and the paper have the names of an enum's cases: BrokenPool for BROKEN_POOL
+in_capitals() { awk '{ name = $2; gsub(/[A-Z]/, "_&", name); sub(/^_/, "", name); $2 = toupper(name); print }'; }
+sed -n 's/^ *Refusal::\([A-Za-z]*\) => \([0-9]*\),$/\2 \1/p' crates/refusals/src/lib.rt | in_capitals > "$out/names_in_code"
 # a comment may go over two lines; of a request's refusal it quotes the request, with its number first
 awk '/^-- / { line = $0; sub(/^-- /, "", line); said = said == "" ? line : said " " line; next }
   /^[a-z_]+ = [0-9]+$/ {
@@ -43,7 +45,7 @@ awk '/^-- / { line = $0; sub(/^-- /, "", line); said = said == "" ? line : said 
     print $3, toupper($1), (kept ~ /^[A-Z]/ ? tolower(substr(kept, 1, 1)) substr(kept, 2) : kept)
   }
   { if (said != "") kept = said; said = "" }' crates/refusals/specs/Refusals.antt > "$out/specs"
-sed -n 's/^| \([0-9]*\) | `\([A-Z_]*\)` | \(.*\) |$/\1 \2 \3/p' "$paper" > "$out/paper"
+sed -n 's/^| \([0-9]*\) | `\([A-Za-z]*\)` | \(.*\) |$/\1 \2 \3/p' "$paper" | in_capitals > "$out/paper"
 same refusals 21 "$out/header" "$out/specs"
 same refusals 21 "$out/header" "$out/paper"
 cut -d ' ' -f 1,3- "$out/header" > "$out/texts_in_header"
@@ -82,7 +84,7 @@ EXPONENT_MIN pool EXPONENT_MIN pool least_exponent
 EXPONENT_MAX - - pool greatest_exponent
 DEPTH_MAX constructors DEPTH constructors depth
 ORDER_MAX - - taylor greatest_order
-TERMS taylor_base TERMS - -
+TERMS taylor TERMS - -
 VALUES_MAX engine_values VALUES_MAX engine_values most_values
 MODULUS residue MODULUS_MAX residue fixed_modulus
 TEXT_MAX low_bytes TEXT_MAX low_bytes longest_text

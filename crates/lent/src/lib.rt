@@ -59,7 +59,8 @@ pub fn take_whole(
     Ok(())
 }
 
-// The entries that work has appended and the new count, put back where the rest is the same already.
+// The entries that work has appended and the new count, put back where the rest is the same already. Entry by entry: as copies of slices they would need memmove of
+// the C library, which the archive does without.
 pub fn put_back(kinds: &mut [u8], words: &mut [u64], count: &mut u64, pool: &Pool)
     requires count_value { is_pool kinds.old words.old count.old ≡ true }
     requires grown { Grown (lent_pool_to pool.now.end kinds.old words.old count.old) pool.now }
@@ -69,8 +70,10 @@ pub fn put_back(kinds: &mut [u8], words: &mut [u64], count: &mut u64, pool: &Poo
 {
     let from = *count as usize;
     let to = pool.count as usize;
-    kinds[from..to].copy_from_slice(&pool.kinds[from..to]);
-    words[from..to].copy_from_slice(&pool.words[from..to]);
+    for i in from..to {
+        kinds[i] = pool.kinds[i];
+        words[i] = pool.words[i];
+    }
     *count = pool.count as u64;
 }
 

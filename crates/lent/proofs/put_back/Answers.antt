@@ -1,36 +1,38 @@
--- `lent::put_back` meets its contract: what lies elsewhere than between the two counts is the same already.
+-- `lent::put_back` meets its contract: after each turn the tables are the new ones up to the entry and the old ones from there.
 -- Assumes nothing.
 use native.Mathlib.Omega.{arith}
 use Rattle.lent.proofs.Finishing.{fits_back}
-use Rattle.lent.proofs.Overwrite.{overwritten}
+use Rattle.lent.proofs.Overwrite.{starts_at, one_more, as_long}
 use Rattle.lent.proofs.put_back.Goals as goal
 
-pub slice_bounds-copy_from_slice-end : goal.slice_bounds-copy_from_slice-end
-slice_bounds-copy_from_slice-end c =
+pub loop-i-init : goal.loop-i-init
+loop-i-init c = (starts_at c.requires.grown.kinds, starts_at c.requires.grown.words)
+
+pub bounds-pool-i : goal.bounds-pool-i
+bounds-pool-i c =
     let s = fits_back c.args.kinds.now c.args.words.now c.args.count.now c.args.pool.now c.requires.count_value c.requires.grown in
-    omega (arith, s.ends, s.kinds_long)
+    omega (arith, s.ends, c.loop-i-test.true)
 
-pub slice_bounds-copy_from_slice-end-2 : goal.slice_bounds-copy_from_slice-end-2
-slice_bounds-copy_from_slice-end-2 c =
+pub bounds-kinds-i : goal.bounds-kinds-i
+bounds-kinds-i c =
     let s = fits_back c.args.kinds.now c.args.words.now c.args.count.now c.args.pool.now c.requires.count_value c.requires.grown in
-    omega (arith, s.ends)
+    let o = c.loop-i.invariant.0 in
+    omega (arith, as_long o (omega (arith, s.ends, s.kinds_long, o.same, c.loop-i-test.true)), s.ends, s.kinds_long, c.loop-i-test.true)
 
-pub slice_bounds-copy_from_slice-end-3 : goal.slice_bounds-copy_from_slice-end-3
-slice_bounds-copy_from_slice-end-3 c =
+pub bounds-pool-i-in-loop-i : goal.bounds-pool-i-in-loop-i
+bounds-pool-i-in-loop-i c =
     let s = fits_back c.args.kinds.now c.args.words.now c.args.count.now c.args.pool.now c.requires.count_value c.requires.grown in
-    omega (arith, s.ends, s.words_long)
+    omega (arith, s.ends, c.loop-i-test.true)
 
-pub slice_bounds-copy_from_slice-end-4 : goal.slice_bounds-copy_from_slice-end-4
-slice_bounds-copy_from_slice-end-4 c =
+pub bounds-words-i : goal.bounds-words-i
+bounds-words-i c =
     let s = fits_back c.args.kinds.now c.args.words.now c.args.count.now c.args.pool.now c.requires.count_value c.requires.grown in
-    omega (arith, s.ends)
+    let o = c.loop-i.invariant.1 in
+    omega (arith, as_long o (omega (arith, s.ends, s.words_long, o.same, c.loop-i-test.true)), s.ends, s.words_long, c.loop-i-test.true)
 
-pub returns-clause-kinds_after : goal.returns-clause-kinds_after
-returns-clause-kinds_after c =
-    let g = c.requires.grown in
-    rw c.copy_from_slice.ensures.after (overwritten c.args.count.now c.args.pool.now.count _ (omega (arith, g.no_fewer)) g.kinds)
-
-pub returns-clause-words_after : goal.returns-clause-words_after
-returns-clause-words_after c =
-    let g = c.requires.grown in
-    rw c.copy_from_slice-2.ensures.after (overwritten c.args.count.now c.args.pool.now.count _ (omega (arith, g.no_fewer)) g.words)
+pub loop-i-preserved : goal.loop-i-preserved
+loop-i-preserved c =
+    let s = fits_back c.args.kinds.now c.args.words.now c.args.count.now c.args.pool.now c.requires.count_value c.requires.grown in
+    let inv = c.loop-i.invariant in
+    let turn = c.loop-i-test.true in
+    (one_more inv.0 (omega (arith, turn, s.ends, s.kinds_long, inv.0.same)), one_more inv.1 (omega (arith, turn, s.ends, s.words_long, inv.1.same)))
