@@ -24,15 +24,15 @@
  * Calls at once. All functions may run at once on different pools. Functions that only read a pool may run at once on the same one.
  *
  * Stack in bytes, as measured (docs/MEASUREMENTS.md has more figures, and the worst pool for each):
- *   check, taylor_order, taylor_from_coefficients       1,024
+ *   check, taylor_order, taylor_from_coefficients       1,296
  *   run_strip                                           1,128
- *   lit, var and the constructors                      78,672
- *   the other operations on expansions                 83,416
+ *   lit, var and the constructors                      65,848
+ *   the other operations on expansions                 70,120
  *   write, read                                       434,632
- *   strip                                             385,080
+ *   strip                                             385,088
  *   substitute_var, derive, evaluate, evaluate_residue,
- *   print                                             989,120
- *   taylor_coeffs, taylor_coeffs_at                 1,044,528
+ *   print                                             839,560
+ *   taylor_coeffs, taylor_coeffs_at                   826,576
  *
  * The archive is for x86-64 Linux. It calls memcpy and memset and nothing else, and has no data that can be written.
  */
