@@ -26,9 +26,9 @@
  * Stack in bytes, as measured (docs/MEASUREMENTS.md has more figures, and the worst pool for each):
  *   check, taylor_order, taylor_from_coefficients       1,296
  *   run_strip                                           1,128
- *   lit, var and the constructors                      65,848
+ *   lit, var and the constructors                      65,864
  *   the other operations on expansions                 70,120
- *   write, read                                       434,632
+ *   write, read                                       434,664
  *   strip                                             385,088
  *   substitute_var, derive, evaluate, evaluate_residue,
  *   print                                             839,560
