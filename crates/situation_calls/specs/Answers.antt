@@ -8,8 +8,7 @@ use Rattle.constructors.specs.Build.{calls, depth}
 use Rattle.shape.specs.File.{is_sized, are_nodes, is_in_order, read_file}
 use Rattle.taylor.specs.Expansion.{Expansion, coeff, derivative, negate, exponential, logarithm, power, add_to, sub_from, times, quotient, maximum, subst}
 use Rattle.taylor.specs.Coefficients.{terms}
-use Rattle.lent.specs.Answer.{Answer}
-use Rattle.lent.specs.Answer.{Written}
+use Rattle.lent.specs.Answer.{Answer, Written}
 use Rattle.lent.specs.Call.{on_pool, given_nodes}
 use Rattle.engine.specs.Build.{lit_work, var_work}
 use Rattle.engine_walk.specs.Walks.{substitute_work, derive_work}
@@ -49,7 +48,7 @@ abbrev pub of_outcome : Outcome → Refusal
 of_outcome (Ok s) = refusal.none
 of_outcome (Err k) = by k
 
--- beside an expansion stands a number, 0 where there is no refusal
+-- the number that a caller in C gets: 0 with an expansion, else the refusal number
 abbrev pub number_of : Outcome → ℕ
 number_of (Ok s) = 0
 number_of (Err k) = k
@@ -72,7 +71,7 @@ pub record Situated (checks meets : List ℕ) (tests : List Bool) (r : Refusal) 
 abbrev pub ByTable : Call → List Bool → Refusal → Type 0
 ByTable c tests r = Situated (checked c) (met c) tests r
 
--- so does one that gives an expansion, and the number 0 stands beside an expansion, never beside a refusal
+-- so does one that gives an expansion, and the number 0 comes with an expansion, never with a refusal
 pub record ExpansionByTable (c : Call) (tests : List Bool) (o : Outcome) : Type 0 where
   pub by_table : ByTable c tests (of_outcome o)
   pub zero_accepts : number_of o ≡ 0 → (e : Expansion) × (o ≡ accepted e)
