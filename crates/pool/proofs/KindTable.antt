@@ -1,12 +1,8 @@
--- The table of kinds at a kind that is known, and at one that is none of the nine.
+-- The table of kinds at a number that is none of the nine kinds.
 -- Assumes nothing.
 use Rattle.std.proofs.Common.{◌≡◌, ℕ, Bool, true, false, ◌&&◌, refl, ne_eqb}
 use Rattle.pool.specs.Nodes.{decode}
-use Rattle.pool.specs.declared.node.Node.{Node}
 use Rattle.pool.specs.declared.node.Node.TheVariants.{Empty}
-
-pub at_kind : (k m w : ℕ) {n : Node} → k ≡ m → n ≡ decode m w → n ≡ decode k w
-at_kind k m w e h = rw e h
 
 pub no_kind :
     (k w : ℕ) → (k ≡ 1 → ⊥) → (k ≡ 2 → ⊥) → (k ≡ 3 → ⊥) → (k ≡ 4 → ⊥) → (k ≡ 5 → ⊥) → (k ≡ 6 → ⊥) → (k ≡ 7 → ⊥) → (k ≡ 8 → ⊥) → (k ≡ 9 → ⊥) → Empty ≡ decode k w

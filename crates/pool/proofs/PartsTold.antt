@@ -1,15 +1,8 @@
 -- The parts of a node as a list that a loop goes over.
 -- Assumes nothing.
-use Rattle.std.proofs.Common.{◌≡◌, ℕ, ◌+◌, ◌<◌, ◌⊎◌, List, [], ◌∷◌, length, get_or, take, sym, ap, ◌∙◌, inl, inr, add-one, take-suc}
+use Rattle.std.proofs.Common.{◌≡◌, ℕ, ◌+◌, ◌<◌, ◌⊎◌, List, [], ◌∷◌, length, get_or, take, sym, ◌∙◌, inl, inr, add-one, take-suc}
 use mathlib.Core.List.Memᴰ
 use mathlib.Core.List.{Memᴰ}
-use Rattle.pool.specs.Parts.{parts_in, Counted}
-use Rattle.pool.specs.declared.parts.CountedParts.{CountedParts}
-use Rattle.pool.specs.declared.parts.Parts.{Parts}
-
--- the parts that were told are an arm's
-pub counted : {told : List ℕ} {p arm : Parts} {r : CountedParts} → parts_in p ≡ told → p ≡ arm → Counted (parts_in arm) r → Counted told r
-counted read is h = rw (sym read ∙ ap parts_in is) h
 
 -- what holds of the first j parts and of the next one
 pub one_more : {P : ℕ → Type 0} {part : ℕ} (told : List ℕ) (j : ℕ) → j < length told → ((a : ℕ) → Memᴰ a (take j told) → P a) → part ≡ get_or told j 0 → P part → (a : ℕ) → Memᴰ a (take (j + 1) told) → P a

@@ -7,3 +7,4 @@ pub mod Pool
 pub mod Made
 pub mod Rows
 pub mod WordHalves
+pub mod Tables

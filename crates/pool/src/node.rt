@@ -1,6 +1,9 @@
 // A node by value, and its kind and word in the pool: the table of kinds of document 01.
 ghost use Rattle.std.specs.Prelude.{◌≡◌};
-ghost use Rattle.pool.specs.Nodes.{decode, kind_of, word_of, pair};
+ghost use Rattle.pool.specs.Nodes.{decode, kind_of, word_of, parts, pair};
+ghost use Rattle.pool.specs.Parts.{parts_in, Counted, with_parts};
+
+use crate::parts::{CountedParts, Parts};
 
 // The greatest variable number, and the least exponent of a Pow.
 pub const VARIABLE_MAX: u64 = 65_535;
@@ -10,7 +13,7 @@ pub const EXPONENT_MIN: u32 = 2;
 // Half a word: what a node number or an exponent has.
 pub const HALF: u64 = 0x1_0000_0000;
 
-// An unfolded node; parts are node numbers. Empty stands for what is no node.
+// An unfolded node; parts are node numbers. Empty stands for what is no node: the tables have kind 0 for it, so it is a kind among the others and no Option.
 #[derive(Clone, Copy)]
 pub enum Node {
     Empty,
@@ -25,91 +28,6 @@ pub enum Node {
     Max(u32, u32),
 }
 
-// The node of a kind and a word.
-pub fn decode(kind: u8, word: u64) -> Node
-    ensures { result ≡ decode kind word }
-{
-    let low = (word % HALF) as u32;
-    let high = (word / HALF) as u32;
-    match kind {
-        1 => variable(word),
-        2 => literal_node(word),
-        3 => Node::Add(low, high),
-        4 => Node::Mul(low, high),
-        5 => Node::Div(low, high),
-        6 => exp_node(word),
-        7 => log_node(word),
-        8 => pow_node(word),
-        9 => Node::Max(low, high),
-        _ => Node::Empty,
-    }
-}
-
-fn variable(word: u64) -> Node
-    ensures { result ≡ decode 1 word }
-{
-    if word <= VARIABLE_MAX {
-        return Node::Variable(word as u32);
-    }
-    Node::Empty
-}
-
-fn literal_node(word: u64) -> Node
-    ensures { result ≡ decode 2 word }
-{
-    let z = literal::from_word(word);
-    if literal::is_literal(z) {
-        return Node::Lit(z);
-    }
-    Node::Empty
-}
-
-fn exp_node(word: u64) -> Node
-    ensures { result ≡ decode 6 word }
-{
-    if word < HALF {
-        return Node::Exp(word as u32);
-    }
-    Node::Empty
-}
-
-fn log_node(word: u64) -> Node
-    ensures { result ≡ decode 7 word }
-{
-    if word < HALF {
-        return Node::Log(word as u32);
-    }
-    Node::Empty
-}
-
-fn pow_node(word: u64) -> Node
-    ensures { result ≡ decode 8 word }
-{
-    let base = (word % HALF) as u32;
-    let exp = (word / HALF) as u32;
-    if EXPONENT_MIN <= exp {
-        return Node::Pow(base, exp);
-    }
-    Node::Empty
-}
-
-pub fn kind_of(node: Node) -> u8
-    ensures { result ≡ kind_of node }
-{
-    match node {
-        Node::Empty => 0,
-        Node::Variable(_) => 1,
-        Node::Lit(_) => 2,
-        Node::Add(_, _) => 3,
-        Node::Mul(_, _) => 4,
-        Node::Div(_, _) => 5,
-        Node::Exp(_) => 6,
-        Node::Log(_) => 7,
-        Node::Pow(_, _) => 8,
-        Node::Max(_, _) => 9,
-    }
-}
-
 // Two numbers of 32 bits in one word.
 fn joined(left: u32, right: u32) -> u64
     ensures { result ≡ pair left right }
@@ -117,19 +35,119 @@ fn joined(left: u32, right: u32) -> u64
     (left as u64) + HALF * (right as u64)
 }
 
-pub fn word_of(node: Node) -> u64
-    ensures { result ≡ word_of node }
-{
-    match node {
-        Node::Empty => 0,
-        Node::Variable(v) => v as u64,
-        Node::Lit(z) => literal::to_word(z),
-        Node::Add(a, b) => joined(a, b),
-        Node::Mul(a, b) => joined(a, b),
-        Node::Div(a, b) => joined(a, b),
-        Node::Exp(a) => a as u64,
-        Node::Log(a) => a as u64,
-        Node::Pow(a, n) => joined(a, n),
-        Node::Max(a, b) => joined(a, b),
+impl Node {
+    // The node of a kind and a word.
+    #[tactic(auto, unfolding(crate::specs::Nodes::decode))]
+    pub fn decode(kind: u8, word: u64) -> Node
+        ensures { result ≡ decode kind word }
+    {
+        let low = (word % HALF) as u32;
+        let high = (word / HALF) as u32;
+        let z = literal::from_word(word);
+        match kind {
+            1 if word <= VARIABLE_MAX => Node::Variable(word as u32),
+            2 if literal::is_literal(z) => Node::Lit(z),
+            3 => Node::Add(low, high),
+            4 => Node::Mul(low, high),
+            5 => Node::Div(low, high),
+            6 if word < HALF => Node::Exp(word as u32),
+            7 if word < HALF => Node::Log(word as u32),
+            8 if EXPONENT_MIN <= high => Node::Pow(low, high),
+            9 => Node::Max(low, high),
+            _ => Node::Empty,
+        }
+    }
+
+    pub fn kind(self) -> u8
+        ensures { result ≡ kind_of self }
+    {
+        match self {
+            Node::Empty => 0,
+            Node::Variable(_) => 1,
+            Node::Lit(_) => 2,
+            Node::Add(_, _) => 3,
+            Node::Mul(_, _) => 4,
+            Node::Div(_, _) => 5,
+            Node::Exp(_) => 6,
+            Node::Log(_) => 7,
+            Node::Pow(_, _) => 8,
+            Node::Max(_, _) => 9,
+        }
+    }
+
+    pub fn word(self) -> u64
+        ensures { result ≡ word_of self }
+    {
+        match self {
+            Node::Empty => 0,
+            Node::Variable(v) => v as u64,
+            Node::Lit(z) => literal::to_word(z),
+            Node::Add(a, b) => joined(a, b),
+            Node::Mul(a, b) => joined(a, b),
+            Node::Div(a, b) => joined(a, b),
+            Node::Exp(a) => a as u64,
+            Node::Log(a) => a as u64,
+            Node::Pow(a, n) => joined(a, n),
+            Node::Max(a, b) => joined(a, b),
+        }
+    }
+
+    // Its parts, the left or only part first.
+    pub fn parts(self) -> Parts
+        ensures { parts_in result ≡ parts self }
+    {
+        match self {
+            Node::Empty => Parts::None,
+            Node::Variable(_) => Parts::None,
+            Node::Lit(_) => Parts::None,
+            Node::Add(a, b) => Parts::Two(a, b),
+            Node::Mul(a, b) => Parts::Two(a, b),
+            Node::Div(a, b) => Parts::Two(a, b),
+            Node::Exp(a) => Parts::One(a),
+            Node::Log(a) => Parts::One(a),
+            Node::Pow(a, _) => Parts::One(a),
+            Node::Max(a, b) => Parts::Two(a, b),
+        }
+    }
+
+    // Its parts and how many they are: a loop goes over them, with one call for all. A part that a node does not have is 0.
+    pub fn counted_parts(self) -> CountedParts
+        ensures { Counted (parts self) result }
+    {
+        match self.parts() {
+            Parts::None => CountedParts {
+                count: 0,
+                left: 0,
+                right: 0,
+            },
+            Parts::One(a) => CountedParts {
+                count: 1,
+                left: a,
+                right: 0,
+            },
+            Parts::Two(a, b) => CountedParts {
+                count: 2,
+                left: a,
+                right: b,
+            },
+        }
+    }
+
+    // The node with other parts; a node with one part takes the left one.
+    pub fn with_parts(self, left: u32, right: u32) -> Node
+        ensures { result ≡ with_parts self left right }
+    {
+        match self {
+            Node::Empty => self,
+            Node::Variable(_) => self,
+            Node::Lit(_) => self,
+            Node::Add(_, _) => Node::Add(left, right),
+            Node::Mul(_, _) => Node::Mul(left, right),
+            Node::Div(_, _) => Node::Div(left, right),
+            Node::Exp(_) => Node::Exp(left),
+            Node::Log(_) => Node::Log(left),
+            Node::Pow(_, n) => Node::Pow(left, n),
+            Node::Max(_, _) => Node::Max(left, right),
+        }
     }
 }

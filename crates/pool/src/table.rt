@@ -1,13 +1,59 @@
 // The pool: the two tables with the count, and what is done with them: reading a node, appending one.
 ghost use Rattle.std.specs.Prelude.{◌≡◌};
-ghost use Rattle.pool.specs.Pool.{node_in, node_at, empty, append};
+ghost use Rattle.pool.specs.Pool.{node_at, empty, append};
+ghost use Rattle.pool.specs.Tables.{nodes};
 ghost use Rattle.pool.specs.Made.{made};
+ghost use Rattle.pool.specs.WordHalves.{left_in, right_in};
 
-use crate::node::Node;
+use crate::node::{HALF, Node};
 use refusals::Refusal;
 
 // How many nodes a pool holds at most.
 pub const LIMIT: usize = 4096;
+
+// Both tables of a pool that is only read, as they lie where they are lent.
+#[derive(Clone, Copy)]
+pub struct Tables<'a> {
+    pub kinds: &'a [u8; LIMIT],
+    pub words: &'a [u64; LIMIT],
+}
+
+impl<'a> Tables<'a> {
+    // The node at a number.
+    #[tactic(auto, unfolding(crate::specs::Pool::node_in))]
+    pub fn node(self, i: u32) -> Node
+        ensures { result ≡ nodes self.entry i }
+    {
+        let at = i as usize;
+        if at < LIMIT {
+            return Node::decode(self.kinds[at], self.words[at]);
+        }
+        Node::Empty
+    }
+
+    // The low half of the word at a number: the left of two parts, or the base of a Pow. Read from the table, since a node made by value is stored in pieces and
+    // read back whole, which a processor waits for.
+    pub fn left(self, i: u32) -> u32
+        ensures { result ≡ left_in self.entry.words.now i }
+    {
+        let at = i as usize;
+        if at < LIMIT {
+            return (self.words[at] % HALF) as u32;
+        }
+        0
+    }
+
+    // The high half: the right of two parts, or the exponent of a Pow.
+    pub fn right(self, i: u32) -> u32
+        ensures { result ≡ right_in self.entry.words.now i }
+    {
+        let at = i as usize;
+        if at < LIMIT {
+            return (self.words[at] / HALF) as u32;
+        }
+        0
+    }
+}
 
 // Both tables, the number of the next node, and the number at which there is no room.
 #[derive(Drop)]
@@ -20,6 +66,7 @@ pub struct Pool {
 
 impl Pool {
     // A pool of no nodes, with room for as many as there can be.
+    #[tactic(auto, unfolding(crate::specs::Pool::empty))]
     pub fn empty() -> Pool
         ensures { result ≡ empty }
     {
@@ -31,14 +78,26 @@ impl Pool {
         }
     }
 
+    // Its tables, to be read.
+    pub fn tables(&self) -> Tables<'_>
+        ensures kinds { result.kinds.now ≡ self.now.kinds }
+        ensures words { result.words.now ≡ self.now.words }
+    {
+        Tables {
+            kinds: &self.kinds,
+            words: &self.words,
+        }
+    }
+
     // The node at a number.
     pub fn node(&self, i: u32) -> Node
         ensures { result ≡ node_at self.now i }
     {
-        node_at(&self.kinds, &self.words, i)
+        self.tables().node(i)
     }
 
     // One node more: its number.
+    #[tactic(auto, unfolding(crate::specs::Pool::append))]
     pub fn append(&mut self, node: Node) -> Result<u32, Refusal>
         ensures { made result self.new ≡ append node self.old }
     {
@@ -47,20 +106,9 @@ impl Pool {
         if self.end <= count || LIMIT <= at {
             return Err(Refusal::PoolFull);
         }
-        self.kinds[at] = crate::node::kind_of(node);
-        self.words[at] = crate::node::word_of(node);
+        self.kinds[at] = node.kind();
+        self.words[at] = node.word();
         self.count = count + 1;
         Ok(count)
     }
-}
-
-// The node at a number of two tables that are only read.
-pub fn node_at(kinds: &[u8; LIMIT], words: &[u64; LIMIT], i: u32) -> Node
-    ensures { result ≡ node_in kinds.now words.now i }
-{
-    let at = i as usize;
-    if at < LIMIT {
-        return crate::node::decode(kinds[at], words[at]);
-    }
-    Node::Empty
 }
