@@ -12,23 +12,19 @@ use lib.ListN.{length, get_or, take, drop, set, length-set, drop_of_length-le}
 use lib.Seq.{take-nil, take-suc-set, drop-cons}
 use Rattle.std.specs.List.{slice_split, onto_first}
 use Rattle.std.proofs.lemmas.List.Splits.{slice_split-cons_yes, slice_split-cons_no}
-use borrow.Author.Tests.{lt-ltb, le-ltb, ltb-true, ltb-false}
+use borrow.Author.Tests.{ltb-true, ltb-false}
+use denote.Param.Members.{Mut}
+use denote.Ref.{Bor}
+use Rattle.std.specs.Fn.{CalledAt}
+use Rattle.std.specs.Slice.Iter.{split_rest, split_done, split_callee, split_steps}
+use Rattle.std.proofs.lemmas.Iterator.{YieldsList}
+use Rattle.std.proofs.lemmas.Iterator.Splits.{YieldsList-from_slice_split}
 use Rattle.std.specs.Prelude.{Option, Some, None}
 use Rattle.sheet_text.specs.Line.{joined, fields}
 use Rattle.sheet_line.specs.Split.{content_length, split}
 use Rattle.sheet_line.proofs.Splitting.{split_content, some_field}
 use Rattle.key_values.specs.Values.{value_of, and_then, each_of, values_in, values_of}
 use Rattle.key_values.specs.Filled.{at_most, Fills, kept, place_after}
-
--- ---- one value more
-
-pub has_place : (table : List Float) (n : ℕ) (x : Float) → n < length table → (n + 1 ≡ place_after n table) × (set table n x ≡ kept table n x)
-unfolding kept place_after
-has_place table n x h = (omega arith, rw (lt-ltb n (length table) h))
-
-pub has_none : (table : List Float) (n : ℕ) (x : Float) → n ≤ length table → length table ≤ n → (n ≡ place_after n table) × (table ≡ kept table n x)
-unfolding kept place_after
-has_none table n x within h = (omega arith, rw (le-ltb n (length table) h))
 
 -- ---- the fields
 
@@ -45,11 +41,16 @@ split_is (b ∷ bs) = go (eqb b 32) refl (split_is bs)
     go true e h = slice_split-cons_yes (λ x. eqb x 32) b bs e ∙ ap (λ (l : List (List ℕ)). [] ∷ l) h
     go false e h = slice_split-cons_no (λ x. eqb x 32) b bs e ∙ ap (onto_first b) h ∙ same (split bs)
 
-pub in_fields : (text : List ℕ) (k : ℕ) (field : List ℕ) → (k < length (slice_split (λ b. eqb b 32) text)) × (field ≡ get_or (slice_split (λ b. eqb b 32) text) k field) → (k < length (split text)) × (field ≡ get_or (split text) k field)
-in_fields text k field t = rw (split_is text) at t
-
-pub all_fields : (text : List ℕ) {k : ℕ} → k ≡ length (slice_split (λ b. eqb b 32) text) → k ≡ length (split text)
-all_fields text e = e ∙ ap length (split_is text)
+-- the fields of a text, as they are yielded one by one
+pub fields_yielded :
+    {F : Type 0} {s : _} (g : Mut F (Bor ℕ × Unit {0}) Bool) {f : F} (text : List ℕ)
+    → split_rest s ≡ text
+    → split_done s ≡ false
+    → split_callee s ≡ f
+    → ((x : ℕ) (b : Bool) (q : F) → CalledAt g f x b q → (q ≡ f) × (b ≡ eqb x 32))
+    → YieldsList (split_steps g) (λ x. x.now) s (split text)
+fields_yielded {s = s} g text rest done callee computes =
+    rw (split_is text) at (YieldsList-from_slice_split {s = s} g (λ b. eqb b 32) text rest done callee computes)
 
 -- ---- the table
 

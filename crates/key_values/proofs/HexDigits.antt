@@ -10,12 +10,12 @@ use native.Mathlib.Omega.{arith}
 use lib.Dec.{leb}
 use lib.ListN.{length, get_or, drop, drop_of_length-le}
 use lib.Seq.{drop-cons}
-use borrow.Author.Tests.{leb-true, eq-eqb, ne_eqb}
+use borrow.Author.Tests.{leb-true}
 use mir.Syntax.{w64}
 use mir.Val.{bits}
 use Rattle.std.specs.Prelude.{Option, Some, None}
 use Rattle.std.specs.Option.{option_and_then}
-use Rattle.key_values.specs.Values.{bits_digits, hex_digit, hex_from, bits_of}
+use Rattle.key_values.specs.Values.{bits_digits, hex_digit, hex_from}
 
 -- a digit's value is below 16
 none_is : {A : Type 0} {d : ℕ} → None ≡ Some d → A
@@ -81,11 +81,3 @@ module _ (bytes : List ℕ) (n i : ℕ) (r : Reading bytes n i) (h : i < length 
 pub ends : (bytes : List ℕ) (n i : ℕ) → Reading bytes n i → length bytes ≤ i → Some n ≡ hex_from 0 bytes
 unfolding hex_from
 ends bytes n i r h = ap (hex_from n) (sym (drop_of_length-le bytes h)) ∙ r.gives
-
-pub as_many : (bytes : List ℕ) → length bytes ≡ bits_digits → hex_from 0 bytes ≡ bits_of bytes
-unfolding bits_of
-as_many bytes e = rw (eq-eqb (length bytes) bits_digits e)
-
-pub not_as_many : (bytes : List ℕ) → (length bytes ≡ bits_digits → ⊥) → None ≡ bits_of bytes
-unfolding bits_of
-not_as_many bytes e = rw (ne_eqb (length bytes) bits_digits e)

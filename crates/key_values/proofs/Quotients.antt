@@ -1,19 +1,16 @@
 -- Decimals: powers of ten that fit, and the digits on both sides of a point read in turn.
 -- Assumes nothing.
 use mathlib.Core.Path.{◌≡◌, refl, ap, sym, ◌∙◌}
-use mathlib.Core.Bool.{Bool, true, false, ◌&&◌}
+use mathlib.Core.Bool.{Bool, true, false, ◌&&◌, cond}
 use mathlib.Core.List.{List, [], ◌∷◌, ◌++◌}
 use Prim.Native.Nat.{ℕ, suc, ◌+◌, ◌-◌, ◌*◌, ◌^◌, ◌≤◌, ◌<◌}
 use native.Mathlib.Nat.{pow-succ', pow-le-pow_right, mul-le-mul_right}
-use native.Mathlib.Numerals.{add-one}
 use native.Mathlib.Omega.{arith}
-use lib.Dec.{leb, ltb}
-use lib.Ieee.{binary64, of_bits}
+use lib.Dec.{leb, ltb, eqb}
+use lib.Pointwise.{pointwise}
 use lib.ListN.{length, take, drop, length-append, length-drop}
 use lib.Seq.{length-take-le}
-use borrow.Author.Tests.{le-leb, lt-leb, lt-ltb, le-ltb, eq-eqb, ne_eqb, leb-true}
-use mir.Syntax.{w64}
-use mir.Val.{bits}
+use borrow.Author.Tests.{le-leb, lt-leb, lt-ltb, le-ltb, leb-true}
 use Rattle.literal.specs.Literal.{greatest}
 use Rattle.std.specs.Prelude.{Option, Some, None}
 use Rattle.sheet_text.specs.Line.{when, is_digit, digits_from}
@@ -21,19 +18,12 @@ use Rattle.sheet_line.specs.Cut.{cut, cut_number}
 use Rattle.sheet_line.specs.Split.{first_at}
 use Rattle.sheet_line.proofs.Asking.{no_value}
 use Rattle.sheet_line.proofs.Numbers.{goes_on}
-use Rattle.key_values.specs.Values.{most_digits, minus, point, quotient_of, divided_by, of_digits, unsigned_of, decimal_of, bits_of, value_of}
+use Rattle.key_values.specs.Values.{most_digits, minus, point, quotient_of, divided_by, of_digits, unsigned_of, decimal_of}
 
 -- ---- powers of ten
 
 pub power_within : (k : ℕ) → k ≤ most_digits → 10 ^ k ≤ greatest
 power_within k h = let p : 10 ^ k ≤ 10 ^ most_digits = pow-le-pow_right (omega arith) h in omega arith
-
--- one more factor
-pub power_turn : (i : ℕ) {p : ℕ} → p ≡ 10 ^ i → 10 * p ≡ 10 ^ (i + 1)
-power_turn i e = rw (add-one i, pow-succ' 10 i, e)
-
-pub power_fits : (i : ℕ) {k p : ℕ} → p ≡ 10 ^ i → i < k → k ≤ most_digits → 10 * p < 2 ^ bits w64
-power_fits i e h m = let q = power_within (i + 1) (omega arith) in let s = power_turn i e in omega arith
 
 -- ---- digits in turn
 
@@ -173,25 +163,20 @@ module _ (negative : Bool) (bytes : List ℕ) where
 
 -- ---- the minus
 
-pub no_byte : (bytes : List ℕ) → length bytes ≡ 0 → None ≡ decimal_of bytes
+pub with_minus : (bytes : List ℕ) → pointwise eqb (take 1 bytes) (minus ∷ []) ≡ true → unsigned_of true (drop 1 bytes) ≡ decimal_of bytes
 unfolding decimal_of
-no_byte [] e = refl
-no_byte (b ∷ bs) e = absurd (omega arith)
+with_minus [] e = let z : ◌≡◌ {A = ℕ} 0 1 = cc in absurd (omega arith)
+with_minus (b ∷ bs) e = go (eqb b minus) e
+  where
+    go : (t : Bool) → t && true ≡ true → unsigned_of true bs ≡ cond t (unsigned_of true bs) (unsigned_of false (b ∷ bs))
+    go true k = refl
+    go false k = let z : ◌≡◌ {A = ℕ} 0 1 = cc in absurd (omega arith)
 
-pub with_minus : (bytes : List ℕ) (b : ℕ) (bs : List ℕ) → bytes ≡ b ∷ bs → b ≡ minus → unsigned_of true bs ≡ decimal_of bytes
-unfolding decimal_of
-with_minus bytes b bs is e = rw (is, eq-eqb b minus e) refl
-
-pub without_minus : (bytes : List ℕ) (b : ℕ) (bs : List ℕ) → bytes ≡ b ∷ bs → (b ≡ minus → ⊥) → unsigned_of false bytes ≡ decimal_of bytes
-unfolding decimal_of
-without_minus bytes b bs is e = rw (is, ne_eqb b minus e) refl
-
--- ---- bits or a decimal
-
-pub from_bits : (bytes : List ℕ) {b : ℕ} → Some b ≡ bits_of bytes → Some (of_bits binary64 b) ≡ value_of bytes
-unfolding value_of
-from_bits bytes e = rw (sym e) refl
-
-pub from_decimal : (bytes : List ℕ) → None ≡ bits_of bytes → decimal_of bytes ≡ value_of bytes
-unfolding value_of
-from_decimal bytes e = rw (sym e) refl
+pub without_minus : (bytes : List ℕ) → pointwise eqb (take 1 bytes) (minus ∷ []) ≡ false → unsigned_of false bytes ≡ decimal_of bytes
+unfolding decimal_of unsigned_of first_at
+without_minus [] e = refl
+without_minus (b ∷ bs) e = go (eqb b minus) e
+  where
+    go : (t : Bool) → t && true ≡ false → unsigned_of false (b ∷ bs) ≡ cond t (unsigned_of true bs) (unsigned_of false (b ∷ bs))
+    go true k = let z : ◌≡◌ {A = ℕ} 0 1 = cc in absurd (omega arith)
+    go false k = refl

@@ -18,6 +18,7 @@ fn digit(byte: u8) -> Option<u64>
 }
 
 // The number of 16 digits.
+#[tactic(auto, using(crate::proofs::HexDigits::starts, crate::proofs::HexDigits::no_digit, crate::proofs::HexDigits::turn, crate::proofs::HexDigits::fits, crate::proofs::HexDigits::ends))]
 fn hex(bytes: &[u8]) -> Option<u64>
     requires { length bytes.now ≡ bits_digits }
     ensures { result ≡ hex_from 0 bytes.now }
@@ -31,6 +32,7 @@ fn hex(bytes: &[u8]) -> Option<u64>
 }
 
 // The bits, where the text has just as many digits as they have.
+#[tactic(auto, unfolding(crate::specs::Values::bits_of))]
 pub fn bits(bytes: &[u8]) -> Option<u64>
     ensures { result ≡ bits_of bytes.now }
 {

@@ -1,6 +1,6 @@
 -- What a line asks for, from its fields as they were read: a field that is no number is `usage`.
 -- Assumes nothing.
-use Rattle.std.proofs.Common.{◌≡◌, refl, ap, sym, ◌∙◌, true, false, eqb, List, [], ◌∷◌, length, take, drop, pos}
+use Rattle.std.proofs.Common.{◌≡◌, refl, ap, sym, ◌∙◌, List, [], ◌∷◌, length, take, pos}
 use Prim.Native.Nat.{ℕ, zero, suc, ◌≤◌, ◌<◌}
 use native.Mathlib.Omega.{arith}
 use lib.IntN.{neg_ℤ}
@@ -8,13 +8,12 @@ use borrow.Author.Tests.{eq-eqb, ne_eqb, le-leb, lt-leb}
 use mir.Syntax.{w64}
 use mir.Val.{SFits}
 use Rattle.std.specs.Prelude.{Option, Some, None}
-use Rattle.std.specs.List.{list_any}
 use Rattle.literal.proofs.Sizes.{fits_of_size, size_negation}
-use Rattle.sheet_text.specs.Line.{Line, decimal_of, negative, positive, point_of, line_of, longest_line, parse}
+use Rattle.sheet_text.specs.Line.{decimal_of, negative, positive, point_of, line_of, longest_line, parse}
 use Rattle.sheet_line.specs.Cut.{cut_at, cut, cut_number, cut_whole, cut_line}
-use Rattle.sheet_line.specs.Split.{content_length, first_space, split}
+use Rattle.sheet_line.specs.Split.{content_length, split}
 use Rattle.sheet_line.proofs.Cutting.{cut_within}
-use Rattle.sheet_line.proofs.Splitting.{split_content, one_field, first_field, two_fields, no_space_split}
+use Rattle.sheet_line.proofs.Splitting.{split_content}
 
 pub no_value : {A : Type 0} (x : A) → None ≡ Some x → ⊥
 no_value x e = let z : ◌≡◌ {A = ℕ} 0 1 = cc in omega arith
@@ -80,41 +79,17 @@ module _ (bytes : List ℕ) (b : ℕ) (bs : List ℕ) (is : bytes ≡ b ∷ bs) 
   pub plain_some : {n : ℕ} → Some n ≡ cut_number (decimal_of bytes) → Some (pos n) ≡ cut_whole (point_of bytes)
   plain_some e = some_positive (decimal_of bytes) e ∙ ap cut_whole without_minus
 
--- fields
-pub two_left : (var rest : List ℕ) {r : Line} → length rest ≤ first_space rest → r ≡ cut_line (line_of (var ∷ rest ∷ [])) → r ≡ cut_line (line_of (var ∷ split rest))
-two_left var rest h e = e ∙ ap (λ (l : List (List ℕ)). cut_line (line_of (var ∷ l))) (sym (one_field rest h))
-
-abbrev IsParts : List ℕ → List ℕ → List ℕ → Type 0
-IsParts bytes before behind = (first_space bytes < length bytes) × (before ≡ take (first_space bytes) bytes) × (behind ≡ drop (suc (first_space bytes)) bytes)
-
-parts_split : (bytes before behind : List ℕ) → IsParts bytes before behind → split bytes ≡ before ∷ split behind
-parts_split bytes before behind p = rw (p.1, p.2) (first_field bytes p.0)
-
-pub more_left : (var rest order place : List ℕ) → IsParts rest order place → list_any (λ y. eqb y 32) place ≡ true → None ≡ cut_line (line_of (var ∷ split rest))
-more_left var rest order place p h = rw (parts_split rest order place p) (go (split place) (two_fields place h))
-  where
-    go : (l : List (List ℕ)) → 1 < length l → None ≡ cut_line (line_of (var ∷ order ∷ l))
-    go [] k = absurd (omega arith)
-    go (f ∷ []) k = absurd (omega arith)
-    go (f ∷ q ∷ more) k = refl
-
-pub three_left : (var rest order place : List ℕ) {r : Line} → IsParts rest order place → list_any (λ y. eqb y 32) place ≡ false → r ≡ cut_line (line_of (var ∷ order ∷ place ∷ [])) → r ≡ cut_line (line_of (var ∷ split rest))
-three_left var rest order place p h e =
-    e
-    ∙ ap (λ (l : List (List ℕ)). cut_line (line_of (var ∷ order ∷ l))) (sym (no_space_split place h))
-    ∙ ap (λ (l : List (List ℕ)). cut_line (line_of (var ∷ l))) (sym (parts_split rest order place p))
+-- more than three fields
+pub too_many : (var order : List ℕ) (more : List (List ℕ)) → 1 < length more → line_of (var ∷ order ∷ more) ≡ None
+too_many var order [] h = absurd (omega arith)
+too_many var order (f ∷ []) h = absurd (omega arith)
+too_many var order (f ∷ q ∷ more) h = refl
 
 -- the line
 pub too_long : (line : List ℕ) → longest_line < length line → None ≡ cut_line (parse line)
 unfolding parse
 too_long line h = rw (lt-leb (length line) longest_line h)
 
-not_too_long : (line : List ℕ) → length line ≤ longest_line → parse line ≡ line_of (split (take (content_length line) line))
+pub not_too_long : (line : List ℕ) → length line ≤ longest_line → parse line ≡ line_of (split (take (content_length line) line))
 unfolding parse
 not_too_long line h = rw (le-leb (length line) longest_line h) (ap line_of (split_content line))
-
-pub one_is_usage : (line content : List ℕ) → length line ≤ longest_line → content ≡ take (content_length line) line → length content ≤ first_space content → None ≡ cut_line (parse line)
-one_is_usage line content h e k = rw (not_too_long line h, sym e, one_field content k) refl
-
-pub from_start : (line content var rest : List ℕ) {r : Line} → length line ≤ longest_line → content ≡ take (content_length line) line → IsParts content var rest → r ≡ cut_line (line_of (var ∷ split rest)) → r ≡ cut_line (parse line)
-from_start line content var rest h e p f = rw (not_too_long line h, sym e, parts_split content var rest p) f

@@ -1,40 +1,26 @@
 -- The fields of a line are what its content is split into, and a split starts with what stands before the first space.
 -- Assumes nothing.
-use mathlib.Core.Path.{◌≡◌, refl, ap, sym}
-use mathlib.Core.Bool.{Bool, true, false, not, ◌||◌, cond}
-use mathlib.Core.List.{List, [], ◌∷◌, ◌++◌}
+use mathlib.Core.Path.{◌≡◌, refl, ap, sym, ◌∙◌}
+use mathlib.Core.Bool.{Bool, true, false, not, ◌&&◌, ◌||◌, cond}
+use mathlib.Core.List.{List, [], ◌∷◌}
 use Prim.Native.Nat.{ℕ, suc, ◌+◌, ◌-◌, ◌≤◌, ◌<◌}
 use native.Mathlib.Numerals.{add-one}
 use native.Mathlib.Omega.{arith}
 use lib.Dec.{eqb}
-use lib.ListN.{length, take, drop, length-drop, length-append}
+use lib.Pointwise.{pointwise}
+use denote.Ref.{Bor}
+use Rattle.std.specs.Option.{MatchOption, unwrap_or}
+use lib.ListN.{length, take, drop, length-drop}
 use Rattle.std.specs.List.{position, position_or_len}
 use Rattle.std.specs.Prelude.{Option, Some, None}
 use lib.Dec.{ltb}
 use lib.Seq.{take_all}
-use Rattle.std.proofs.Math.Seq.{take-append_seam}
 use Rattle.std.specs.List.{list_any}
 use borrow.Author.Tests.{ltb-true, ltb-false}
-use borrow.Author.Tests.{eq-eqb, ne_eqb}
 use Rattle.sheet_text.specs.Line.{fields, joined}
 use Rattle.sheet_line.specs.Split.{content_length, first_at, first_space, split}
 
 -- the content
-pub content_within : (bytes : List ℕ) → content_length bytes ≤ length bytes
-unfolding content_length
-content_within [] = omega arith
-content_within (b ∷ []) = go (eqb b 10)
-  where
-    go : (t : Bool) → cond t 0 1 ≤ 1
-    go true = omega arith
-    go false = omega arith
-content_within (b ∷ c ∷ bs) = let h = content_within (c ∷ bs) in omega arith
-
-pub no_content : (bytes : List ℕ) → length bytes ≡ 0 → 0 ≡ content_length bytes
-unfolding content_length
-no_content [] e = refl
-no_content (b ∷ bs) e = absurd (omega arith)
-
 pub split_content : (bytes : List ℕ) → fields bytes ≡ split (take (content_length bytes) bytes)
 unfolding fields split content_length
 split_content [] = refl
@@ -45,26 +31,30 @@ split_content (b ∷ []) = go (eqb b 10)
     go false = refl
 split_content (b ∷ c ∷ bs) = ap (λ (l : List (List ℕ)). cond (eqb b 32) ([] ∷ l) (joined b l)) (split_content (c ∷ bs))
 
--- by the last byte
-ended : (content : List ℕ) (b : ℕ) → b ≡ 10 → content_length (content ++ b ∷ []) ≡ length content
+-- whether the last byte is a line end
+abbrev ends_a_line : List ℕ → Bool
+ends_a_line bytes = pointwise eqb (drop (length bytes - 1) bytes) (10 ∷ [])
+
+content_by_last_byte : (bytes : List ℕ) → content_length bytes ≡ cond (ends_a_line bytes) (length bytes - 1) (length bytes)
 unfolding content_length
-ended [] b e = rw (eq-eqb b 10 e) refl
-ended (a ∷ []) b e = rw (eq-eqb b 10 e) refl
-ended (a ∷ c ∷ bs) b e = ap suc (ended (c ∷ bs) b e)
+content_by_last_byte [] = refl
+content_by_last_byte (b ∷ []) = go (eqb b 10)
+  where
+    go : (t : Bool) → ◌≡◌ {A = ℕ} (cond t 0 1) (cond (t && true) 0 1)
+    go true = refl
+    go false = refl
+content_by_last_byte (b ∷ c ∷ bs) =
+    let shorter : length (b ∷ c ∷ bs) - 1 ≡ suc (length (c ∷ bs) - 1) = omega arith in
+    rw shorter (ap suc (content_by_last_byte (c ∷ bs)) ∙ go (ends_a_line (c ∷ bs)))
+  where
+    go : (t : Bool) → suc (cond t (length (c ∷ bs) - 1) (length (c ∷ bs))) ≡ cond t (suc (length (c ∷ bs) - 1)) (length (b ∷ c ∷ bs))
+    go true = refl
+    go false = refl
 
-unended : (content : List ℕ) (b : ℕ) → (b ≡ 10 → ⊥) → content_length (content ++ b ∷ []) ≡ suc (length content)
-unfolding content_length
-unended [] b e = rw (ne_eqb b 10 e) refl
-unended (a ∷ []) b e = rw (ne_eqb b 10 e) refl
-unended (a ∷ c ∷ bs) b e = ap suc (unended (c ∷ bs) b e)
-
-pub with_line_end : (bytes content : List ℕ) (b : ℕ) → bytes ≡ content ++ b ∷ [] → b ≡ 10 → content ≡ take (content_length bytes) bytes
-with_line_end bytes content b e h = rw (e, ended content b h) (sym (take-append_seam content (b ∷ [])))
-
-pub without_line_end : (bytes content : List ℕ) (b : ℕ) → bytes ≡ content ++ b ∷ [] → (b ≡ 10 → ⊥) → bytes ≡ take (content_length bytes) bytes
-without_line_end bytes content b e h =
-    let long : length bytes ≤ content_length bytes = rw (e, unended content b h) (omega (arith, length-append content (b ∷ []))) in
-    sym (take_all (content_length bytes) bytes long)
+-- the bytes without that line end, or all of them
+pub content_of_whole : (bytes : List ℕ) (whole : Bor (List ℕ)) (r : Option (Bor (List ℕ))) → whole.now ≡ bytes → MatchOption r (ends_a_line bytes ≡ false) (λ x. (ends_a_line bytes ≡ true) × (x.now ≡ take (length bytes - 1) bytes) × (length x.now + 1 ≡ length bytes)) → (unwrap_or r whole).now ≡ take (content_length bytes) bytes
+content_of_whole bytes whole None e h = rw (content_by_last_byte bytes, h) (e ∙ sym (take_all (length bytes) bytes (omega arith)))
+content_of_whole bytes whole (Some x) e h = rw (content_by_last_byte bytes, h.0) h.1
 
 -- the first byte that is the one wanted
 pub first_is_position : (wanted : ℕ) (bytes : List ℕ) → first_at wanted bytes ≡ position_or_len (λ b. eqb b wanted) bytes
@@ -103,17 +93,14 @@ one_found wanted bytes {at} e = go (ltb (position_or_len (λ b. eqb b wanted) by
     go false k f = grind arith
 
 -- what a split is
-no_space : (bytes : List ℕ) → length bytes ≤ first_space bytes → split bytes ≡ bytes ∷ []
+pub one_field : (bytes : List ℕ) → length bytes ≤ first_space bytes → split bytes ≡ bytes ∷ []
 unfolding split first_at
-no_space [] h = refl
-no_space (b ∷ bs) h = go (eqb b 32) (no_space bs) h
+one_field [] h = refl
+one_field (b ∷ bs) h = go (eqb b 32) (one_field bs) h
   where
     go : (t : Bool) → (length bs ≤ first_space bs → split bs ≡ bs ∷ []) → suc (length bs) ≤ cond t 0 (suc (first_space bs)) → cond t ([] ∷ split bs) (joined b (split bs)) ≡ (b ∷ bs) ∷ []
     go true later k = absurd (omega arith)
     go false later k = ap (joined b) (later (omega arith))
-
-pub one_field : (bytes : List ℕ) → length bytes ≤ first_space bytes → split bytes ≡ bytes ∷ []
-one_field bytes h = no_space bytes h
 
 pub first_field : (bytes : List ℕ) → first_space bytes < length bytes → split bytes ≡ take (first_space bytes) bytes ∷ split (drop (suc (first_space bytes)) bytes)
 unfolding split first_at
