@@ -5,7 +5,6 @@ ghost use Rattle.std.specs.Prelude.{◌≡◌};
 ghost use Rattle.refusals.specs.Numbers.{numbered};
 ghost use Rattle.engine_values.specs.Values.{evaluate_call, evaluate_residue_call, are_residues};
 
-use pool::LIMIT;
 use refusals::Refusal;
 use residue::Residues;
 
@@ -13,7 +12,7 @@ use residue::Residues;
 pub const VALUES_MAX: usize = 65_536;
 
 // The value of an expression as a double, from a table with one double for each variable.
-#[tactic(auto, unfolding(crate::specs::Values::evaluate_call))]
+#[tactic(auto, unfolding(crate::specs::Values::evaluate_call), using(lent::proofs::Calling::one_fits))]
 pub fn evaluate(
     kinds: &[u8],
     words: &[u64],
@@ -23,14 +22,12 @@ pub fn evaluate(
 ) -> Result<f64, Refusal>
     ensures { numbered result ≡ evaluate_call kinds.now words.now count root values.now }
 {
-    let mut k = [0u8; LIMIT];
-    let mut w = [0u64; LIMIT];
-    lent::take_whole(kinds, words, count, &mut k, &mut w)?;
+    let tables = lent::tables(kinds, words, count)?;
     lent::one_given(count, root)?;
     if VALUES_MAX < values.len() {
         return Err(Refusal::WrongValues);
     }
-    evaluate::evaluate_from(&k, &w, values, root as u32)
+    evaluate::evaluate_from(tables, values, root as u32)
 }
 
 // The fixed modulus, as a residue's type has it.
@@ -44,7 +41,7 @@ fn are_residues(values: &[u32]) -> bool
 }
 
 // The residue of an expression, from a table with one residue for each variable.
-#[tactic(auto, unfolding(crate::specs::Values::evaluate_residue_call))]
+#[tactic(auto, unfolding(crate::specs::Values::evaluate_residue_call), using(lent::proofs::Calling::one_fits, crate::proofs::Evaluates::residues_below))]
 pub fn evaluate_residue(
     kinds: &[u8],
     words: &[u64],
@@ -54,13 +51,11 @@ pub fn evaluate_residue(
 ) -> Result<u64, Refusal>
     ensures { numbered result ≡ evaluate_residue_call kinds.now words.now count root values.now }
 {
-    let mut k = [0u8; LIMIT];
-    let mut w = [0u64; LIMIT];
-    lent::take_whole(kinds, words, count, &mut k, &mut w)?;
+    let tables = lent::tables(kinds, words, count)?;
     lent::one_given(count, root)?;
     if !are_residues(values) {
         return Err(Refusal::WrongValues);
     }
     let residues = Residues::of(residue::MODULUS);
-    evaluate_residue::evaluate_residue_from(&k, &w, residues, values, root as u32)
+    evaluate_residue::evaluate_residue_from(tables, residues, values, root as u32)
 }

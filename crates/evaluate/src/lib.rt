@@ -3,12 +3,12 @@
 
 ghost use Rattle.std.specs.Prelude.{◌≡◌, Ok};
 ghost use Rattle.refusals.specs.Numbers.{numbered};
-ghost use Rattle.pool.specs.Pool.{node_in};
+ghost use Rattle.pool.specs.Tables.{nodes};
 ghost use Rattle.walks.specs.Evaluate.{value_of_variable, evaluate_node, evaluate};
 ghost use Rattle.evaluate.specs.Laws.{laws};
 ghost use Rattle.evaluate.specs.Operations.{applied};
 
-use pool::{LIMIT, Node};
+use pool::{LIMIT, Node, Tables};
 use refusals::Refusal;
 use value_walk::{Values, kept_at};
 
@@ -75,14 +75,9 @@ impl<'a> Values for Doubles<'a> {
 }
 
 // The value of the expression at a root.
-pub fn evaluate_from(
-    kinds: &[u8; LIMIT],
-    words: &[u64; LIMIT],
-    values: &[f64],
-    root: u32,
-) -> Result<f64, Refusal>
-    ensures { numbered result ≡ evaluate (node_in kinds.now words.now) values.now root }
+pub fn evaluate_from(tables: Tables<'_>, values: &[f64], root: u32) -> Result<f64, Refusal>
+    ensures { numbered result ≡ evaluate (nodes tables.entry) values.now root }
 {
     let mut kept = [0.0; LIMIT];
-    value_walk::value_from(&Doubles { values }, kinds, words, &mut kept, root)
+    value_walk::value_from(&Doubles { values }, tables, &mut kept, root)
 }

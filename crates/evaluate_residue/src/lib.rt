@@ -3,12 +3,12 @@
 
 ghost use Rattle.std.specs.Prelude.{◌≡◌, ◌<◌};
 ghost use Rattle.refusals.specs.Numbers.{numbered};
-ghost use Rattle.pool.specs.Pool.{node_in};
+ghost use Rattle.pool.specs.Tables.{nodes};
 ghost use Rattle.walks.specs.EvaluateResidue.{value_of_variable, residue_node, evaluate_residue};
 ghost use Rattle.evaluate_residue.specs.Residues.{Residues};
 ghost use Rattle.evaluate_residue.specs.Laws.{laws};
 
-use pool::{LIMIT, Node};
+use pool::{LIMIT, Node, Tables};
 use refusals::Refusal;
 use value_walk::{Values, kept_at};
 
@@ -60,16 +60,15 @@ impl<'a> Values for Given<'a> {
 
 // The residue of the expression at a root.
 pub fn evaluate_residue_from(
-    kinds: &[u8; LIMIT],
-    words: &[u64; LIMIT],
+    tables: Tables<'_>,
     residues: residue::Residues,
     values: &[u32],
     root: u32,
 ) -> Result<u64, Refusal>
     requires { Residues residues.modulus values.now }
-    ensures { numbered result ≡ evaluate_residue residues.modulus (node_in kinds.now words.now) values.now root }
+    ensures { numbered result ≡ evaluate_residue residues.modulus (nodes tables.entry) values.now root }
 {
     let mut kept = [0; LIMIT];
     let given = Given { residues, values };
-    value_walk::value_from(&given, kinds, words, &mut kept, root)
+    value_walk::value_from(&given, tables, &mut kept, root)
 }

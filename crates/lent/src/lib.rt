@@ -2,22 +2,21 @@
 // stay three parameters in every call, since the C interface lends them so.
 #![tactic(auto)]
 
-ghost use Rattle.std.specs.Prelude.{◌≡◌, true, [], ◌∷◌, leb, OnOk, Ok, Err};
+ghost use Rattle.std.specs.Prelude.{◌≡◌, true, [], ◌∷◌, leb, length, ◌↔◌, OnOk, IfOk, IsSome, IfSome, Ok, Err};
 ghost use Rattle.refusals.specs.Refusals.{broken_pool, unknown_node, unknown_variable};
 ghost use Rattle.refusals.specs.Numbers.{numbered};
-ghost use Rattle.pool.specs.Pool.{is_pool, empty};
+ghost use Rattle.pool.specs.Pool.{limit, is_pool, empty};
 ghost use Rattle.pool.specs.Made.{made};
 ghost use Rattle.pool.specs.Nodes.{all_below, greatest_variable};
 ghost use Rattle.constructor_laws.specs.Grown.{Grown};
-ghost use Rattle.lent.specs.Lent.{demanded};
+ghost use Rattle.lent.specs.Lent.{demanded, as_demanded};
 ghost use Rattle.lent.specs.Call.{returned, leaves, lent_pool, lent_pool_to, Appended};
 
-mod copies;
 mod rules;
 
-use pool::{LIMIT, Pool};
+use pool::{Pool, Tables};
 use refusals::Refusal;
-pub use rules::is_pool;
+use rules::keeps_rules;
 
 // 1, or both tables and the count as a pool. The entries below the count are copied over an empty pool, since a pool is 0 from the count on. A test
 // that copies on its way is slower: it stops at the first entry that breaks a rule, and so goes entry by entry through all the zeros.
@@ -37,26 +36,30 @@ pub fn take_in(kinds: &[u8], words: &[u64], count: u64, pool: &mut Pool) -> Resu
     Ok(())
 }
 
-// As `take_in`, over two tables of any entries: all are copied. Where a call only reads the tables, the compiler leaves this copy out and reads the lent
-// ones; with `copy_from_slice` it does not, and an evaluation takes 2 µs more.
-#[tactic(auto, using(crate::proofs::Finishing::pool_sized))]
-pub fn take_whole(
-    kinds: &[u8],
-    words: &[u64],
-    count: u64,
-    k: &mut [u8; LIMIT],
-    w: &mut [u64; LIMIT],
-) -> Result<(), Refusal>
-    ensures tested { numbered result ≡ demanded (is_pool kinds.now words.now count) broken_pool }
-    ensures taken_kinds { OnOk result (k.new ≡ kinds.now) }
-    ensures taken_words { OnOk result (w.new ≡ words.now) }
+// Tables of the right lengths.
+fn sized<'a>(kinds: &'a [u8], words: &'a [u64]) -> Option<Tables<'a>>
+    ensures lengths { IsSome result ↔ (length kinds.now ≡ limit) × (length words.now ≡ limit) }
+    ensures lent_tables { IfSome result (λ tables. (tables.kinds.now ≡ kinds.now) × (tables.words.now ≡ words.now)) }
 {
-    if !is_pool(kinds, words, count) {
-        return Err(Refusal::BrokenPool);
-    }
-    copies::copy(kinds, k);
-    copies::copy(words, w);
-    Ok(())
+    Some(Tables { kinds: kinds.as_array()?, words: words.as_array()? })
+}
+
+// 1, or both tables as they lie where they are lent, for a call that only reads them: nothing is copied.
+#[tactic(auto, using(crate::proofs::Tested::lengths_break, crate::proofs::Tested::rules_decide))]
+pub fn tables<'a>(kinds: &'a [u8], words: &'a [u64], count: u64) -> Result<Tables<'a>, Refusal>
+    ensures tested { as_demanded (numbered result) ≡ demanded (is_pool kinds.now words.now count) broken_pool }
+    ensures lent_tables { IfOk result (λ tables. (tables.kinds.now ≡ kinds.now) × (tables.words.now ≡ words.now)) }
+{
+    sized(kinds, words)
+        .filter(|tables| keeps_rules(*tables, count))
+        .ok_or(Refusal::BrokenPool)
+}
+
+// Whether the tables and the count are a pool.
+pub fn is_pool(kinds: &[u8], words: &[u64], count: u64) -> bool
+    ensures { result ≡ is_pool kinds.now words.now count }
+{
+    tables(kinds, words, count).is_ok()
 }
 
 // The entries that work has appended and the new count, put back where the rest is the same already. Entry by entry: as copies of slices they would need memmove of

@@ -3,11 +3,12 @@
 
 ghost use Rattle.std.specs.Prelude.{◌≡◌, ◌≤◌, length};
 ghost use Rattle.pool.specs.Nodes.{parts};
-ghost use Rattle.pool.specs.Pool.{limit, node_in};
+ghost use Rattle.pool.specs.Pool.{limit};
+ghost use Rattle.pool.specs.Tables.{nodes};
 ghost use Rattle.pool.specs.Reaches.{some, reaches_at, reaches};
 ghost use Rattle.reached.specs.Kept.{test_of, kept_below, FoundBelow};
 
-use pool::{LIMIT, Node, Parts};
+use pool::{LIMIT, Node, Parts, Tables};
 
 // What is looked for: a test by name, since a closure would need its own contract, that it is the test of the definition, at each call.
 #[derive(Clone, Copy)]
@@ -42,7 +43,7 @@ fn kept_of_parts(found: &[bool; LIMIT], i: u32, node: Node) -> bool
     requires { i ≤ limit }
     ensures { result ≡ some (kept_below found.now i) (parts node) }
 {
-    match pool::parts_of(node) {
+    match node.parts() {
         Parts::None => false,
         Parts::One(a) => kept(found, i, a),
         Parts::Two(a, b) => kept(found, i, a) || kept(found, i, b),
@@ -57,32 +58,32 @@ fn node_reaches(found: &[bool; LIMIT], i: u32, test: Test, node: Node) -> bool
     if meets(test, node) {
         return true;
     }
-    if pool::kind_of(node) < ADD {
+    if node.kind() < ADD {
         return false;
     }
     kept_of_parts(found, i, node)
 }
 
 // The answers of the nodes before a number, the smaller ones first.
-fn fill(kinds: &[u8; LIMIT], words: &[u64; LIMIT], test: Test, found: &mut [bool; LIMIT], end: u32)
+fn fill(tables: Tables<'_>, test: Test, found: &mut [bool; LIMIT], end: u32)
     requires found_len { length found.old ≡ limit }
     requires end_le_limit { end ≤ limit }
-    ensures { FoundBelow (test_of test) (node_in kinds.now words.now) end found.new }
+    ensures { FoundBelow (test_of test) (nodes tables.entry) end found.new }
 {
     for i in 0..end {
-        found[i as usize] = node_reaches(found, i, test, pool::node_at(kinds, words, i));
+        found[i as usize] = node_reaches(found, i, test, tables.node(i));
     }
 }
 
 // Whether a node that meets the test is reached from the root: each node is looked at once.
-pub fn reaches(kinds: &[u8; LIMIT], words: &[u64; LIMIT], root: u32, test: Test) -> bool
-    ensures { result ≡ reaches (test_of test) (node_in kinds.now words.now) root }
+pub fn reaches(tables: Tables<'_>, root: u32, test: Test) -> bool
+    ensures { result ≡ reaches (test_of test) (nodes tables.entry) root }
 {
     let at = root as usize;
     if LIMIT <= at {
         return false;
     }
     let mut found = [false; LIMIT];
-    fill(kinds, words, test, &mut found, root + 1);
+    fill(tables, test, &mut found, root + 1);
     found[at]
 }

@@ -4,10 +4,11 @@
 ghost use Rattle.std.specs.Prelude.{◌≡◌, ◌<◌, ℕ, Result, Some, length};
 ghost use Rattle.refusals.specs.Numbers.{numbered};
 ghost use Rattle.pool.specs.declared.node.Node.{Node};
-ghost use Rattle.pool.specs.Pool.{limit, node_in};
+ghost use Rattle.pool.specs.Pool.{limit};
+ghost use Rattle.pool.specs.Tables.{nodes};
 ghost use Rattle.value_walk.specs.Walk.{NodeLaws, in_table, Ready, Keeps, Walked, value_of, nth};
 
-use pool::{LIMIT, Node, counted_parts};
+use pool::{LIMIT, Node, Tables};
 use refusals::Refusal;
 
 // What is done at a node, given what is kept of its parts.
@@ -39,19 +40,18 @@ pub fn kept_at<T: Copy>(kept: &[T], a: u32) -> T
 // small expression took five times as long, since the table is made anew at every call.
 pub fn value_from<V: Values>(
     of: &V,
-    kinds: &[u8; LIMIT],
-    words: &[u64; LIMIT],
+    tables: Tables<'_>,
     kept: &mut [V::Value],
     root: u32,
 ) -> Result<V::Value, Refusal>
     requires { length kept.old ≡ limit }
-    ensures { numbered result ≡ value_of (V.at_node of.now) (node_in kinds.now words.now) root }
+    ensures { numbered result ≡ value_of (V.at_node of.now) (nodes tables.entry) root }
 {
     if LIMIT <= root as usize {
         return Err(Refusal::BrokenPool);
     }
     let mut seen = [false; LIMIT];
-    value_at(of, kinds, words, kept, &mut seen, root)?;
+    value_at(of, tables, kept, &mut seen, root)?;
     Ok(kept_at(kept, root))
 }
 
@@ -59,27 +59,26 @@ pub fn value_from<V: Values>(
 // walk then takes the least of the stack.
 fn value_at<V: Values>(
     of: &V,
-    kinds: &[u8; LIMIT],
-    words: &[u64; LIMIT],
+    tables: Tables<'_>,
     kept: &mut [V::Value],
     seen: &mut [bool; LIMIT],
     i: u32,
 ) -> Result<(), Refusal>
     requires i_lt_limit { i < limit }
-    requires keeps { Keeps (V.at_node of.now) (node_in kinds.now words.now) kept.old seen.old }
-    ensures { Walked (V.at_node of.now) (node_in kinds.now words.now) i (numbered result) kept.old seen.old kept.new seen.new }
+    requires keeps { Keeps (V.at_node of.now) (nodes tables) kept.old seen.old }
+    ensures { Walked (V.at_node of.now) (nodes tables.entry) i (numbered result) kept.old seen.old kept.new seen.new }
 {
     if seen[i as usize] {
         return Ok(());
     }
-    let node = pool::node_at(kinds, words, i);
-    let parts = counted_parts(node);
+    let node = tables.node(i);
+    let parts = node.counted_parts();
     let mut part = parts.left;
     for _ in 0..parts.count {
         if i <= part {
             return Err(Refusal::BrokenPool);
         }
-        value_at(of, kinds, words, kept, seen, part)?;
+        value_at(of, tables, kept, seen, part)?;
         part = parts.right;
     }
     let x = of.joined(kept, node)?;

@@ -9,4 +9,4 @@ loop-i-init c = none_found _ _ _ c.requires.found_len
 
 pub loop-i-preserved : goal.loop-i-preserved
 loop-i-preserved c =
-    one_more_found _ c.loop-i.invariant _ (omega (arith, c.loop-i-test.true, c.requires.end_le_limit)) c.node_at.ensures c.node_reaches.ensures
+    one_more_found _ c.loop-i.invariant _ (omega (arith, c.loop-i-test.true, c.requires.end_le_limit)) c.node.ensures c.node_reaches.ensures

@@ -15,7 +15,7 @@ loop-init g t c = none_turned _ _ _ c.requires.keeps c.counted_parts-parts.ensur
 pub returns-then-i-part : goal.returns-then-i-part
 returns-then-i-part g t c =
     let parts = c.counted_parts-parts.ensures in
-    part_past _ _ (g.met.V.Values.laws c.args.of.now) c.node_at-node.ensures c.loop.invariant
+    part_past _ _ (g.met.V.Values.laws c.args.of.now) c.node-node.ensures c.loop.invariant
     (omega (arith, c.loop-test.true, parts.many)) c.if-i-part.true
 
 pub value_at-requires : goal.value_at-requires
@@ -30,19 +30,19 @@ returns-in_err-value_at g t c =
     let parts = c.counted_parts-parts.ensures in
     let p = err_from_is_err_and c.from_residual.result c.from_residual.ensures.1 in
     rw (p.1, p.2)
-    (part_stopped _ _ (g.met.V.Values.laws c.args.of.now) c.node_at-node.ensures c.loop.invariant
+    (part_stopped _ _ (g.met.V.Values.laws c.args.of.now) c.node-node.ensures c.loop.invariant
     (omega (arith, c.loop-test.true, parts.many)) c.if-i-part.false c.value_at.ensures (ap numbered c.in_err-value_at.was))
 
 pub loop-preserved : goal.loop-preserved
 loop-preserved g t c =
     let parts = c.counted_parts-parts.ensures in
-    part_done _ _ (g.met.V.Values.laws c.args.of.now) c.node_at-node.ensures c.loop.invariant
+    part_done _ _ (g.met.V.Values.laws c.args.of.now) c.node-node.ensures c.loop.invariant
     (omega (arith, c.loop-test.true, parts.many)) c.if-i-part.false c.value_at.ensures parts (ap numbered c.in_ok-value_at.was)
 
 pub joined-requires : goal.joined-requires
 joined-requires g t c =
     let parts = c.counted_parts-parts.ensures in
-    parts_ready _ _ (g.met.V.Values.laws c.args.of.now) c.node_at-node.ensures c.loop.invariant
+    parts_ready _ _ (g.met.V.Values.laws c.args.of.now) c.node-node.ensures c.loop.invariant
     (omega (arith, c.loop-test.false, parts.many)) c.requires.i_lt_limit
 
 pub returns-in_err-x : goal.returns-in_err-x
@@ -50,11 +50,11 @@ returns-in_err-x g t c =
     let parts = c.counted_parts-parts.ensures in
     let p = err_from_is_err_and c.from_residual-in_err-x.result c.from_residual-in_err-x.ensures.1 in
     rw (p.1, p.2)
-    (value_refused _ _ (g.met.V.Values.laws c.args.of.now) c.node_at-node.ensures c.loop.invariant
+    (value_refused _ _ (g.met.V.Values.laws c.args.of.now) c.node-node.ensures c.loop.invariant
     (omega (arith, c.loop-test.false, parts.many)) c.joined.ensures (ap numbered c.in_err-x.was))
 
 pub returns : goal.returns
 returns g t c =
     let parts = c.counted_parts-parts.ensures in
-    value_kept _ _ (g.met.V.Values.laws c.args.of.now) c.node_at-node.ensures c.loop.invariant
+    value_kept _ _ (g.met.V.Values.laws c.args.of.now) c.node-node.ensures c.loop.invariant
     (omega (arith, c.loop-test.false, parts.many)) c.joined.ensures c.requires.i_lt_limit (ap numbered c.in_ok-x.was)

@@ -5,7 +5,7 @@ use Rattle.value_walk.proofs.value_from.Goals as goal
 
 pub returns-then-root-ge-LIMIT : goal.returns-then-root-ge-LIMIT
 returns-then-root-ge-LIMIT g c =
-    past_the_limit (g.met.V.Values.laws c.args.of.now) c.args.kinds.now c.args.words.now c.args.root c.if-root-ge-LIMIT.true
+    past_the_limit (g.met.V.Values.laws c.args.of.now) c.args.tables.kinds.now c.args.tables.words.now c.args.root c.if-root-ge-LIMIT.true
 
 pub value_at-requires-clause-keeps : goal.value_at-requires-clause-keeps
 value_at-requires-clause-keeps g c = none_kept _ _ c.requires

@@ -8,4 +8,4 @@ use Rattle.constructor_laws.proofs.Rules.{entry_at}
 use Rattle.lent.proofs.rules.nodes_keep.Given as goal
 
 abbrev pub invariant-loop-i : goal.invariant-loop-i
-invariant-loop-i l = (l.i ≤ l.count) × (each l.i (entry_at l.kinds l.words l.count) ≡ true)
+invariant-loop-i l = (l.i ≤ l.count) × (each l.i (entry_at l.tables.kinds.now l.tables.words.now l.count) ≡ true)
