@@ -1,3 +1,1 @@
-pub mod Parts
 pub mod Rules
-pub mod Runs

@@ -18,6 +18,7 @@ pub fn lit_in(pool: &mut Pool, folded: Result<i64, Refusal>) -> Result<u32, Refu
 
 // The sum of two nodes, with `left` constructors left to run inside one another.
 #[cycle(add_rules)]
+#[tactic(auto, using(views::proofs::Steps::runs_deeper, views::proofs::Steps::none_left, views::proofs::Steps::build_node, views::proofs::Steps::build_lit, views::proofs::Steps::build_add))]
 pub fn add_in(pool: &mut Pool, left: u32, lhs: u32, rhs: u32) -> Result<u32, Refusal>
     ensures { made result pool.new ≡ (calls left).add_at lhs rhs pool.old }
 {

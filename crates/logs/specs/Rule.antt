@@ -1,7 +1,7 @@
 -- What the code of `log` and `div` finds to be built: the right sides of their tables.
 -- Assumes nothing.
-use Rattle.std.specs.Prelude.{Bool, false, ℤ, pos}
-use Rattle.constructors.specs.Terms.{Term, #, lit, lit_log, add, log, Log, Div, Arm, skip, leave, return}
+use Rattle.std.specs.Prelude.{pos}
+use Rattle.constructors.specs.Terms.{Term, #, lit, lit_log, add, log, Log, Div}
 use Rattle.logs.specs.declared.rule.LogRule.{LogRule}
 use Rattle.logs.specs.declared.rule.LogRule.TheVariants as of_log
 use Rattle.logs.specs.declared.rule.DivRule.{DivRule}
@@ -19,9 +19,3 @@ abbrev pub div_term : DivRule → Term
 div_term of_div.Zero = lit (pos 0)
 div_term (of_div.Same a) = # a
 div_term (of_div.Plain a b) = Div (# a) (# b)
-
--- the pattern holds and so does its guard: `Lit(a) if a.is_zero()`
-abbrev pub guarded : (ℤ → Bool) → Arm ℤ → Bool
-guarded test skip = false
-guarded test leave = false
-guarded test (return z) = test z

@@ -10,7 +10,7 @@ use refusals::Refusal;
 
 // The logarithm of a node, with `left` constructors left to run inside one another.
 #[cycle(log_rules)]
-#[tactic(auto, using(views::proofs::Steps::runs_deeper, adds::proofs::Runs::none_left), unfolding(constructors::specs::Build::build))]
+#[tactic(auto, using(views::proofs::Steps::runs_deeper, views::proofs::Steps::none_left), unfolding(constructors::specs::Build::build))]
 pub fn log_in(pool: &mut Pool, left: u32, arg: u32) -> Result<u32, Refusal>
     ensures { made result pool.new ≡ (calls left).log_at arg pool.old }
 {
@@ -38,7 +38,7 @@ fn log_product(pool: &mut Pool, left: u32, a: i64, b: u32) -> Result<u32, Refusa
 }
 
 // The quotient of two nodes, with `left` constructors left to run inside one another.
-#[tactic(auto, using(views::proofs::Steps::runs_deeper, adds::proofs::Runs::none_left), unfolding(constructors::specs::Build::build))]
+#[tactic(auto, using(views::proofs::Steps::runs_deeper, views::proofs::Steps::none_left), unfolding(constructors::specs::Build::build))]
 pub fn div_in(pool: &mut Pool, left: u32, lhs: u32, rhs: u32) -> Result<u32, Refusal>
     ensures { made result pool.new ≡ (calls left).div_at lhs rhs pool.old }
 {
@@ -54,7 +54,7 @@ pub fn div_in(pool: &mut Pool, left: u32, lhs: u32, rhs: u32) -> Result<u32, Ref
 }
 
 // The greater of two nodes, with `left` constructors left to run inside one another.
-#[tactic(auto, using(views::proofs::Steps::runs_deeper, adds::proofs::Runs::none_left), unfolding(constructors::specs::Build::build))]
+#[tactic(auto, using(views::proofs::Steps::runs_deeper, views::proofs::Steps::none_left), unfolding(constructors::specs::Build::build))]
 pub fn max_in(pool: &mut Pool, left: u32, lhs: u32, rhs: u32) -> Result<u32, Refusal>
     ensures { made result pool.new ≡ (calls left).max_at lhs rhs pool.old }
 {

@@ -1,20 +1,18 @@
--- The groups of the table of `mul`, at each combination of shapes that the code tells apart.
+-- The groups of the table of `mul`, at each combination of nodes that the code tells apart.
 -- Assumes nothing.
 use Rattle.std.specs.Prelude.{Option, Some, None}
 use mathlib.Core.Path.{◌≡◌, refl, sym, ap, ◌∙◌}
-use mathlib.Core.Bool.{true, false}
+use mathlib.Core.Logic.{◌≢◌}
 use Prim.Native.Nat.{ℕ}
-use lib.Dec.{eqb}
 use lib.IntN.{ℤ}
+use borrow.Author.Tests.{eq-eqb, ne_eqb}
 use Rattle.pool.specs.declared.node.Node.{Node}
+use Rattle.pool.specs.declared.node.Node.TheVariants as node
 use Rattle.constructors.specs.Terms.{Term, #, add, mul, exp, pow, Mul, Arm, skip, leave, return, ◌or◌, inside, ◌then◌}
 use Rattle.constructors.specs.Patterns.{lit_in, mul_in, exp_in, pow_in}
 use Rattle.constructors.specs.Tables.{mul_lits, mul_exps, mul_left, mul_pows, mul_last}
-use Rattle.views.specs.Shapes.{shape_of}
-use Rattle.views.specs.declared.Shape.TheVariants as shape
-use Rattle.views.proofs.Patterns.{lit_seen, mul_seen, exp_seen, pow_seen}
 use Rattle.mul_rules.specs.Rules.{mul_term, arm_of, two_lits, one_lit, one_exp, two_exps, lits_ahead, lit_ahead, two_pows}
-use Rattle.mul_rules.specs.declared.MulRule.{MulRule}
+use Rattle.mul_rules.specs.declared.rule.MulRule.{MulRule}
 
 -- an arm that was entered is the whole `match`
 entered : {A : Type 0} (x next : Arm A) → inside (inside x or next) ≡ inside x
@@ -63,39 +61,39 @@ module _ (at : ℕ → Node) (lhs rhs : ℕ) where
   from_exps = mul_exps at lhs rhs then from_left
 
   -- ---- literal simplifications
-  pub lit_lit : {t : Arm Term} {a b : ℤ} → shape_of (at lhs) ≡ shape.Lit a → shape_of (at rhs) ≡ shape.Lit b → t ≡ inside (two_lits a b lhs rhs) → t ≡ inside (mul_lits at lhs rhs)
+  pub lit_lit : {t : Arm Term} {a b x y : ℤ} → at lhs ≡ node.Lit a → at rhs ≡ node.Lit b → t ≡ inside (two_lits x y lhs rhs) → x ≡ a → y ≡ b → t ≡ inside (mul_lits at lhs rhs)
   unfolding mul_lits two_lits
-  lit_lit l r h = h ∙ simp (lit_seen, mul_seen, exp_seen, l, r)
+  lit_lit l r h e f = h ∙ simp (l, r, e, f)
 
-  lit_any : {a : ℤ} (m : Arm (ℕ × ℕ)) → mul_in (at rhs) ≡ m → shape_of (at lhs) ≡ shape.Lit a → lit_in (at rhs) ≡ skip → inside (one_lit at a rhs) ≡ inside (mul_lits at lhs rhs)
+  lit_any : {a : ℤ} (m : Arm (ℕ × ℕ)) → mul_in (at rhs) ≡ m → at lhs ≡ node.Lit a → lit_in (at rhs) ≡ skip → inside (one_lit at a rhs) ≡ inside (mul_lits at lhs rhs)
   unfolding mul_lits one_lit
-  lit_any skip e l r = simp (e, r, lit_seen (at lhs), mul_seen (at lhs), exp_seen (at lhs), l)
-  lit_any leave e l r = simp (e, r, lit_seen (at lhs), mul_seen (at lhs), exp_seen (at lhs), l)
-  lit_any (return p) e l r = simp (e, r, lit_seen (at lhs), mul_seen (at lhs), exp_seen (at lhs), l)
+  lit_any skip e l r = simp (e, r, l)
+  lit_any leave e l r = simp (e, r, l)
+  lit_any (return p) e l r = simp (e, r, l)
 
-  pub lit_other : {t : Arm Term} {a : ℤ} → shape_of (at lhs) ≡ shape.Lit a → lit_in (at rhs) ≡ skip → t ≡ inside (one_lit at a rhs) → t ≡ inside (mul_lits at lhs rhs)
-  lit_other l r h = h ∙ lit_any (mul_in (at rhs)) refl l r
+  pub lit_other : {t : Arm Term} {a : ℤ} → at lhs ≡ node.Lit a → t ≡ inside (one_lit at a rhs) → lit_in (at rhs) ≡ skip → t ≡ inside (mul_lits at lhs rhs)
+  lit_other l h r = h ∙ lit_any (mul_in (at rhs)) refl l r
 
-  any_lit : {b : ℤ} (m : Arm (ℕ × ℕ)) → mul_in (at lhs) ≡ m → lit_in (at lhs) ≡ skip → exp_in (at lhs) ≡ skip → shape_of (at rhs) ≡ shape.Lit b → inside (one_lit at b lhs) ≡ inside (mul_lits at lhs rhs)
+  any_lit : {b : ℤ} (m : Arm (ℕ × ℕ)) → mul_in (at lhs) ≡ m → lit_in (at lhs) ≡ skip → exp_in (at lhs) ≡ skip → at rhs ≡ node.Lit b → inside (one_lit at b lhs) ≡ inside (mul_lits at lhs rhs)
   unfolding mul_lits one_lit
-  any_lit skip e l x r = simp (e, l, x, lit_seen (at rhs), mul_seen (at rhs), exp_seen (at rhs), r)
-  any_lit leave e l x r = simp (e, l, x, lit_seen (at rhs), mul_seen (at rhs), exp_seen (at rhs), r)
-  any_lit (return p) e l x r = simp (e, l, x, lit_seen (at rhs), mul_seen (at rhs), exp_seen (at rhs), r)
+  any_lit skip e l x r = simp (e, l, x, r)
+  any_lit leave e l x r = simp (e, l, x, r)
+  any_lit (return p) e l x r = simp (e, l, x, r)
 
-  pub other_lit : {t : Arm Term} {b : ℤ} → lit_in (at lhs) ≡ skip → exp_in (at lhs) ≡ skip → shape_of (at rhs) ≡ shape.Lit b → t ≡ inside (one_lit at b lhs) → t ≡ inside (mul_lits at lhs rhs)
+  pub other_lit : {t : Arm Term} {b : ℤ} → lit_in (at lhs) ≡ skip → exp_in (at lhs) ≡ skip → at rhs ≡ node.Lit b → t ≡ inside (one_lit at b lhs) → t ≡ inside (mul_lits at lhs rhs)
   other_lit l x r h = h ∙ any_lit (mul_in (at lhs)) refl l x r
 
-  pub exp_lit : {t : Arm Term} {a : ℕ} {b : ℤ} → shape_of (at lhs) ≡ shape.Exp a → shape_of (at rhs) ≡ shape.Lit b → t ≡ inside (one_lit at b lhs) → t ≡ inside (mul_lits at lhs rhs)
+  pub exp_lit : {t : Arm Term} {a : ℕ} {b : ℤ} → at lhs ≡ node.Exp a → at rhs ≡ node.Lit b → t ≡ inside (one_lit at b lhs) → t ≡ inside (mul_lits at lhs rhs)
   unfolding mul_lits one_lit
-  exp_lit l r h = h ∙ simp (lit_seen, mul_seen, exp_seen, l, r)
+  exp_lit l r h = h ∙ simp (l, r)
 
-  pub exp_exp : {a b : ℕ} → shape_of (at lhs) ≡ shape.Exp a → shape_of (at rhs) ≡ shape.Exp b → return (exp (add (# a) (# b))) ≡ inside (mul_lits at lhs rhs)
+  pub exp_exp : {a b : ℕ} → at lhs ≡ node.Exp a → at rhs ≡ node.Exp b → return (exp (add (# a) (# b))) ≡ inside (mul_lits at lhs rhs)
   unfolding mul_lits
-  exp_exp l r = simp (lit_seen, mul_seen, exp_seen, l, r)
+  exp_exp l r = simp (l, r)
 
-  pub exp_none : {a : ℕ} → shape_of (at lhs) ≡ shape.Exp a → lit_in (at rhs) ≡ skip → exp_in (at rhs) ≡ skip → leave ≡ inside (mul_lits at lhs rhs)
+  pub exp_none : {a : ℕ} → at lhs ≡ node.Exp a → lit_in (at rhs) ≡ skip → exp_in (at rhs) ≡ skip → leave ≡ inside (mul_lits at lhs rhs)
   unfolding mul_lits
-  exp_none l r x = simp (r, x, lit_seen (at lhs), mul_seen (at lhs), exp_seen (at lhs), l)
+  exp_none l r x = simp (r, x, l)
 
   any_none : (m : Arm (ℕ × ℕ)) → mul_in (at lhs) ≡ m → lit_in (at lhs) ≡ skip → exp_in (at lhs) ≡ skip → lit_in (at rhs) ≡ skip → leave ≡ inside (mul_lits at lhs rhs)
   unfolding mul_lits
@@ -107,42 +105,42 @@ module _ (at : ℕ → Node) (lhs rhs : ℕ) where
   other_none l x r = any_none (mul_in (at lhs)) refl l x r
 
   -- ---- exp simplifications
-  pub mul_exp : {t : Arm Term} {a1 a2 b : ℕ} → shape_of (at lhs) ≡ shape.Mul a1 a2 → shape_of (at rhs) ≡ shape.Exp b → t ≡ inside (one_exp at a1 a2 b) → t ≡ inside (mul_exps at lhs rhs)
+  pub mul_exp : {t : Arm Term} {a1 a2 b : ℕ} → at lhs ≡ node.Mul a1 a2 → at rhs ≡ node.Exp b → t ≡ inside (one_exp at a1 a2 b) → t ≡ inside (mul_exps at lhs rhs)
   unfolding mul_exps one_exp
-  mul_exp l r h = h ∙ simp (mul_seen (at lhs), mul_seen (at rhs), exp_seen (at lhs), exp_seen (at rhs), l, r, entered)
+  mul_exp l r h = h ∙ simp (l, r, entered)
 
-  pub exp_mul : {t : Arm Term} {a1 a2 b : ℕ} → shape_of (at lhs) ≡ shape.Exp b → shape_of (at rhs) ≡ shape.Mul a1 a2 → t ≡ inside (one_exp at a1 a2 b) → t ≡ inside (mul_exps at lhs rhs)
+  pub exp_mul : {t : Arm Term} {a1 a2 b : ℕ} → at lhs ≡ node.Exp b → at rhs ≡ node.Mul a1 a2 → t ≡ inside (one_exp at a1 a2 b) → t ≡ inside (mul_exps at lhs rhs)
   unfolding mul_exps one_exp
-  exp_mul l r h = h ∙ simp (mul_seen (at lhs), mul_seen (at rhs), exp_seen (at lhs), exp_seen (at rhs), l, r, entered)
+  exp_mul l r h = h ∙ simp (l, r, entered)
 
-  pub mul_mul : {t : Arm Term} {a1 a2 b1 b2 : ℕ} → shape_of (at lhs) ≡ shape.Mul a1 a2 → shape_of (at rhs) ≡ shape.Mul b1 b2 → t ≡ inside (two_exps at a1 a2 b1 b2) → t ≡ inside (mul_exps at lhs rhs)
+  pub mul_mul : {t : Arm Term} {a1 a2 b1 b2 : ℕ} → at lhs ≡ node.Mul a1 a2 → at rhs ≡ node.Mul b1 b2 → t ≡ inside (two_exps at a1 a2 b1 b2) → t ≡ inside (mul_exps at lhs rhs)
   unfolding mul_exps two_exps
-  mul_mul l r h = h ∙ simp (mul_seen (at lhs), mul_seen (at rhs), exp_seen (at lhs), exp_seen (at rhs), l, r, braces)
+  mul_mul l r h = h ∙ simp (l, r, braces)
 
-  pub mul_none : {a1 a2 : ℕ} → shape_of (at lhs) ≡ shape.Mul a1 a2 → mul_in (at rhs) ≡ skip → exp_in (at rhs) ≡ skip → leave ≡ inside (mul_exps at lhs rhs)
+  pub mul_none : {a1 a2 : ℕ} → at lhs ≡ node.Mul a1 a2 → mul_in (at rhs) ≡ skip → exp_in (at rhs) ≡ skip → leave ≡ inside (mul_exps at lhs rhs)
   unfolding mul_exps
-  mul_none l r x = simp (r, x, mul_seen (at lhs), exp_seen (at lhs), l)
+  mul_none l r x = simp (r, x, l)
 
-  pub exp_no_mul : {b : ℕ} → shape_of (at lhs) ≡ shape.Exp b → mul_in (at rhs) ≡ skip → leave ≡ inside (mul_exps at lhs rhs)
+  pub exp_no_mul : {b : ℕ} → at lhs ≡ node.Exp b → mul_in (at rhs) ≡ skip → leave ≡ inside (mul_exps at lhs rhs)
   unfolding mul_exps
-  exp_no_mul l r = simp (r, mul_seen (at lhs), exp_seen (at lhs), l)
+  exp_no_mul l r = simp (r, l)
 
   pub no_mul_no_exp : mul_in (at lhs) ≡ skip → exp_in (at lhs) ≡ skip → leave ≡ inside (mul_exps at lhs rhs)
   unfolding mul_exps
   no_mul_no_exp l x = simp (l, x)
 
   -- ---- moving literals left
-  pub products : {t : Arm Term} {a1 a2 b1 b2 : ℕ} → shape_of (at lhs) ≡ shape.Mul a1 a2 → shape_of (at rhs) ≡ shape.Mul b1 b2 → t ≡ inside (lits_ahead at a1 a2 b1 b2) → t ≡ inside (mul_left at lhs rhs)
+  pub products : {t : Arm Term} {a1 a2 b1 b2 : ℕ} → at lhs ≡ node.Mul a1 a2 → at rhs ≡ node.Mul b1 b2 → t ≡ inside (lits_ahead at a1 a2 b1 b2) → t ≡ inside (mul_left at lhs rhs)
   unfolding mul_left lits_ahead
-  products l r h = h ∙ simp (mul_seen (at lhs), mul_seen (at rhs), l, r, entered)
+  products l r h = h ∙ simp (l, r, entered)
 
-  pub product_left : {t : Arm Term} {a1 a2 : ℕ} → shape_of (at lhs) ≡ shape.Mul a1 a2 → mul_in (at rhs) ≡ skip → t ≡ inside (lit_ahead at a1 a2 rhs) → t ≡ inside (mul_left at lhs rhs)
+  pub product_left : {t : Arm Term} {a1 a2 : ℕ} → at lhs ≡ node.Mul a1 a2 → mul_in (at rhs) ≡ skip → t ≡ inside (lit_ahead at a1 a2 rhs) → t ≡ inside (mul_left at lhs rhs)
   unfolding mul_left lit_ahead
-  product_left l r h = h ∙ simp (r, mul_seen (at lhs), l, entered)
+  product_left l r h = h ∙ simp (r, l, entered)
 
-  pub product_right : {t : Arm Term} {b1 b2 : ℕ} → mul_in (at lhs) ≡ skip → shape_of (at rhs) ≡ shape.Mul b1 b2 → t ≡ inside (lit_ahead at b1 b2 lhs) → t ≡ inside (mul_left at lhs rhs)
+  pub product_right : {t : Arm Term} {b1 b2 : ℕ} → mul_in (at lhs) ≡ skip → at rhs ≡ node.Mul b1 b2 → t ≡ inside (lit_ahead at b1 b2 lhs) → t ≡ inside (mul_left at lhs rhs)
   unfolding mul_left lit_ahead
-  product_right l r h = h ∙ simp (l, mul_seen (at rhs), r, braces)
+  product_right l r h = h ∙ simp (l, r, braces)
 
   pub no_product : mul_in (at lhs) ≡ skip → mul_in (at rhs) ≡ skip → leave ≡ inside (mul_left at lhs rhs)
   unfolding mul_left
@@ -153,22 +151,22 @@ module _ (at : ℕ → Node) (lhs rhs : ℕ) where
   unfolding mul_pows
   no_factors l = simp l
 
-  pub same_factor : {a1 a2 : ℕ} → shape_of (at lhs) ≡ shape.Mul a1 a2 → eqb a2 rhs ≡ true → return (mul (# a1) (pow (# a2) 2)) ≡ inside (mul_pows at lhs rhs)
+  pub same_factor : {a1 a2 : ℕ} → at lhs ≡ node.Mul a1 a2 → a2 ≡ rhs → return (mul (# a1) (pow (# a2) 2)) ≡ inside (mul_pows at lhs rhs)
   unfolding mul_pows
-  same_factor l e = simp (mul_seen (at lhs), l, e)
+  same_factor {a2 = a2} l e = simp (l, eq-eqb a2 rhs e)
 
-  pub no_power : {a1 a2 : ℕ} → shape_of (at lhs) ≡ shape.Mul a1 a2 → eqb a2 rhs ≡ false → pow_in (at rhs) ≡ skip → leave ≡ inside (mul_pows at lhs rhs)
+  pub no_power : {a1 a2 : ℕ} → at lhs ≡ node.Mul a1 a2 → a2 ≢ rhs → pow_in (at rhs) ≡ skip → leave ≡ inside (mul_pows at lhs rhs)
   unfolding mul_pows
-  no_power l e r = simp (r, mul_seen (at lhs), l, e)
+  no_power {a2 = a2} l e r = simp (r, l, ne_eqb a2 rhs e)
 
-  pub mul_pow : {t : Arm Term} {a1 a2 b n : ℕ} → shape_of (at lhs) ≡ shape.Mul a1 a2 → eqb a2 rhs ≡ false → shape_of (at rhs) ≡ shape.Pow b n → t ≡ inside (two_pows at a1 a2 b n) → t ≡ inside (mul_pows at lhs rhs)
+  pub mul_pow : {t : Arm Term} {a1 a2 b n : ℕ} → at lhs ≡ node.Mul a1 a2 → a2 ≢ rhs → at rhs ≡ node.Pow b n → t ≡ inside (two_pows at a1 a2 b n) → t ≡ inside (mul_pows at lhs rhs)
   unfolding mul_pows two_pows
-  mul_pow l e r h = h ∙ simp (mul_seen (at lhs), pow_seen (at rhs), l, r, e, or_braces)
+  mul_pow {a2 = a2} l e r h = h ∙ simp (l, r, ne_eqb a2 rhs e, or_braces)
 
   -- ---- the last statements
-  pub lit_last : {b : ℤ} → shape_of (at rhs) ≡ shape.Lit b → Mul (# rhs) (# lhs) ≡ from_last
+  pub lit_last : {b : ℤ} → at rhs ≡ node.Lit b → Mul (# rhs) (# lhs) ≡ from_last
   unfolding mul_last
-  lit_last r = simp (lit_seen (at rhs), r)
+  lit_last r = simp r
 
   pub other_last : lit_in (at rhs) ≡ skip → Mul (# lhs) (# rhs) ≡ from_last
   unfolding mul_last

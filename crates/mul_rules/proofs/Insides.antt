@@ -2,16 +2,15 @@
 -- Assumes nothing.
 use mathlib.Core.Path.{◌≡◌, refl}
 use mathlib.Core.Bool.{true, false}
+use mathlib.Core.Logic.{◌≢◌}
 use Prim.Native.Nat.{ℕ, ◌+◌}
-use lib.Dec.{eqb}
 use lib.IntN.{ℤ, pos, ◌*ℤ◌}
+use borrow.Author.Tests.{eq-eqb, ne_eqb}
 use Rattle.literal.specs.Literal.{is_zero, is_one}
 use Rattle.pool.specs.declared.node.Node.{Node}
+use Rattle.pool.specs.declared.node.Node.TheVariants as node
 use Rattle.constructors.specs.Terms.{#, lit, add, mul, exp, pow, Mul, Arm, skip, leave, return, inside}
 use Rattle.constructors.specs.Patterns.{lit_in, mul_in, exp_in, pow_in}
-use Rattle.views.specs.Shapes.{shape_of}
-use Rattle.views.specs.declared.Shape.TheVariants as shape
-use Rattle.views.proofs.Patterns.{mul_seen, pow_seen}
 use Rattle.mul_rules.specs.Rules.{two_lits, one_lit, one_exp, two_exps, lits_ahead, lit_ahead, two_pows}
 
 module _ (a b : ℤ) (lhs rhs : ℕ) where
@@ -37,25 +36,25 @@ module _ (a b : ℤ) (lhs rhs : ℕ) where
 
 module _ (at : ℕ → Node) where
   module _ (a : ℤ) (other : ℕ) where
-    pub is_zero_lem : is_zero a ≡ true → return (lit (pos 0)) ≡ inside (one_lit at a other)
+    pub times_zero : is_zero a ≡ true → return (lit (pos 0)) ≡ inside (one_lit at a other)
     unfolding one_lit
-    is_zero_lem p = simp p
+    times_zero p = simp p
 
-    pub is_one_lem : is_zero a ≡ false → is_one a ≡ true → return (# other) ≡ inside (one_lit at a other)
+    pub times_one : is_zero a ≡ false → is_one a ≡ true → return (# other) ≡ inside (one_lit at a other)
     unfolding one_lit
-    is_one_lem p q = simp (p, q)
+    times_one p q = simp (p, q)
 
     pub no_product : is_zero a ≡ false → is_one a ≡ false → mul_in (at other) ≡ skip → leave ≡ inside (one_lit at a other)
     unfolding one_lit
     no_product p q m = simp (p, q, m)
 
-    pub no_factor : {b1 b2 : ℕ} → is_zero a ≡ false → is_one a ≡ false → shape_of (at other) ≡ shape.Mul b1 b2 → lit_in (at b1) ≡ skip → leave ≡ inside (one_lit at a other)
+    pub no_factor : {b1 b2 : ℕ} → is_zero a ≡ false → is_one a ≡ false → at other ≡ node.Mul b1 b2 → lit_in (at b1) ≡ skip → leave ≡ inside (one_lit at a other)
     unfolding one_lit
-    no_factor p q m z = simp (p, q, mul_seen (at other), m, z)
+    no_factor p q m z = simp (p, q, m, z)
 
-    pub scaled : {b1 b2 : ℕ} {b : ℤ} → is_zero a ≡ false → is_one a ≡ false → shape_of (at other) ≡ shape.Mul b1 b2 → lit_in (at b1) ≡ return b → return (Mul (lit (a *ℤ b)) (# b2)) ≡ inside (one_lit at a other)
+    pub scaled : {b1 b2 : ℕ} {b : ℤ} → is_zero a ≡ false → is_one a ≡ false → at other ≡ node.Mul b1 b2 → lit_in (at b1) ≡ return b → return (Mul (lit (a *ℤ b)) (# b2)) ≡ inside (one_lit at a other)
     unfolding one_lit
-    scaled p q m z = simp (p, q, mul_seen (at other), m, z)
+    scaled p q m z = simp (p, q, m, z)
 
   module _ (a1 a2 b : ℕ) where
     pub second_exp : {x : ℕ} → exp_in (at a2) ≡ return x → return (mul (# a1) (exp (add (# x) (# b)))) ≡ inside (one_exp at a1 a2 b)
@@ -126,18 +125,19 @@ module _ (at : ℕ → Node) where
     one_ahead p = simp p
 
   module _ (a1 a2 b n : ℕ) where
-    pub same_base : eqb a2 b ≡ true → return (mul (# a1) (pow (# a2) (n + 1))) ≡ inside (two_pows at a1 a2 b n)
+    pub same_base : a2 ≡ b → return (mul (# a1) (pow (# a2) (n + 1))) ≡ inside (two_pows at a1 a2 b n)
     unfolding two_pows
-    same_base e = simp e
+    same_base e = simp (eq-eqb a2 b e)
 
-    pub no_base : eqb a2 b ≡ false → pow_in (at a2) ≡ skip → leave ≡ inside (two_pows at a1 a2 b n)
-    unfolding two_pows
-    no_base e p = simp (e, p)
+    module _ (e : a2 ≢ b) where
+      pub no_base : pow_in (at a2) ≡ skip → leave ≡ inside (two_pows at a1 a2 b n)
+      unfolding two_pows
+      no_base p = simp (ne_eqb a2 b e, p)
 
-    pub both_pows : {a21 exp1 : ℕ} → eqb a2 b ≡ false → shape_of (at a2) ≡ shape.Pow a21 exp1 → eqb a21 b ≡ true → return (mul (# a1) (pow (# a21) (exp1 + n))) ≡ inside (two_pows at a1 a2 b n)
-    unfolding two_pows
-    both_pows e p f = simp (e, pow_seen (at a2), p, f)
+      pub both_pows : {a21 exp1 : ℕ} → at a2 ≡ node.Pow a21 exp1 → a21 ≡ b → return (mul (# a1) (pow (# a21) (exp1 + n))) ≡ inside (two_pows at a1 a2 b n)
+      unfolding two_pows
+      both_pows {a21} p f = simp (ne_eqb a2 b e, p, eq-eqb a21 b f)
 
-    pub other_base : {a21 exp1 : ℕ} → eqb a2 b ≡ false → shape_of (at a2) ≡ shape.Pow a21 exp1 → eqb a21 b ≡ false → leave ≡ inside (two_pows at a1 a2 b n)
-    unfolding two_pows
-    other_base e p f = simp (e, pow_seen (at a2), p, f)
+      pub other_base : {a21 exp1 : ℕ} → at a2 ≡ node.Pow a21 exp1 → a21 ≢ b → leave ≡ inside (two_pows at a1 a2 b n)
+      unfolding two_pows
+      other_base {a21} p f = simp (ne_eqb a2 b e, p, ne_eqb a21 b f)

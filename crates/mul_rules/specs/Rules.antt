@@ -1,19 +1,12 @@
 -- What the classifier of `mul` answers: each answer is a right side of the table. Below them stand the insides of its arms, each where one function of the code decides.
 -- Assumes nothing.
-use Rattle.std.specs.Prelude.{◌≡◌, Option, Some, None, ℕ, ◌+◌, eqb, ℤ, pos, ◌*ℤ◌}
+use Rattle.std.specs.Prelude.{Option, Some, None, ℕ, ◌+◌, eqb, ℤ, pos, ◌*ℤ◌}
 use Rattle.literal.specs.Literal.{is_zero, is_one}
 use Rattle.pool.specs.declared.node.Node.{Node}
-use Rattle.constructors.specs.Terms.{Term, #, lit, add, mul, exp, pow, Mul, Arm, skip, leave, return, ◌>>=◌, ◌>>◌, ◌&◌, ◌or◌, inside}
+use Rattle.constructors.specs.Terms.{Term, #, lit, add, mul, exp, pow, Mul, Arm, leave, return, ◌>>=◌, ◌>>◌, ◌&◌, ◌or◌, inside}
 use Rattle.constructors.specs.Tables.{lit?, mul?, exp?, pow?}
-use Rattle.views.specs.Shapes.{shape_of}
-use Rattle.mul_rules.specs.declared.Factors.{Factors}
-use Rattle.mul_rules.specs.declared.MulRule.{MulRule}
-use Rattle.mul_rules.specs.declared.MulRule.TheVariants as rule
-
--- the shapes that the code holds are those of its two nodes
-pub record Seen (at : ℕ → Node) (f : Factors) : Type 0 where
-  pub left : f.left ≡ shape_of (at f.lhs)
-  pub right : f.right ≡ shape_of (at f.rhs)
+use Rattle.mul_rules.specs.declared.rule.MulRule.{MulRule}
+use Rattle.mul_rules.specs.declared.rule.MulRule.TheVariants as rule
 
 -- the term that an answer stands for
 abbrev pub mul_term : MulRule → Term
@@ -33,15 +26,6 @@ mul_term (rule.Plain a b) = Mul (# a) (# b)
 abbrev pub arm_of : Option MulRule → Arm Term
 arm_of (Some r) = return (mul_term r)
 arm_of None = leave
-
--- `if let Lit(z) = ..`, `if let Exp(a) = ..`
-abbrev pub lit_arm : Option ℤ → Arm ℤ
-lit_arm (Some z) = return z
-lit_arm None = skip
-
-abbrev pub exp_arm : Option ℕ → Arm ℕ
-exp_arm (Some a) = return a
-exp_arm None = skip
 
 -- (Lit(a), Lit(b))
 unfoldable pub two_lits : ℤ → ℤ → ℕ → ℕ → Arm Term

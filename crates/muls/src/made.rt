@@ -11,7 +11,7 @@ use refusals::Refusal;
 
 // The product of two nodes, with `left` constructors left to run inside one another.
 #[cycle(mul_and_exp_rules)]
-#[tactic(auto, using(views::proofs::Steps::runs_deeper, adds::proofs::Runs::none_left), unfolding(constructors::specs::Build::build))]
+#[tactic(auto, using(views::proofs::Steps::runs_deeper, views::proofs::Steps::none_left, views::proofs::Steps::build_node, views::proofs::Steps::build_lit, views::proofs::Steps::build_mul, crate::proofs::Tables::build_scaled))]
 pub fn mul_in(pool: &mut Pool, left: u32, lhs: u32, rhs: u32) -> Result<u32, Refusal>
     ensures { made result pool.new ≡ (calls left).mul_at lhs rhs pool.old }
 {
@@ -37,7 +37,7 @@ pub fn mul_in(pool: &mut Pool, left: u32, lhs: u32, rhs: u32) -> Result<u32, Ref
 
 // The exponential of a node, with `left` constructors left to run inside one another.
 #[cycle(mul_and_exp_rules)]
-#[tactic(auto, using(views::proofs::Steps::runs_deeper, adds::proofs::Runs::none_left), unfolding(constructors::specs::Build::build))]
+#[tactic(auto, using(views::proofs::Steps::runs_deeper, views::proofs::Steps::none_left), unfolding(constructors::specs::Build::build))]
 pub fn exp_in(pool: &mut Pool, left: u32, arg: u32) -> Result<u32, Refusal>
     ensures { made result pool.new ≡ (calls left).exp_at arg pool.old }
 {

@@ -7,7 +7,7 @@ use pool::Pool;
 use refusals::Refusal;
 
 // The negative of a node, with `left` constructors left to run inside one another.
-#[tactic(auto, using(views::proofs::Steps::runs_deeper, adds::proofs::Runs::none_left), unfolding(constructors::specs::Build::build))]
+#[tactic(auto, using(views::proofs::Steps::runs_deeper, views::proofs::Steps::none_left), unfolding(constructors::specs::Build::build))]
 pub fn neg_in(pool: &mut Pool, left: u32, arg: u32) -> Result<u32, Refusal>
     ensures { made result pool.new ≡ (calls left).neg_at arg pool.old }
 {

@@ -6,12 +6,12 @@ ghost use Rattle.pool.specs.Made.{made};
 
 use pool::{Node, Pool};
 use refusals::Refusal;
-use views::Shape;
 
 // The greatest exponent.
 const EXPONENT_MAX: u32 = 4_294_967_295;
 
 // The power of a node, with `left` constructors left to run inside one another.
+#[tactic(auto, using(views::proofs::Steps::runs_deeper, views::proofs::Steps::none_left, views::proofs::Steps::build_node, views::proofs::Steps::build_lit, views::proofs::Steps::build_pow, crate::proofs::Tables::power_zero, crate::proofs::Tables::power_one, crate::proofs::Tables::power_of_other, crate::proofs::Tables::power_of_zero, crate::proofs::Tables::power_of_one, crate::proofs::Tables::power_of_lit))]
 pub fn pow_in(pool: &mut Pool, left: u32, base: u32, exp: u32) -> Result<u32, Refusal>
     ensures { made result pool.new ≡ (calls left).pow_at base exp pool.old }
 {
@@ -24,16 +24,11 @@ pub fn pow_in(pool: &mut Pool, left: u32, base: u32, exp: u32) -> Result<u32, Re
     if exp == 1 {
         return Ok(base);
     }
-    let Shape::Lit(a) = views::shape_at(pool, base) else {
-        return pool.append(Node::Pow(base, exp));
-    };
-    if literal::is_zero(a) {
-        return adds::lit_in(pool, literal::fold(0));
+    match views::literal_at(pool, base) {
+        Some(a) if literal::is_zero(a) => adds::lit_in(pool, literal::fold(0)),
+        Some(a) if literal::is_one(a) => adds::lit_in(pool, literal::fold(1)),
+        _ => pool.append(Node::Pow(base, exp)),
     }
-    if literal::is_one(a) {
-        return adds::lit_in(pool, literal::fold(1));
-    }
-    pool.append(Node::Pow(base, exp))
 }
 
 // pow(base, e1 + e2): a sum above the greatest exponent is refused before `pow` is entered.

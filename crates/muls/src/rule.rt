@@ -4,8 +4,7 @@ ghost use Rattle.constructors.specs.Tables.{exp_table};
 ghost use Rattle.pool.specs.Pool.{node_at};
 ghost use Rattle.muls.specs.Rule.{exp_term};
 
-use pool::Pool;
-use views::Shape;
+use pool::{Node, Pool};
 
 // What is to be built; numbers of nodes are u32, literals i64.
 #[derive(Clone, Copy)]
@@ -24,20 +23,13 @@ pub enum ExpRule {
 pub fn exp_rule(pool: &Pool, arg: u32) -> ExpRule
     ensures { exp_term result ≡ exp_table (node_at pool.now) arg }
 {
-    let shape = views::shape_at(pool, arg);
-    match shape {
-        Shape::Lit(z) => {
-            if literal::is_zero(z) {
-                return ExpRule::One;
-            }
-            ExpRule::Literal(z)
-        }
-        Shape::Add(a, b) => {
-            let Shape::Lit(z) = views::shape_at(pool, b) else {
-                return ExpRule::Plain(arg);
-            };
-            ExpRule::Shifted(z, a)
-        }
+    match pool.node(arg) {
+        Node::Lit(z) if literal::is_zero(z) => ExpRule::One,
+        Node::Lit(z) => ExpRule::Literal(z),
+        Node::Add(a, b) => match views::literal_at(pool, b) {
+            Some(z) => ExpRule::Shifted(z, a),
+            None => ExpRule::Plain(arg),
+        },
         _ => ExpRule::Plain(arg),
     }
 }

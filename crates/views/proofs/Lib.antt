@@ -1,3 +1,2 @@
 pub mod Missed
-pub mod Patterns
 pub mod Steps

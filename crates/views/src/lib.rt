@@ -1,42 +1,29 @@
-// What the rules of the constructors look at in a node.
-#![tactic(auto)]
+// What the rules of the constructors ask of a node by its number, where one kind alone matters.
+#![tactic(auto, using(crate::proofs::Missed::lit_missed, crate::proofs::Missed::exp_missed))]
 
 ghost use Rattle.std.specs.Prelude.{◌≡◌};
 ghost use Rattle.pool.specs.Pool.{node_at};
-ghost use Rattle.views.specs.Shapes.{shape_of};
+ghost use Rattle.constructors.specs.Patterns.{lit_in, exp_in};
+ghost use Rattle.views.specs.Found.{found};
 
 use pool::{Node, Pool};
 
-// A node as the rules see it: five kinds matter to them.
-#[derive(Clone, Copy)]
-pub enum Shape {
-    Lit(i64),
-    Add(u32, u32),
-    Mul(u32, u32),
-    Exp(u32),
-    Pow(u32, u32),
-    Other,
-}
-
-pub fn shape_of(node: Node) -> Shape
-    ensures { result ≡ shape_of node }
+// The literal of a node, if it is one. This function and the next differ in the variant that is matched, for which the language has no parameter.
+pub fn literal_at(pool: &Pool, i: u32) -> Option<i64>
+    ensures { found result ≡ lit_in (node_at pool.now i) }
 {
-    match node {
-        Node::Empty => Shape::Other,
-        Node::Variable(_) => Shape::Other,
-        Node::Lit(z) => Shape::Lit(z),
-        Node::Add(a, b) => Shape::Add(a, b),
-        Node::Mul(a, b) => Shape::Mul(a, b),
-        Node::Div(_, _) => Shape::Other,
-        Node::Exp(a) => Shape::Exp(a),
-        Node::Log(_) => Shape::Other,
-        Node::Pow(a, n) => Shape::Pow(a, n),
-        Node::Max(_, _) => Shape::Other,
+    match pool.node(i) {
+        Node::Lit(z) => Some(z),
+        _ => None,
     }
 }
 
-pub fn shape_at(pool: &Pool, i: u32) -> Shape
-    ensures { result ≡ shape_of (node_at pool.now i) }
+// The argument of a node, if it is an Exp.
+pub fn exp_at(pool: &Pool, i: u32) -> Option<u32>
+    ensures { found result ≡ exp_in (node_at pool.now i) }
 {
-    shape_of(pool.node(i))
+    match pool.node(i) {
+        Node::Exp(a) => Some(a),
+        _ => None,
+    }
 }
