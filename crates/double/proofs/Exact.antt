@@ -1,6 +1,6 @@
 -- Literals as doubles: each has one, and it is exactly that number, as every whole number up to 2^53 in size is.
 -- Assumes nothing.
-use Rattle.std.specs.Prelude.{Ok, Err}
+use Rattle.std.specs.Prelude.{Ok}
 use mathlib.Core.Path.{◌≡◌}
 use mathlib.Core.Bool.{true, false, false≢true}
 use Prim.Native.Nat.{ℕ, suc, ◌*◌, ◌^◌, ◌≤◌}
@@ -10,12 +10,11 @@ use lib.IntN.{ℤ, pos, negsuc, nat_abs}
 use lib.Ieee.{fin, binary64, prec, of_int, in_float}
 use lib.Ieee.Back.{round_whole}
 use borrow.Author.Tests.{leb-true}
-use Rattle.refusals.specs.Refusals.{not_literal}
 use Rattle.literal.specs.Literal.{greatest, is_literal}
 use Rattle.double.specs.Double.{double_of}
 use Rattle.double.specs.Exact.{Is, GivesExactly}
 
-has_double : (z : ℤ) → nat_abs z ≤ greatest → T (in_float binary64 z)
+pub has_double : (z : ℤ) → nat_abs z ≤ greatest → T (in_float binary64 z)
 unfolding in_float
 has_double (pos n) h = le→leb n (2 ^ prec binary64) (omega arith)
 has_double (negsuc n) h = lt→ltb n (2 ^ prec binary64) (omega arith)
@@ -26,10 +25,6 @@ literal_has_double z t = has_double z (leb-true (nat_abs z) greatest t)
 pub literal_double : (z : ℤ) → is_literal z ≡ true → Ok (of_int binary64 z) ≡ double_of z
 unfolding double_of
 literal_double z t = rw t
-
-pub no_literal_no_double : (z : ℤ) → is_literal z ≡ false → Err not_literal ≡ double_of z
-unfolding double_of
-no_literal_no_double z t = rw t
 
 -- ---- exactly
 

@@ -14,11 +14,15 @@ Valued = Result Float ℕ
 unfoldable pub double_of : ℤ → Valued
 double_of z = cond (is_literal z) (Ok (of_int binary64 z)) (Err not_literal)
 
+-- acc, multiplied where the lowest bit of n is one
+abbrev pub with_lowest : Float → Float → ℕ → Float
+with_lowest acc b n = cond (eqb (n % 2) 1) (mul binary64 acc b) acc
+
 -- "Pow .. takes the exponent's bits from the lowest, multiplies where a bit is one, then squares while higher bits remain": a turn for each bit of n, at most k of them
 unfoldable pub pow_from : ℕ → Float → Float → ℕ → Float
 pow_from zero acc b n = acc
 pow_from (suc k) acc b n =
-    let multiplied = cond (eqb (n % 2) 1) (mul binary64 acc b) acc in
+    let multiplied = with_lowest acc b n in
     let higher = pow_from k multiplied (mul binary64 b b) (n / 2) in
     cond (eqb (n / 2) 0) multiplied higher
 

@@ -28,7 +28,7 @@ at_first n = record { within = omega arith; is = refl; small = omega arith }
 
 module _ {n product i : ℕ} (so_far : RunningProduct n product i) where
   -- so a turn begins only below nineteen: no n takes more turns
-  turn_is_below_nineteen : i < literal_factorials
+  pub turn_is_below_nineteen : i < literal_factorials
   turn_is_below_nineteen = literal_is_below_nineteen i (subst (λ (x : ℕ). x ≤ greatest) so_far.is so_far.small)
 
   pub factor_fits : i + 1 ≤ literal_factorials

@@ -36,70 +36,41 @@ pub fn is_one(z: i64) -> bool
 }
 
 // The number itself, where it is a literal.
+#[tactic(auto, unfolding(crate::specs::Literal::folded))]
 pub fn fold(z: i64) -> Result<i64, Refusal>
     ensures { numbered result ≡ folded z }
 {
-    if size(z) <= LITERAL_MAX {
+    if is_literal(z) {
         return Ok(z);
     }
     Err(Refusal::OutOfRange)
 }
 
-// Two numbers of one sign: their sizes add up, and the sum is made only where it is a literal.
-fn sum_alike(a: i64, b: i64) -> Result<i64, Refusal>
-    requires { nat_abs (a +ℤ b) ≡ nat_abs a + nat_abs b }
-    ensures { numbered result ≡ folded (a +ℤ b) }
-{
-    let x = size(a);
-    if LITERAL_MAX < x {
-        return Err(Refusal::OutOfRange);
-    }
-    if LITERAL_MAX - x < size(b) {
-        return Err(Refusal::OutOfRange);
-    }
-    Ok(a + b)
-}
-
-// The sum, for any two numbers: where the signs differ it fits an i64 by itself.
+// The sum, for any two numbers: one that does not fit an i64 is no literal.
+#[tactic(auto, unfolding(crate::specs::Literal::folded))]
 pub fn sum(a: i64, b: i64) -> Result<i64, Refusal>
     ensures { numbered result ≡ folded (a +ℤ b) }
 {
-    if a < 0 {
-        if b < 0 {
-            return sum_alike(a, b);
-        }
-        return fold(a + b);
-    }
-    if b < 0 {
-        return fold(a + b);
-    }
-    sum_alike(a, b)
+    fold(a.checked_add(b).ok_or(Refusal::OutOfRange)?)
 }
 
-// The product, for any two numbers: the sizes are compared by a division, so that no product is made that does not fit.
+// The product, for any two numbers.
+#[tactic(auto, unfolding(crate::specs::Literal::folded))]
 pub fn product(a: i64, b: i64) -> Result<i64, Refusal>
     ensures { numbered result ≡ folded (a *ℤ b) }
 {
-    let x = size(a);
-    if x == 0 {
-        return Ok(0);
-    }
-    if LITERAL_MAX / x < size(b) {
-        return Err(Refusal::OutOfRange);
-    }
-    Ok(a * b)
+    fold(a.checked_mul(b).ok_or(Refusal::OutOfRange)?)
 }
 
+#[tactic(auto, unfolding(crate::specs::Literal::folded))]
 pub fn negation(z: i64) -> Result<i64, Refusal>
     ensures { numbered result ≡ folded (neg_ℤ z) }
 {
-    if size(z) <= LITERAL_MAX {
-        return Ok(0 - z);
-    }
-    Err(Refusal::OutOfRange)
+    fold(z.checked_neg().ok_or(Refusal::OutOfRange)?)
 }
 
 // `exp` of a literal: of 0 alone.
+#[tactic(auto, unfolding(crate::specs::Literal::exp_of))]
 pub fn exp_literal(z: i64) -> Result<i64, Refusal>
     ensures { numbered result ≡ exp_of z }
 {
@@ -110,6 +81,7 @@ pub fn exp_literal(z: i64) -> Result<i64, Refusal>
 }
 
 // `log` of a literal: of 1 alone.
+#[tactic(auto, unfolding(crate::specs::Literal::log_of))]
 pub fn log_literal(z: i64) -> Result<i64, Refusal>
     ensures { numbered result ≡ log_of z }
 {

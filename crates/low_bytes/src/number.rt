@@ -4,6 +4,7 @@ ghost use Rattle.std.proofs.lemmas.List.Edits.{sets};
 ghost use Rattle.low_bytes.specs.LowBytes.{low_bytes, number_at};
 
 // The number whose k bytes, low byte first, stand from a place on.
+#[tactic(auto, using(crate::proofs::LowFirst::nothing_read, crate::proofs::LowFirst::byte_read, crate::proofs::LowFirst::room_for_a_byte, crate::proofs::LowFirst::all_read))]
 pub fn number_at(bytes: &[u8], at: usize, k: usize) -> u64
     requires { (k ≤ 8) × (at + k ≤ length bytes.now) }
     ensures { result ≡ number_at k bytes.now at }
@@ -16,6 +17,7 @@ pub fn number_at(bytes: &[u8], at: usize, k: usize) -> u64
 }
 
 // The k lowest bytes of a number, low byte first.
+#[tactic(auto, using(crate::proofs::BytesPut::no_bytes_put, crate::proofs::BytesPut::byte_put, crate::proofs::BytesPut::all_bytes_put))]
 pub fn put_bytes(out: &mut [u8], at: usize, k: usize, x: u64)
     requires { at + k ≤ length out.old }
     ensures { out.new ≡ sets out.old at (low_bytes k x) }

@@ -6,6 +6,7 @@ ghost use Rattle.low_bytes.specs.Output.{Wrote, past_longest};
 pub const TEXT_MAX: usize = 65_535;
 
 // One byte; the position after it is the answer, here and below.
+#[tactic(auto, using(crate::proofs::Writing::past_longest_lem, crate::proofs::Writing::byte_written, crate::proofs::Writing::byte_counted))]
 pub fn put(out: &mut [u8], at: usize, byte: u8) -> usize
     requires { at ≤ past_longest }
     ensures { Wrote at out.old (byte ∷ []) result out.new }
@@ -21,6 +22,7 @@ pub fn put(out: &mut [u8], at: usize, byte: u8) -> usize
 }
 
 // Bytes one by one.
+#[tactic(auto, using(crate::proofs::Writing::none_written, crate::proofs::Writing::stays_countable, crate::proofs::Writing::all_bytes))]
 pub fn write(out: &mut [u8], at: usize, bytes: &[u8]) -> usize
     requires { at ≤ past_longest }
     ensures { Wrote at out.old bytes.now result out.new }

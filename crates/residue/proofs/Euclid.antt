@@ -3,11 +3,13 @@
 use Rattle.std.specs.Prelude.{Ok, Err}
 use mathlib.Core.Path.{◌≡◌, sym, ap, ◌∙◌}
 use Prim.Native.Nat.{ℕ, ◌+◌, ◌-◌, ◌*◌, ◌/◌, ◌%◌, ◌≤◌, ◌<◌, ◌∣◌}
-use native.Mathlib.Nat.{mod-lt, mod-le, mod_self, zero-mod, zero-mul, one-mul, mod-eq_of_lt, mod-add-div', mul_assoc, add-mod-mod, add-mul-mod_self_left, dvd_refl, dvd-zero, dvd-mod_iff, dvd-mul_left_of_dvd, eq-one_of_dvd-one, le_trans, le_of_lt, sub-add_cancel}
+use native.Mathlib.Nat.{mod-lt, mod-le, mod_self, zero-mod, zero-mul, one-mul, mod-eq_of_lt, mod-add-div', mul_assoc, add-mod-mod, add-mul-mod_self_left, dvd_refl, dvd-zero, dvd-mod_iff, div-le_self, dvd-mul_left_of_dvd, eq-one_of_dvd-one, le_trans, le_of_lt, sub-add_cancel}
 use native.Mathlib.Omega.{arith}
+use mir.Syntax.{w64}
+use mir.Val.{Fits}
 use Rattle.refusals.specs.Refusals.{no_inverse}
-use Rattle.residue.specs.Residue.{quotient_of}
-use Rattle.residue.proofs.Congruence.{factor_first, factor_second, summand_cancels}
+use Rattle.residue.specs.Residue.{Modulus, quotient_of}
+use Rattle.residue.proofs.Congruence.{factor_first, factor_second, summand_cancels, product_fits}
 use Rattle.residue.proofs.Theorems.{quotient_is, quotient_none}
 
 pub record Euclid (m d r0 r1 t0 t1 : ℕ) : Type 0 where
@@ -30,6 +32,11 @@ euclid_begins m d h below =
       second_remainder = omega arith;
       common = λ g dm dd. (dm, dd);
     }
+
+-- what a turn computes fits
+pub factor_fits : {m d r0 r1 t0 t1 : ℕ} → Modulus m → Euclid m d r0 r1 t0 t1 → Fits w64 (r0 / r1 * t1)
+factor_fits {r0 = r0} {r1} {t1 = t1} is now =
+    product_fits is (r0 / r1) t1 (le_trans (div-le_self r0 r1) now.first_remainder) (le_of_lt now.second_factor)
 
 -- the new factor is the first less q times the second, and so is the new remainder
 module _ (m d r0 r1 t0 t1 q r2 : ℕ) (h : 0 < m) (first : t0 * d % m ≡ r0 % m) (second : t1 * d % m ≡ r1 % m) (split : r2 + q * r1 ≡ r0) where

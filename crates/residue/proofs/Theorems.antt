@@ -129,3 +129,6 @@ no_inverse_no_quotient m a d k e = refused_again (divides_to m 1 d) (divides_to 
 
 pub quotient_by_inverse : (m a d x : ℕ) → 2 ≤ m → a < m → quotient_of m 1 d ≡ Ok x → quotient_of m a d ≡ Ok (a * x % m)
 quotient_by_inverse m a d x h below e = quotient_is m a d x (quotient_exact m 1 d x h e).product below
+
+pub inverse_below : (m d x : ℕ) → 2 ≤ m → quotient_of m 1 d ≡ Ok x → x < m
+inverse_below m d x h e = (quotient_exact m 1 d x h e).below

@@ -27,16 +27,12 @@ impl Residues {
         Residues { modulus }
     }
 
-    // The residue of a literal: the signed remainder, lifted above 0.
+    // The residue of a literal: the remainder that is not negative.
+    #[tactic(auto, using(crate::proofs::Remainder::remainder_is))]
     pub fn residue_of(self, z: i64) -> u64
         ensures { result ≡ residue self.modulus z }
     {
-        let s = self.modulus as i64;
-        let r = z % s;
-        if r < 0 {
-            return (r + s) as u64;
-        }
-        r as u64
+        z.rem_euclid(self.modulus as i64) as u64
     }
 
     pub fn sum(self, a: u64, b: u64) -> u64
@@ -56,25 +52,27 @@ impl Residues {
     }
 
     // Squares and multiplies, the exponent's bits from the lowest.
+    #[tactic(auto, using(crate::proofs::Squaring::squares_begin, crate::proofs::Squaring::squares_odd, crate::proofs::Squaring::squares_even, crate::proofs::Squaring::squares_end))]
     pub fn power(self, a: u64, e: u32) -> u64
         requires a_lt_m { a < self.modulus }
         ensures { result ≡ power_of self.modulus a e }
     {
-        let m = self.modulus;
         let mut acc = 1;
         let mut b = a;
         let mut n = e;
+        // `while`, and no `for`: there is a turn for each bit of the exponent, and no use for a bit's place.
         while n != 0 {
             if n % 2 == 1 {
-                acc = acc * b % m;
+                acc = self.product(acc, b);
             }
-            b = b * b % m;
+            b = self.product(b, b);
             n = n / 2;
         }
         acc
     }
 
     // The inverse by Euclid's algorithm: each remainder is a multiple of d, modulo m, and its factor is kept beside it.
+    #[tactic(auto, using(crate::proofs::Euclid::euclid_begins, crate::proofs::Euclid::factor_fits, crate::proofs::Euclid::euclid_inverts, crate::proofs::Euclid::euclid_refuses))]
     pub fn inverse(self, d: u64) -> Result<u64, Refusal>
         requires d_lt_m { d < self.modulus }
         ensures { numbered result ≡ quotient_of self.modulus 1 d }
@@ -84,6 +82,7 @@ impl Residues {
         let mut r1 = d;
         let mut t0 = 0;
         let mut t1 = 1;
+        // `while`, and no `for`: how many remainders there are shows only when one is 0.
         while r1 != 0 {
             let q = r0 / r1;
             let r2 = r0 % r1;
@@ -99,12 +98,12 @@ impl Residues {
         Err(Refusal::NoInverse)
     }
 
+    #[tactic(auto, using(crate::proofs::Theorems::inverse_below, crate::proofs::Theorems::quotient_by_inverse, crate::proofs::Theorems::no_inverse_no_quotient))]
     pub fn quotient(self, a: u64, d: u64) -> Result<u64, Refusal>
         requires a_lt_m { a < self.modulus }
         requires d_lt_m { d < self.modulus }
         ensures { numbered result ≡ quotient_of self.modulus a d }
     {
-        let x = self.inverse(d)?;
-        Ok(a * x % self.modulus)
+        Ok(self.product(a, self.inverse(d)?))
     }
 }

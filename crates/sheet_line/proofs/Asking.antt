@@ -8,7 +8,8 @@ use borrow.Author.Tests.{eq-eqb, ne_eqb, le-leb, lt-leb}
 use mir.Syntax.{w64}
 use mir.Val.{SFits}
 use Rattle.std.specs.Prelude.{Option, Some, None}
-use Rattle.literal.proofs.Sizes.{fits_of_size, size_negation}
+use Rattle.std.proofs.lemmas.Int.{fits_signed_from_abs}
+use Rattle.literal.proofs.Sizes.{size_negation}
 use Rattle.sheet_text.specs.Line.{decimal_of, negative, positive, point_of, line_of, longest_line, parse}
 use Rattle.sheet_line.specs.Cut.{cut_at, cut, cut_number, cut_whole, cut_line}
 use Rattle.sheet_line.specs.Split.{content_length, split}
@@ -23,7 +24,7 @@ number_within None e = absurd (no_value _ (sym e))
 number_within (Some m) {n} e = let f : n ≡ cut m = cc in omega (arith, cut_within m)
 
 pub minus_fits : (n : ℕ) → n ≤ cut_at → SFits w64 (neg_ℤ (pos n))
-minus_fits n h = fits_of_size (neg_ℤ (pos n)) (omega (arith, size_negation (pos n)))
+minus_fits n h = fits_signed_from_abs w64 (neg_ℤ (pos n)) (omega (arith, size_negation (pos n)))
 
 no_negative : (r : Option ℕ) → None ≡ cut_number r → None ≡ cut_whole (negative r)
 no_negative None e = refl

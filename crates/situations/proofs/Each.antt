@@ -12,7 +12,7 @@ use lib.IntN.{ℤ, pos, negsuc, nat_abs, ◌*ℤ◌}
 use borrow.Author.Tests.{leb-true, le-leb}
 use Rattle.refusals.specs.Refusals.{no_exp_or_log, too_deep, pool_full}
 use Rattle.literal.specs.Literal.{greatest, is_literal, is_zero, is_one, folded, exp_of, log_of}
-use Rattle.literal.proofs.Sizes.{size_product}
+use Rattle.std.proofs.lemmas.Int.{unsigned_abs-mul}
 use Rattle.pool.specs.declared.node.Node.{Node}
 use Rattle.pool.specs.declared.node.Node.TheVariants as node
 use Rattle.pool.specs.Pool.{Pool, Out, done, refused, Run, bind, node_at}
@@ -125,7 +125,7 @@ module _ (left : ℕ) where
 same_size : (a b : ℤ) → nat_abs a ≡ 1 → is_literal b ≡ true → is_literal (a *ℤ b) ≡ true
 same_size a b e h =
     let small : nat_abs b ≤ greatest = leb-true (nat_abs b) greatest h in
-    le-leb (nat_abs (a *ℤ b)) greatest (rw (size_product a b, e) (omega arith))
+    le-leb (nat_abs (a *ℤ b)) greatest (rw (unsigned_abs-mul a b, e) (omega arith))
 
 -- a product with 1 or -1 on its left
 unit_product : {ks : List ℕ} → OneOf ks pool_full → (c : Calls) (R : Pool) (i j : ℕ) (a : ℤ) → nat_abs a ≡ 1 → node_at R i ≡ node.Lit a → Making ks c (mul_table (node_at R) i j)

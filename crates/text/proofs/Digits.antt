@@ -7,12 +7,11 @@ use Prim.Native.Nat.{ℕ, zero, suc, ◌+◌, ◌-◌, ◌/◌, ◌%◌, ◌^◌
 use native.Mathlib.Nat.{pow-suc}
 use native.Mathlib.Omega.{arith}
 use lib.Dec.{ltb}
-use lib.ListN.{length, drop, set, length-append, length-set}
+use lib.ListN.{length, length-append}
 use borrow.Author.Tests.{lt-ltb, le-ltb}
 use mir.Syntax.{w64}
 use mir.Val.{bits}
-use Rattle.text.specs.Text.{digit, digits_within, most_digits, decimal, room}
-use Rattle.text.proofs.Fronts.{one_more_in_front, one_byte}
+use Rattle.text.specs.Text.{digit, digits_within, most_digits, decimal}
 
 pub one_digit : (k n : ℕ) → n < 10 → digits_within (suc k) n ≡ digit n ∷ []
 unfolding digits_within
@@ -34,33 +33,29 @@ at_most (suc k) n = go (ltb n 10) (digits_within k (n / 10)) (at_most k (n / 10)
     go true higher h = omega arith
     go false higher h = omega (arith, length-append higher (digit (n % 10) ∷ []))
 
--- the digit of the lowest place of rest stands at start, those of n below it behind it, and at most more digits are still to come
-pub record Remains (n : ℕ) (bytes : List ℕ) (start rest : ℕ) : Type 0 where
+-- the text begins with the digit of the lowest place of rest, those of n below it come behind it, and at most more digits are still to come
+pub record Remains (n : ℕ) (text : List ℕ) (rest : ℕ) : Type 0 where
   pub more : ℕ
   pub enough : rest < 10 ^ suc more
-  pub space : more + (room - most_digits) ≤ start
-  pub inside : start < room
-  pub whole : length bytes ≡ room
+  pub space : length text + more ≤ most_digits
   pub later : List ℕ
-  pub here : drop start bytes ≡ digit (rest % 10) ∷ later
+  pub here : text ≡ digit (rest % 10) ∷ later
   pub gives : digits_within (suc more) rest ++ later ≡ decimal n
 
-pub at_first : (n : ℕ) (bytes : List ℕ) → n < 2 ^ bits w64 → length bytes ≡ room → Remains n (set bytes (room - 1) (digit (n % 10))) (room - 1) n
+pub at_first : (n : ℕ) → n < 2 ^ bits w64 → Remains n (digit (n % 10) ∷ []) n
 unfolding decimal
-at_first n bytes h e =
+at_first n h =
     record {
       more = most_digits - 1;
       enough = omega arith;
       space = omega arith;
-      inside = omega arith;
-      whole = length-set bytes (room - 1) (digit (n % 10)) ∙ e;
       later = [];
-      here = one_byte bytes (digit (n % 10)) e;
+      here = refl;
       gives = append-nil (digits_within most_digits n);
     }
 
-module _ (n : ℕ) (bytes : List ℕ) (start rest : ℕ) where
-  turn : (r : Remains n bytes start rest) (k : ℕ) → r.more ≡ k → 10 ≤ rest → Remains n (set bytes (start - 1) (digit (rest / 10 % 10))) (start - 1) (rest / 10)
+module _ (n : ℕ) (text : List ℕ) (rest : ℕ) where
+  turn : (r : Remains n text rest) (k : ℕ) → r.more ≡ k → 10 ≤ rest → Remains n (digit (rest / 10 % 10) ∷ text) (rest / 10)
   turn r zero e h = absurd (let f : rest < 10 ^ suc zero = rw e at r.enough in omega arith)
   turn r (suc k) e h =
       let f : rest < 10 ^ suc (suc k) = rw e at r.enough in
@@ -69,10 +64,8 @@ module _ (n : ℕ) (bytes : List ℕ) (start rest : ℕ) where
         more = k;
         enough = fewer (suc k) rest f;
         space = omega (arith, r.space, e);
-        inside = omega (arith, r.inside);
-        whole = length-set bytes (start - 1) (digit (rest / 10 % 10)) ∙ r.whole;
-        later = drop start bytes;
-        here = one_more_in_front bytes start (digit (rest / 10 % 10)) (omega (arith, r.space)) (omega (arith, r.inside, r.whole));
+        later = text;
+        here = refl;
         gives =
             rw r.here
             (sym (append_assoc (digits_within (suc k) (rest / 10)) (digit (rest % 10) ∷ []) r.later)
@@ -80,10 +73,10 @@ module _ (n : ℕ) (bytes : List ℕ) (start rest : ℕ) where
             ∙ g);
       }
 
-  pub after_a_turn : Remains n bytes start rest → 10 ≤ rest → Remains n (set bytes (start - 1) (digit (rest / 10 % 10))) (start - 1) (rest / 10)
+  pub after_a_turn : Remains n text rest → 10 ≤ rest → Remains n (digit (rest / 10 % 10) ∷ text) (rest / 10)
   after_a_turn r h = turn r r.more refl h
 
-  pub at_last : Remains n bytes start rest → rest < 10 → drop start bytes ≡ decimal n
+  pub at_last : Remains n text rest → rest < 10 → text ≡ decimal n
   at_last r h =
       r.here
       ∙ ap (λ (d : ℕ). digit d ∷ r.later) (small rest h)

@@ -4,7 +4,7 @@ use Rattle.text.proofs.Digits.{Remains}
 use Rattle.text.proofs.decimal_text.Given as goal
 
 abbrev pub invariant-loop-rest : goal.invariant-loop-rest
-invariant-loop-rest l = Remains l.n l.bytes l.start l.rest
+invariant-loop-rest l = Remains l.n l.text l.rest
 
 abbrev pub decreases-loop-rest : goal.decreases-loop-rest
 decreases-loop-rest l = l.rest

@@ -16,4 +16,4 @@ returns-then-n-lt100 c =
     (written_after c.put-tens.ensures c.put-then-n-lt100.ensures)
 
 pub returns : goal.returns
-returns c = written_as _ _ (c.as_bytes.ensures ∙ c.decimal_text.ensures) c.write.ensures
+returns c = written_as _ _ (c.as_bytes.ensures.value ∙ c.decimal_text.ensures) c.write.ensures

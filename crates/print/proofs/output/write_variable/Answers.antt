@@ -13,4 +13,4 @@ returns-then-number-lt-LETTERS c =
     written_as _ _ named c.put.ensures
 
 pub returns : goal.returns
-returns c = written_as _ _ (c.as_bytes.ensures ∙ c.variable_text.ensures) c.write.ensures
+returns c = written_as _ _ (c.as_bytes.ensures.value ∙ c.variable_text.ensures) c.write.ensures

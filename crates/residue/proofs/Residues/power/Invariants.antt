@@ -4,7 +4,7 @@ use Rattle.residue.proofs.Squaring.{Squares}
 use Rattle.residue.proofs.Residues.power.Given as goal
 
 abbrev pub invariant-loop-n : goal.invariant-loop-n
-invariant-loop-n l = Squares l.m l.a l.e l.acc l.b l.n
+invariant-loop-n l = Squares l.self.modulus l.a l.e l.acc l.b l.n
 
 abbrev pub decreases-loop-n : goal.decreases-loop-n
 decreases-loop-n l = l.n
