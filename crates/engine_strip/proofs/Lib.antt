@@ -1,3 +1,2 @@
-pub mod Strips
 pub mod Accepting
 pub mod Theorems

@@ -9,12 +9,11 @@ ghost use Rattle.engine_strip.specs.Strips.{strip_call, run_strip_call};
 use engine_values::VALUES_MAX;
 use key_strip::PLACES;
 use low_bytes::TEXT_MAX;
-use pool::LIMIT;
 use reached::Test;
 use refusals::Refusal;
 
 // The strip of an expression, into a lent output: what it needs is known before a byte of it is written.
-#[tactic(auto, unfolding(crate::specs::Strips::strip_call))]
+#[tactic(auto, unfolding(crate::specs::Strips::strip_call), using(lent::proofs::Calling::one_fits))]
 pub fn strip(
     kinds: &[u8],
     words: &[u64],
@@ -24,15 +23,13 @@ pub fn strip(
 ) -> Result<u64, Refusal>
     ensures { put (numbered result) out.new ≡ strip_call kinds.now words.now count root out.old }
 {
-    let mut k = [0u8; LIMIT];
-    let mut w = [0u64; LIMIT];
-    lent::take_whole(kinds, words, count, &mut k, &mut w)?;
+    let tables = lent::tables(kinds, words, count)?;
     lent::one_given(count, root)?;
     let node = root as u32;
-    if reached::reaches(&k, &w, node, Test::ExpOrLog) {
+    if reached::reaches(tables, node, Test::ExpOrLog) {
         return Err(Refusal::NotEvaluated);
     }
-    let need = strip_write::need_of(&k, &w, node);
+    let need = strip_write::need_of(tables, node);
     if PLACES < need.places {
         return Err(Refusal::TooManyPlaces);
     }
@@ -43,7 +40,7 @@ pub fn strip(
     if out.len() < length {
         return Err(Refusal::NoRoom);
     }
-    strip_write::strip_into(&k, &w, node, out);
+    strip_write::strip_into(tables, node, out);
     Ok(length as u64)
 }
 

@@ -25,7 +25,7 @@ fn power(x: u64) -> Node
     requires { x < half }
     ensures { result ≡ key_of 8 x }
 {
-    pool::decode(8, HALF * x)
+    Node::decode(8, HALF * x)
 }
 
 // A code and the number that follows it, as a key.
@@ -35,8 +35,8 @@ fn key_of(code: u8, x: u64) -> Node
     ensures { result ≡ key_of code x }
 {
     match code {
-        1 => pool::decode(1, x),
-        2 => pool::decode(2, x),
+        1 => Node::decode(1, x),
+        2 => Node::decode(2, x),
         8 => power(x),
         3 => Node::Add(1, 0),
         4 => Node::Mul(1, 0),

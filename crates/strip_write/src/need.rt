@@ -1,13 +1,14 @@
 // How many places and bytes the strip of a root needs: what each node up to the root needs is kept in two tables, the smaller numbers first.
 ghost use Rattle.std.specs.Prelude.{◌≡◌, ◌<◌, ◌≤◌, length};
-ghost use Rattle.pool.specs.Pool.{limit, node_in};
+ghost use Rattle.pool.specs.Pool.{limit};
+ghost use Rattle.pool.specs.Tables.{nodes};
 ghost use Rattle.key_strip.specs.Strip.{own_key};
 ghost use Rattle.strip_write.specs.Need.{Needed};
 ghost use Rattle.strip_write.specs.Kept.{Kept, NeededBelow};
 
 use key_strip::PLACES;
 use low_bytes::TEXT_MAX;
-use pool::{LIMIT, Node, Parts};
+use pool::{LIMIT, Node, Parts, Tables};
 
 // Where counting stops: one more than there are places, and than a strip has bytes.
 const PAST_PLACES: u32 = PLACES + 1;
@@ -60,14 +61,14 @@ impl Needs {
     }
 
     // What node i needs, by what its parts need: a right part runs above the left one's value.
-    fn of_node(&self, kinds: &[u8; LIMIT], words: &[u64; LIMIT], i: u32) -> Need
+    fn of_node(&self, tables: Tables<'_>, i: u32) -> Need
         requires i_lt_limit { i < limit }
-        requires needed_below { NeededBelow (node_in kinds.now words.now) i self.now }
-        ensures { Needed (node_in kinds.now words.now) i result }
+        requires needed_below { NeededBelow (nodes tables) i self.now }
+        ensures { Needed (nodes tables.entry) i result }
     {
-        let node = pool::node_at(kinds, words, i);
+        let node = tables.node(i);
         let own = own_length(node);
-        match pool::parts_of(node) {
+        match node.parts() {
             Parts::None => Need {
                 places: 1,
                 length: own,
@@ -92,12 +93,12 @@ impl Needs {
     }
 
     // The nodes before a number, the smaller ones first.
-    fn fill(&mut self, kinds: &[u8; LIMIT], words: &[u64; LIMIT], end: u32)
+    fn fill(&mut self, tables: Tables<'_>, end: u32)
         requires { end ≤ limit }
-        ensures { NeededBelow (node_in kinds.now words.now) end self.new }
+        ensures { NeededBelow (nodes tables.entry) end self.new }
     {
         for i in 0..end {
-            let need = self.of_node(kinds, words, i);
+            let need = self.of_node(tables, i);
             self.places[i as usize] = need.places as u8;
             self.lengths[i as usize] = need.length;
         }
@@ -105,8 +106,8 @@ impl Needs {
 }
 
 // What the strip of a root needs: each node is looked at once. Past the tables there is no node, and its strip is one byte.
-pub fn need_of(kinds: &[u8; LIMIT], words: &[u64; LIMIT], root: u32) -> Need
-    ensures { Needed (node_in kinds.now words.now) root result }
+pub fn need_of(tables: Tables<'_>, root: u32) -> Need
+    ensures { Needed (nodes tables.entry) root result }
 {
     if LIMIT <= root as usize {
         return Need {
@@ -119,6 +120,6 @@ pub fn need_of(kinds: &[u8; LIMIT], words: &[u64; LIMIT], root: u32) -> Need
         lengths: [0; LIMIT],
     };
     let end = root + 1;
-    needs.fill(kinds, words, end);
+    needs.fill(tables, end);
     needs.of(end, root)
 }

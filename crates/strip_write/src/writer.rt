@@ -1,11 +1,11 @@
 // A strip written to an output that has room for it: a node's parts by calls on smaller numbers, then its own code.
 ghost use Rattle.std.specs.Prelude.{◌≡◌, ◌∷◌, ◌++◌, ◌+◌, ◌≤◌, length, drop};
 ghost use Rattle.low_bytes.specs.LowBytes.{low_bytes};
-ghost use Rattle.pool.specs.Pool.{node_in};
+ghost use Rattle.pool.specs.Tables.{nodes};
 ghost use Rattle.key_strip.specs.Strip.{own_key, strip_of};
 ghost use Rattle.strip_write.specs.Written.{strip_below, WrittenFrom};
 
-use pool::{LIMIT, Node, Parts};
+use pool::{Node, Parts, Tables};
 
 // A code and the k lowest bytes of what follows it; the place after them is the answer, here and below.
 fn put_key(out: &mut [u8], at: usize, code: u8, k: usize, x: u64) -> usize
@@ -22,7 +22,7 @@ fn put_own(out: &mut [u8], at: usize, node: Node) -> usize
     requires { at + length (own_key node) ≤ length out.old }
     ensures { WrittenFrom at out.old (own_key node) result out.new }
 {
-    let code = pool::kind_of(node);
+    let code = node.kind();
     match node {
         Node::Variable(v) => put_key(out, at, code, 2, v as u64),
         Node::Lit(z) => put_key(out, at, code, 8, literal::to_word(z)),
@@ -32,37 +32,30 @@ fn put_own(out: &mut [u8], at: usize, node: Node) -> usize
 }
 
 // The strip of a part whose number is below the bound: its left part, its right part, then its own code. Any other part has no strip.
-fn strip_below(
-    kinds: &[u8; LIMIT],
-    words: &[u64; LIMIT],
-    out: &mut [u8],
-    at: usize,
-    bound: usize,
-    of: u32,
-) -> usize
-    requires { at + length (strip_below (node_in kinds.now words.now) bound of) ≤ length out.old }
-    ensures { WrittenFrom at out.old (strip_below (node_in kinds.now words.now) bound of) result out.new }
+fn strip_below(tables: Tables<'_>, out: &mut [u8], at: usize, bound: usize, of: u32) -> usize
+    requires { at + length (strip_below (nodes tables) bound of) ≤ length out.old }
+    ensures { WrittenFrom at out.old (strip_below (nodes tables.entry) bound of) result out.new }
 {
     let i = of as usize;
     if bound <= i {
         return at;
     }
-    let node = pool::node_at(kinds, words, of);
-    let own = match pool::parts_of(node) {
+    let node = tables.node(of);
+    let own = match node.parts() {
         Parts::None => at,
-        Parts::One(a) => strip_below(kinds, words, out, at, i, a),
+        Parts::One(a) => strip_below(tables, out, at, i, a),
         Parts::Two(a, b) => {
-            let right = strip_below(kinds, words, out, at, i, a);
-            strip_below(kinds, words, out, right, i, b)
+            let right = strip_below(tables, out, at, i, a);
+            strip_below(tables, out, right, i, b)
         }
     };
     put_own(out, own, node)
 }
 
 // The strip of a root, from the front of an output that has room for it.
-pub fn strip_into(kinds: &[u8; LIMIT], words: &[u64; LIMIT], root: u32, out: &mut [u8])
-    requires { length (strip_of (node_in kinds.now words.now) root) ≤ length out.old }
-    ensures { out.new ≡ strip_of (node_in kinds.now words.now) root ++ drop (length (strip_of (node_in kinds.now words.now) root)) out.old }
+pub fn strip_into(tables: Tables<'_>, root: u32, out: &mut [u8])
+    requires { length (strip_of (nodes tables) root) ≤ length out.old }
+    ensures { out.new ≡ strip_of (nodes tables.entry) root ++ drop (length (strip_of (nodes tables.entry) root)) out.old }
 {
-    strip_below(kinds, words, out, 0, root as usize + 1, root);
+    strip_below(tables, out, 0, root as usize + 1, root);
 }

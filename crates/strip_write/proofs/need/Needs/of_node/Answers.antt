@@ -11,7 +11,7 @@ overflow_add-base c =
       arith,
       (part_is_counted c.requires.needed_below c.of-base.ensures).1,
       c.own_length-own.ensures,
-      own_is_short c.node_at-node.result,
+      own_is_short c.node-node.result,
     )
 
 pub overflow_add-right : goal.overflow_add-right
@@ -33,21 +33,21 @@ overflow_add-left-in-Two c =
       (part_is_counted c.requires.needed_below c.of-left.ensures).1,
       (part_is_counted c.requires.needed_below c.of-right.ensures).1,
       c.own_length-own.ensures,
-      own_is_short c.node_at-node.result,
+      own_is_short c.node-node.result,
     )
 
 pub returns-in-None : goal.returns-in-None
 returns-in-None c =
-    leaf_needs c.requires.needed_below c.node_at-node.ensures c.parts_of.ensures c.own_length-own.ensures
+    leaf_needs c.requires.needed_below c.node-node.ensures c.parts.ensures c.own_length-own.ensures
     c.in-None.is refl refl
 
 pub returns-in-One : goal.returns-in-One
 returns-in-One c =
-    base_needs c.requires.needed_below c.node_at-node.ensures c.parts_of.ensures c.own_length-own.ensures
+    base_needs c.requires.needed_below c.node-node.ensures c.parts.ensures c.own_length-own.ensures
     c.in-One.is c.of-base.ensures refl c.min.ensures
 
 pub returns-in-Two : goal.returns-in-Two
 returns-in-Two c =
-    both_need c.requires.needed_below c.node_at-node.ensures c.parts_of.ensures c.own_length-own.ensures
+    both_need c.requires.needed_below c.node-node.ensures c.parts.ensures c.own_length-own.ensures
     c.in-Two.is c.of-left.ensures c.of-right.ensures
     (c.min-in-Two.ensures ∙ rw c.max-most.ensures) c.min-in-Two-2.ensures
