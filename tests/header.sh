@@ -36,7 +36,7 @@ awk '/^enum bunlayog_refusal/ { on = 1 } on && /^ *\/\*/ { said = $0; gsub(/^ *\
 sed -n 's|^ */\* \([0-9]*\) \*/ "\(.*\)",$|\1 \2|p' "$text" | sed 1d > "$out/texts"
 # the code and the paper have the names of an enum's cases: BrokenPool for BROKEN_POOL
 in_capitals() { awk '{ name = $2; gsub(/[A-Z]/, "_&", name); sub(/^_/, "", name); $2 = toupper(name); print }'; }
-sed -n 's/^ *Refusal::\([A-Za-z]*\) => \([0-9]*\),$/\2 \1/p' crates/refusals/src/lib.rt | in_capitals > "$out/names_in_code"
+sed -n 's/^ *\([A-Z][A-Za-z]*\) = \([0-9]*\),$/\2 \1/p' crates/refusals/src/lib.rt | in_capitals > "$out/names_in_code"
 # a comment may go over two lines; of a request's refusal it quotes the request, with its number first
 awk '/^-- / { line = $0; sub(/^-- /, "", line); said = said == "" ? line : said " " line; next }
   /^[a-z_]+ = [0-9]+$/ {

@@ -6,30 +6,30 @@ ghost use Rattle.refusals.specs.Numbers.{number};
 
 use std::fmt;
 
-// Why a call is refused, in the order of the numbers.
+// Why a call is refused, with the number that callers get.
 #[derive(Clone, Copy, Debug, PartialEq, Eq)]
 pub enum Refusal {
-    BrokenPool,
-    UnknownNode,
-    UnknownVariable,
-    NotLiteral,
-    WrongOrder,
-    WrongValues,
-    WrongLength,
-    WrongEntry,
-    WrongSequence,
-    MaxReached,
-    NoExpOrLog,
-    OutOfRange,
-    ExponentTooLarge,
-    TooDeep,
-    NoValue,
-    NotEvaluated,
-    NoInverse,
-    PoolFull,
-    NoRoom,
-    TooManyPlaces,
-    WrongStrip,
+    BrokenPool = 1,
+    UnknownNode = 2,
+    UnknownVariable = 3,
+    NotLiteral = 4,
+    WrongOrder = 5,
+    WrongValues = 6,
+    WrongLength = 7,
+    WrongEntry = 8,
+    WrongSequence = 9,
+    MaxReached = 10,
+    NoExpOrLog = 11,
+    OutOfRange = 12,
+    ExponentTooLarge = 13,
+    TooDeep = 14,
+    NoValue = 15,
+    NotEvaluated = 16,
+    NoInverse = 17,
+    PoolFull = 18,
+    NoRoom = 19,
+    TooManyPlaces = 27,
+    WrongStrip = 28,
 }
 
 impl Refusal {
@@ -37,29 +37,7 @@ impl Refusal {
     pub fn number(self) -> u32
         ensures { result ≡ number self }
     {
-        match self {
-            Refusal::BrokenPool => 1,
-            Refusal::UnknownNode => 2,
-            Refusal::UnknownVariable => 3,
-            Refusal::NotLiteral => 4,
-            Refusal::WrongOrder => 5,
-            Refusal::WrongValues => 6,
-            Refusal::WrongLength => 7,
-            Refusal::WrongEntry => 8,
-            Refusal::WrongSequence => 9,
-            Refusal::MaxReached => 10,
-            Refusal::NoExpOrLog => 11,
-            Refusal::OutOfRange => 12,
-            Refusal::ExponentTooLarge => 13,
-            Refusal::TooDeep => 14,
-            Refusal::NoValue => 15,
-            Refusal::NotEvaluated => 16,
-            Refusal::NoInverse => 17,
-            Refusal::PoolFull => 18,
-            Refusal::NoRoom => 19,
-            Refusal::TooManyPlaces => 27,
-            Refusal::WrongStrip => 28,
-        }
+        self as u32
     }
 }
 
