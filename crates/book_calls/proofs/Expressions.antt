@@ -16,7 +16,7 @@ use Rattle.pool.specs.declared.node.Node.TheVariants.{Empty, Variable, Lit, Add,
 use Rattle.pool.specs.Nodes.{parts, greatest_variable, all_below}
 use Rattle.pool.specs.Pool.{Pool, limit, node_at, done, refused}
 use Rattle.constructor_laws.specs.Keeps.{Keeps}
-use Rattle.constructor_laws.proofs.Rules.{all_below_lem, rules_of}
+use Rattle.constructor_laws.proofs.Rules.{below_by_test, rules_of}
 use Rattle.shape.specs.Shape.{has, Reach, root, part}
 use Rattle.shape.proofs.Lists.{here}
 use Rattle.taylor.specs.Work.{Result, Work}
@@ -172,7 +172,7 @@ module _ {ks ws : List ℕ} {n : ℕ} {r : Series} {ks' ws' : List ℕ} {n' : �
       let known = demanded (leb v greatest_variable) unknown_variable inside.1 in
       let fits = demanded (is_point x) not_literal known.1 in
       let small = demanded (ltb order terms) wrong_order fits.1 in
-      let inside' : from < n = (all_below_lem n (from ∷ []) inside.0).0 in
+      let inside' : from < n = (below_by_test n (from ∷ []) inside.0).0 in
       let known' : v ≤ greatest_variable = leb-true v greatest_variable known.0 in
       let small' : order < terms = ltb-true order terms small.0 in
       let k = kept_then (expand_kept done.keeps from v x order inside' known' small') small.1 in

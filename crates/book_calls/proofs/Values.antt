@@ -10,7 +10,7 @@ use lib.IntN.{ℤ}
 use lib.ListN.{length, get_or}
 use Rattle.pool.specs.Pool.{Pool, node_at, done}
 use Rattle.constructor_laws.specs.Keeps.{Keeps}
-use Rattle.constructor_laws.proofs.Rules.{AllBelow, all_below_lem}
+use Rattle.constructor_laws.proofs.Rules.{AllBelow, below_by_test}
 use Rattle.taylor.specs.Work.{at}
 use Rattle.taylor.specs.Expansion.{Expansion, times, quotient, exponential, logarithm}
 use Rattle.taylor.specs.declared.expansion.Expansion.TheVariants.{Constant, Polynomial}
@@ -50,10 +50,10 @@ entry_below n (c ∷ cs) h (suc k) l = entry_below n cs h.1 k (omega arith)
 module _ {A : Algebra} (M : Model A) (D : Distributive A) (fractions : Fractions A) (env : Values A) where
   module _ (P Q : Pool) (keeps : Keeps P) where
     nodes : (us : List ℕ) → Fits P.count (Polynomial us) → (k : ℕ) → k < length us → at us k < P.count
-    nodes us h = entry_below P.count us (all_below_lem P.count us h.nodes)
+    nodes us h = entry_below P.count us (below_by_test P.count us h.nodes)
 
     node : (c : ℕ) → Fits P.count (Constant c) → c < P.count
-    node c h = (all_below_lem P.count (c ∷ []) h.nodes).0
+    node c h = (below_by_test P.count (c ∷ []) h.nodes).0
 
     -- a constant that is one formula's
     constant_values : {v : ℕ} (f : Formula) → Stands P f → work f P ≡ done v Q → HasValues A env Q (Constant v) (λ k. f)

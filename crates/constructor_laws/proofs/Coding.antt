@@ -4,13 +4,8 @@ use mathlib.Core.Path.{◌≡◌, refl}
 use mathlib.Core.Bool.{true, and-eq-true_iff}
 use Prim.Native.Nat.{ℕ, ◌≤◌, ◌<◌}
 use native.Mathlib.Omega.{arith}
-use lib.IntN.{nat_abs}
-use mir.Syntax.{w64}
-use mir.Val.{Fits}
-use mir.ValLaws.{of_z_fits}
-use borrow.Author.Tests.{leb-true, le-leb, lt-ltb}
-use Rattle.literal.specs.Literal.{greatest, is_literal}
-use Rattle.literal.proofs.Folds.{literal_fits}
+use borrow.Author.Tests.{le-leb, lt-ltb}
+use Rattle.literal.specs.Literal.{is_literal}
 use Rattle.literal.proofs.Theorems.{literal_word_read}
 use Rattle.pool.specs.declared.node.Node.{Node}
 use Rattle.pool.specs.declared.node.Node.TheVariants.{Empty, Variable, Lit, Add, Mul, Div, Exp, Log, Pow, Max}
@@ -80,9 +75,6 @@ high_of_pair a b h = omega arith
 pair_read : (make : ℕ → ℕ → Node) (a b : ℕ) → a < half → make (low_of (pair a b)) (high_of (pair a b)) ≡ make a b
 pair_read make a b h = rw (low_of_pair a b h, high_of_pair a b h)
 
-pair_fits : (a b : ℕ) → a < half → b < half → Fits w64 (pair a b)
-pair_fits a b h k = record { fits = omega arith }
-
 -- ---- a node and its word, in a pool whose numbers have half a word
 module _ {n : ℕ} (small : n ≤ half) where
   short : {a : ℕ} → a < n → a < half
@@ -103,19 +95,3 @@ module _ {n : ℕ} (small : n ≤ half) where
 
   pub fine_is_read : {node : Node} → Fine n node → decode (kind_of node) (word_of node) ≡ node
   fine_is_read {node} f = read_back node f.below f.range
-
-  word_fits : (node : Node) → AllBelow n (parts node) → InRange node → Short node → Fits w64 (word_of node)
-  word_fits Empty h r s = absurd r
-  word_fits (Variable v) h r s = record { fits = omega arith }
-  word_fits (Lit z) h r s = of_z_fits w64 z (literal_fits z (leb-true (nat_abs z) greatest r))
-  word_fits (Add a b) h r s = pair_fits a b (short h.0) (short h.1.0)
-  word_fits (Mul a b) h r s = pair_fits a b (short h.0) (short h.1.0)
-  word_fits (Div a b) h r s = pair_fits a b (short h.0) (short h.1.0)
-  word_fits (Exp a) h r s = record { fits = omega (arith, short h.0) }
-  word_fits (Log a) h r s = record { fits = omega (arith, short h.0) }
-  word_fits (Pow a e) h r s = pair_fits a e (short h.0) (omega arith)
-  word_fits (Max a b) h r s = pair_fits a b (short h.0) (short h.1.0)
-
-  -- what a word of 64 bits holds
-  pub fine_word_fits : {node : Node} → Fine n node → Short node → Fits w64 (word_of node)
-  fine_word_fits {node} f = word_fits node f.below f.range

@@ -1,7 +1,7 @@
 -- Every constructor only appends, whatever the pool, the arguments and the depth: appending does, one piece of work after another does where both do, so a term does where the calls in it do, and the rest is induction on the depth.
 -- Assumes nothing.
 use Rattle.std.specs.Prelude.{Ok, Err}
-use mathlib.Core.Path.{◌≡◌, refl, sym, ap, ◌∙◌, subst}
+use mathlib.Core.Path.{◌≡◌, refl, sym, ap, ◌∙◌}
 use mathlib.Core.Bool.{Bool, true, false, ◌&&◌, cond}
 use mathlib.Core.List.{List}
 use Prim.Native.Nat.{ℕ, zero, suc, ◌+◌, ◌-◌, ◌≤◌, ◌<◌}
@@ -16,12 +16,12 @@ use Rattle.literal.specs.Literal.{Folded}
 use Rattle.pool.specs.declared.node.Node.{Node}
 use Rattle.pool.specs.declared.node.Node.TheVariants as node
 use Rattle.pool.specs.Nodes.{kind_of, word_of, greatest_exponent}
-use Rattle.pool.specs.Pool.{Pool, pool, Out, Result, done, refused, Work, Run, bind, yield, refuse, append, limit, node_at, node_in}
+use Rattle.pool.specs.Pool.{Pool, pool, Out, done, refused, Work, Run, bind, yield, refuse, append, limit, node_at, node_in}
 use Rattle.constructors.specs.Terms.{Term, #, lit, lit_exp, lit_log, add, mul, exp, log, pow, Add, Mul, Div, Max, Exp, Log, Pow}
 use Rattle.constructors.specs.Tables.{add_table, mul_table, div_table, neg_table, exp_table, log_table, pow_table, max_table}
 use Rattle.constructors.specs.Build.{Calls, literal, if_exponent_fits, build, no_calls, deeper, calls}
 use Rattle.constructor_laws.specs.Grown.{SameBut, Grown, Grows}
-use Rattle.constructor_laws.proofs.Going.{Going, Ways, goes_from, bind_goes, then_goes, yield_goes, refuse_goes}
+use Rattle.constructor_laws.proofs.Going.{Going, Ways, then_goes, yield_goes, refuse_goes}
 
 -- ---- one table
 
@@ -92,15 +92,6 @@ Growing work = Going Grown work
 
 pub grown_ways : Ways Grown
 grown_ways = record { by_nothing = grown_by_nothing; by_both = grown_by_both }
-
-pub accepted_grown : {P Q : Pool} {i : ℕ} {o : Out} → Grows P o → o ≡ done i Q → Grown P Q
-accepted_grown {P} g e = subst (Grows P) e g
-
-pub grows_from : {A : Type 0} {P Q : Pool} → Grown P Q → (o : Result Pool A) → Grows Q o → Grows P o
-grows_from g o h = goes_from grown_ways g o h
-
-pub bind_grows : {A B : Type 0} (P : Pool) (o : Result Pool A) {next : A → Work B} → Grows P o → ((v : A) → Growing (next v)) → Grows P (bind o next)
-bind_grows P o g h = bind_goes grown_ways P o g h
 
 -- one piece of work after the other, so that a proof is the same `do` block as the work
 infixl 1 ◌>>=◌

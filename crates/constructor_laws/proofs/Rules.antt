@@ -46,11 +46,11 @@ abbrev pub AllBelow : ℕ → List ℕ → Type 0
 AllBelow n [] = Unit {0}
 AllBelow n (a ∷ more) = (a < n) × AllBelow n more
 
-pub all_below_lem : (n : ℕ) (l : List ℕ) → all_below n l ≡ true → AllBelow n l
-all_below_lem n [] e = tt
-all_below_lem n (a ∷ more) e =
+pub below_by_test : (n : ℕ) (l : List ℕ) → all_below n l ≡ true → AllBelow n l
+below_by_test n [] e = tt
+below_by_test n (a ∷ more) e =
     let both = (and-eq-true_iff (ltb a n) (all_below n more)).0 e in
-    (ltb-true a n both.0, all_below_lem n more both.1)
+    (ltb-true a n both.0, below_by_test n more both.1)
 
 pub below_all : (n : ℕ) (l : List ℕ) → AllBelow n l → all_below n l ≡ true
 below_all n [] h = refl
@@ -128,7 +128,7 @@ nothing_behind {P} k i h = go (ltb i limit) refl
 
 pub standing_parts_below : (i : ℕ) (n : Node) → may_stand_at i n ≡ true → AllBelow i (parts n)
 unfolding may_stand_at
-standing_parts_below i n e = all_below_lem i (parts n) ((and-eq-true_iff (is_node n) (all_below i (parts n))).0 e).1
+standing_parts_below i n e = below_by_test i (parts n) ((and-eq-true_iff (is_node n) (all_below i (parts n))).0 e).1
 
 -- whatever number is read, the parts found there are below n
 abbrev pub PartsBelow : ℕ → (ℕ → Node) → Type 0
@@ -152,9 +152,9 @@ zeros_long : length zeros ≡ limit
 unfolding zeros
 zeros_long = length-replicate {A = ℕ} limit 0
 
-zero_at_lem : (i : ℕ) → i < limit → get_or zeros i 0 ≡ 0
+zeros_hold_0 : (i : ℕ) → i < limit → get_or zeros i 0 ≡ 0
 unfolding zeros
-zero_at_lem i h = get_or-replicate {A = ℕ} limit i 0 0 h
+zeros_hold_0 i h = get_or-replicate {A = ℕ} limit i 0 0 h
 
 pub empty_keeps : (full : ℕ) → full ≤ limit → Keeps (pool zeros zeros 0 full)
 empty_keeps full h = record { rules = kept_rules zeros zeros 0 rules; end = h }
@@ -165,5 +165,5 @@ empty_keeps full h = record { rules = kept_rules zeros zeros 0 rules; end = h }
           kinds_long = zeros_long;
           words_long = zeros_long;
           within = omega arith;
-          entries = λ i l. entry_behind zeros zeros 0 i (omega arith) ∙ rw (zero_at_lem i l);
+          entries = λ i l. entry_behind zeros zeros 0 i (omega arith) ∙ rw (zeros_hold_0 i l);
         }

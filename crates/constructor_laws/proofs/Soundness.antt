@@ -135,9 +135,9 @@ module _ (n : ℕ) (at : ℕ → Node) (below : PartsBelow n at) where
   -- ---- with two arguments
 
   module _ (lhs rhs : ℕ) (l : lhs < n) (r : rhs < n) where
-    add_arms_lem : Gives (Sound n) (add_arms at lhs rhs)
+    add_arms_sound : Gives (Sound n) (add_arms at lhs rhs)
     unfolding add_arms
-    add_arms_lem =
+    add_arms_sound =
         (lit? lhs >>= (λ a _. is_zero a >> return r))
         or (lit? rhs >>= (λ b _. is_zero b >> return l))
         or (lit? lhs & lit? rhs >>= (λ _ _. return tt))
@@ -150,11 +150,11 @@ module _ (n : ℕ) (at : ℕ → Node) (below : PartsBelow n at) where
               or (lit? d >>= (λ _ _. return ((l, hc), hd))))))
 
     pub add_sound : Sound n (add_table at lhs rhs)
-    add_sound = add_arms_lem then (l, r)
+    add_sound = add_arms_sound then (l, r)
 
-    mul_lits_lem : Gives (Sound n) (mul_lits at lhs rhs)
+    mul_lits_sound : Gives (Sound n) (mul_lits at lhs rhs)
     unfolding mul_lits
-    mul_lits_lem =
+    mul_lits_sound =
         (lit? lhs >>= (λ a _. is_zero a >> return tt))
         or (lit? rhs >>= (λ b _. is_zero b >> return tt))
         or (lit? lhs >>= (λ a _. is_one a >> return r))
@@ -163,9 +163,9 @@ module _ (n : ℕ) (at : ℕ → Node) (below : PartsBelow n at) where
         or (lit? lhs & lit? rhs >>= (λ _ _. return tt))
         or ((lit? lhs & mul? rhs) or swap (Both n) Any (mul? lhs & lit? rhs) >>= (λ (_, (b1, b2)) (_, (h1, h2)). inside (lit? b1 >>= (λ _ _. return (tt, h2)))))
 
-    mul_exps_lem : Gives (Sound n) (mul_exps at lhs rhs)
+    mul_exps_sound : Gives (Sound n) (mul_exps at lhs rhs)
     unfolding mul_exps
-    mul_exps_lem =
+    mul_exps_sound =
         ((mul? lhs & exp? rhs) or swap (Part n) (Both n) (exp? lhs & mul? rhs) >>= (λ ((a1, a2), b) ((h1, h2), hb). do
           inside (
               (exp? a2 >>= (λ _ h. return (h1, (h, hb))))
@@ -177,26 +177,26 @@ module _ (n : ℕ) (at : ℕ → Node) (below : PartsBelow n at) where
               or (exp? a2 & exp? b1 >>= (λ _ h. return ((ha1, hb2), h)))
               or (exp? a2 & exp? b2 >>= (λ _ h. return ((ha1, hb1), h))))))
 
-    mul_left_lem : Gives (Sound n) (mul_left at lhs rhs)
+    mul_left_sound : Gives (Sound n) (mul_left at lhs rhs)
     unfolding mul_left
-    mul_left_lem =
+    mul_left_sound =
         (mul? lhs & mul? rhs >>= (λ ((a1, a2), (b1, b2)) ((ha1, ha2), (hb1, hb2)). inside (lit? a1 & lit? b1 >>= (λ _ _. return (tt, (ha2, hb2))))))
         or (mul? lhs >>= (λ (a1, a2) (h1, h2). inside (lit? a1 >>= (λ _ _. return (h1, (h2, r))))))
         or (mul? rhs >>= (λ (b1, b2) (h1, h2). inside (lit? b1 >>= (λ _ _. return (h1, (h2, l))))))
 
-    mul_pows_lem : Gives (Sound n) (mul_pows at lhs rhs)
+    mul_pows_sound : Gives (Sound n) (mul_pows at lhs rhs)
     unfolding mul_pows
-    mul_pows_lem =
+    mul_pows_sound =
         (mul? lhs >>= (λ (a1, a2) h. eqb a2 rhs >> return h))
         or (mul? lhs & pow? rhs >>= (λ ((a1, a2), (b, _)) (h, _). eqb a2 b >> return h))
         or (mul? lhs & pow? rhs >>= (λ ((a1, a2), (b, _)) ((h1, h2), _). inside (pow? a2 >>= (λ (a21, _) h. eqb a21 b >> return (h1, h)))))
 
-    mul_last_lem : Gives (Sound n) (mul_last at lhs rhs)
+    mul_last_sound : Gives (Sound n) (mul_last at lhs rhs)
     unfolding mul_last
-    mul_last_lem = lit? rhs >>= (λ _ _. return (r, l))
+    mul_last_sound = lit? rhs >>= (λ _ _. return (r, l))
 
     pub mul_sound : Sound n (mul_table at lhs rhs)
-    mul_sound = mul_lits_lem then mul_exps_lem then mul_left_lem then mul_pows_lem then mul_last_lem then (l, r)
+    mul_sound = mul_lits_sound then mul_exps_sound then mul_left_sound then mul_pows_sound then mul_last_sound then (l, r)
 
     pub div_sound : Sound n (div_table at lhs rhs)
     unfolding div_table
@@ -215,25 +215,25 @@ module _ (n : ℕ) (at : ℕ → Node) (below : PartsBelow n at) where
     pub neg_sound : Sound n (neg_table at arg)
     neg_sound = (tt, h)
 
-    exp_arms_lem : Gives (Sound n) (exp_arms at arg)
+    exp_arms_sound : Gives (Sound n) (exp_arms at arg)
     unfolding exp_arms
-    exp_arms_lem =
+    exp_arms_sound =
         (lit? arg >>= (λ a _. is_zero a >> return tt))
         or (lit? arg >>= (λ _ _. return tt))
         or (add? arg >>= (λ (a, b) (ha, hb). inside (lit? b >>= (λ _ _. return (tt, ha)))))
 
     pub exp_sound : Sound n (exp_table at arg)
-    exp_sound = exp_arms_lem then h
+    exp_sound = exp_arms_sound then h
 
-    log_arms_lem : Gives (Sound n) (log_arms at arg)
+    log_arms_sound : Gives (Sound n) (log_arms at arg)
     unfolding log_arms
-    log_arms_lem =
+    log_arms_sound =
         (lit? arg >>= (λ a _. is_one a >> return tt))
         or (lit? arg >>= (λ _ _. return tt))
         or (mul? arg >>= (λ (a, b) (ha, hb). inside (lit? a >>= (λ _ _. return (hb, tt)))))
 
     pub log_sound : Sound n (log_table at arg)
-    log_sound = log_arms_lem then h
+    log_sound = log_arms_sound then h
 
     -- the exponents 0 and 1 return before a Pow is made
     pub pow_sound : (e : ℕ) → Sound n (pow_table at arg e)

@@ -4,9 +4,9 @@ use mathlib.Core.Path.{refl}
 use Rattle.constructors.specs.Tables.{add_arms, mul_lits, mul_exps, mul_left, mul_pows, mul_last}
 use Rattle.constructors.specs.Arms.{AddArms, MulArms}
 
-pub add_arms_lem : AddArms
+pub add_arms_return : AddArms
 unfolding add_arms
-add_arms_lem =
+add_arms_return =
     record {
       zero_left = refl;
       zero_right = refl;
@@ -24,9 +24,9 @@ add_arms_lem =
       plain = refl;
     }
 
-pub mul_arms : MulArms
+pub mul_arms_return : MulArms
 unfolding mul_lits mul_exps mul_left mul_pows mul_last
-mul_arms =
+mul_arms_return =
     record {
       zero_left = refl;
       zero_right = refl;
@@ -36,8 +36,8 @@ mul_arms =
       two_ones = refl;
       exps = refl;
       literals = refl;
-      literal_left_lem = refl;
-      literal_right_lem = refl;
+      literal_and_scaled = refl;
+      scaled_and_literal = refl;
       exp_second = refl;
       exp_before_second = refl;
       exp_first = refl;

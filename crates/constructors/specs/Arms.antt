@@ -63,8 +63,8 @@ pub record MulArms : Type 0 where
   pub exps : mul_table at 13 14 ≡ exp (add (# 0) (# 1))
   pub literals : mul_table at 4 5 ≡ lit (pos 6)
   -- 2 × (3 × y), (3 × y) × 2
-  pub literal_left_lem : mul_table at 4 11 ≡ Mul (lit (pos 6)) (# 1)
-  pub literal_right_lem : mul_table at 11 4 ≡ Mul (lit (pos 6)) (# 1)
+  pub literal_and_scaled : mul_table at 4 11 ≡ Mul (lit (pos 6)) (# 1)
+  pub scaled_and_literal : mul_table at 11 4 ≡ Mul (lit (pos 6)) (# 1)
   -- (y × exp x) × exp y, exp y × (y × exp x), (exp x × y) × exp y
   pub exp_second : mul_table at 16 14 ≡ mul (# 1) (exp (add (# 0) (# 1)))
   pub exp_before_second : mul_table at 14 16 ≡ mul (# 1) (exp (add (# 0) (# 1)))

@@ -47,18 +47,9 @@ pub passes : {r : Option MulRule} {t : Term} (g : Arm Term) (next : Term) → ar
 passes g next e f h = h ∙ ap (λ (m : Arm Term). m then next) (sym (ap arm_of f) ∙ e) ∙ after g next
 
 module _ (at : ℕ → Node) (lhs rhs : ℕ) where
-  -- the table from a group on
+  -- the table's end
   abbrev pub from_last : Term
   from_last = mul_last at lhs rhs then Mul (# lhs) (# rhs)
-
-  abbrev pub from_pows : Term
-  from_pows = mul_pows at lhs rhs then from_last
-
-  abbrev pub from_left : Term
-  from_left = mul_left at lhs rhs then from_pows
-
-  abbrev pub from_exps : Term
-  from_exps = mul_exps at lhs rhs then from_left
 
   -- ---- literal simplifications
   pub lit_lit : {t : Arm Term} {a b x y : ℤ} → at lhs ≡ node.Lit a → at rhs ≡ node.Lit b → t ≡ inside (two_lits x y lhs rhs) → x ≡ a → y ≡ b → t ≡ inside (mul_lits at lhs rhs)

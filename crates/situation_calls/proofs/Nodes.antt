@@ -19,7 +19,7 @@ use Rattle.pool.specs.declared.node.Node.TheVariants as node
 use Rattle.pool.specs.Nodes.{all_below, greatest_variable}
 use Rattle.pool.specs.Pool.{Pool, Out, done, refused, Run, bind, append, node_in, is_pool}
 use Rattle.constructors.specs.Build.{calls, depth}
-use Rattle.constructor_laws.proofs.Rules.{all_below_lem}
+use Rattle.constructor_laws.proofs.Rules.{below_by_test}
 use Rattle.walks.specs.Evaluate.{evaluate}
 use Rattle.walks.specs.EvaluateResidue.{evaluate_residue}
 use Rattle.walks.specs.Substitute.{substitute_var}
@@ -74,7 +74,7 @@ module _ (ks ws : List ℕ) (n : ℕ) (fit : (i : ℕ) → get_or ws i 0 < 2 ^ 6
   rules e = record { rules = e; words_fit = fit }
 
   pub root_below : (root : ℕ) (more : List ℕ) → all_below n (root ∷ more) ≡ true → root < n
-  root_below root more e = (all_below_lem n (root ∷ more) e).0
+  root_below root more e = (below_by_test n (root ∷ more) e).0
 
   -- 1, then the rest
   pub node_call : {checks meets : List ℕ} {tests : List Bool} (work : Run) → (KeepsRules P → Situated checks meets tests (of_out (work P))) → Situated (broken_pool ∷ checks) meets (is_pool ks ws n ∷ tests) (of_answer (on_pool work ks ws n).answer)

@@ -6,7 +6,7 @@ use native.Mathlib.Nat.{le_refl}
 use Rattle.pool.specs.Nodes.{greatest_variable}
 use Rattle.pool.specs.Pool.{Pool}
 use Rattle.constructor_laws.specs.Keeps.{Keeps}
-use Rattle.constructor_laws.proofs.Rules.{all_below_lem, below_all}
+use Rattle.constructor_laws.proofs.Rules.{below_by_test, below_all}
 use Rattle.constructor_laws.proofs.Giving.{gave, ended, gives_kept}
 use Rattle.taylor.specs.Work.{Result, Work}
 use Rattle.taylor.specs.Expansion.{Expansion, order, var, coeff, derivative, add_to, negate, sub_from, times, quotient, exponential, logarithm, power, maximum, subst}
@@ -19,7 +19,7 @@ use Rattle.taylor_rules.proofs.Expanding.{Come, expand_comes}
 
 -- the tests of an expansion, as facts about each of its nodes and back
 given : {n : ℕ} (e : Expansion) → Fits n e → Within n e
-given {n} e h = record { below = all_below_lem n (nodes_of e) h.nodes; least = h.least; most = h.most }
+given {n} e h = record { below = below_by_test n (nodes_of e) h.nodes; least = h.least; most = h.most }
 
 fits : {n : ℕ} (e : Expansion) → Within n e → Fits n e
 fits {n} e h = record { nodes = below_all n (nodes_of e) h.below; least = h.least; most = h.most }

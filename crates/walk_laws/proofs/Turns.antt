@@ -48,16 +48,6 @@ kept_now {P} kept i r within = ap (λ (l : List (Option ℕ)). done r (state P l
 
 -- what is done at a node goes by the node that stands there
 module _ (node : (ℕ → Walk) → ℕ → Node → Walk) where
-  -- the work w for the node x that was read was found to be v
-  pub by_work :
-      {Work : Type 0} (work : (ℕ → Walk) → ℕ → Work → Walk) (down : ℕ → Walk) (term : ℕ) (S : State) {x : Node} {w v : Work} {o : Went}
-      → x ≡ node_at S.pool term
-      → work down term w ≡ node down term x
-      → w ≡ v
-      → o ≡ work down term v S
-      → o ≡ node down term (node_at S.pool term) S
-  by_work work down term S e m f h = h ∙ ap (λ u. work down term u S) (sym f) ∙ ap (λ (walk : Walk). walk S) m ∙ ap (λ (n : Node). node down term n S) e
-
   abbrev visit : (ℕ → Walk) → ℕ → Walk
   visit down term S = node down term (node_at S.pool term) S
 
