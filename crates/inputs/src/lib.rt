@@ -87,6 +87,7 @@ pub fn read_file(
 }
 
 // nodes.bin in the working directory.
+#[tactic(auto, using(crate::proofs::Enough::bytes_decide))]
 pub fn read_nodes(
     rt: &(impl Files + Eprint),
     room: &mut [u8; FILE_ROOM],

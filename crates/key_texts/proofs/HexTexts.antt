@@ -3,20 +3,13 @@
 use mathlib.Core.Path.{◌≡◌, refl}
 use mathlib.Core.Bool.{Bool, true, false, cond}
 use mathlib.Core.List.{[], ◌∷◌, ◌++◌}
-use Prim.Native.Nat.{ℕ, zero, suc, ◌+◌, ◌-◌, ◌/◌, ◌%◌, ◌<◌, ◌≤◌}
+use Prim.Native.Nat.{ℕ, zero, suc, ◌-◌, ◌/◌, ◌%◌, ◌≤◌}
 use native.Mathlib.Omega.{arith}
 use lib.Ieee.{Float, binary64, is_nan, to_bits}
 use lib.ListN.{length, length-append}
-use borrow.Author.Tests.{lt-ltb, le-ltb}
 use Rattle.text.specs.Text.{bytes}
 use Rattle.key_texts.specs.Answers.{hex_digit, hex_text, bits_text, answer_line}
 use Rattle.key_texts.specs.Lines.{line_room}
-
-pub a_digit : (d : ℕ) → d < 10 → 48 + d ≡ hex_digit d
-a_digit d h = rw (lt-ltb d 10 h)
-
-pub a_letter : (d : ℕ) → 10 ≤ d → 55 + d ≡ hex_digit d
-a_letter d h = rw (le-ltb d 10 h)
 
 pub no_digits : (k n : ℕ) → k ≡ 0 → [] ≡ hex_text k n
 unfolding hex_text
@@ -39,9 +32,3 @@ answer_is_short x = go (is_nan x)
     go : (t : Bool) → length (bits_text (to_bits binary64 x) ++ cond t (bytes " NaN\n") (bytes " number\n")) ≤ line_room
     go true = omega (arith, hex_length 16 (to_bits binary64 x), length-append (bits_text (to_bits binary64 x)) (bytes " NaN\n"))
     go false = omega (arith, hex_length 16 (to_bits binary64 x), length-append (bits_text (to_bits binary64 x)) (bytes " number\n"))
-
-pub nan_line : (x : Float) {b : ℕ} → b ≡ to_bits binary64 x → is_nan x ≡ true → bits_text b ++ bytes " NaN\n" ≡ answer_line x
-nan_line x e t = rw (e, t)
-
-pub number_line : (x : Float) {b : ℕ} → b ≡ to_bits binary64 x → is_nan x ≡ false → bits_text b ++ bytes " number\n" ≡ answer_line x
-number_line x e t = rw (e, t)

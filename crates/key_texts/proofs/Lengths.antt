@@ -65,10 +65,10 @@ module _ (text out : List ℕ) {to : ℕ} {after : List ℕ} (w : Wrote 0 out te
   end_fits = rw stands (omega (arith, end_is, length-append text (drop (length text) out)))
 
 -- the first line of a listing, and the others
-pub first_line_lem :
+pub listing_from_its_first_key :
     (strip : List ℕ) (at next : ℕ) {key : Node} {line : List ℕ}
     → keys_of (drop at strip) ≡ key ∷ keys_of (drop next strip)
     → line ≡ key_line key
     → listing_of (drop at strip) ≡ line ++ listing_of (drop next strip)
 unfolding lines_of
-first_line_lem strip at next e f = ap lines_of e ∙ ap (λ (l : List ℕ). l ++ listing_of (drop next strip)) (sym f)
+listing_from_its_first_key strip at next e f = ap lines_of e ∙ ap (λ (l : List ℕ). l ++ listing_of (drop next strip)) (sym f)

@@ -1,6 +1,8 @@
 // The answer of a run: the bits of a double in hexadecimal digits, and whether it is a number.
-ghost use Rattle.std.specs.Prelude.{◌≡◌, ◌<◌, ◌≤◌, length};
+ghost use Rattle.std.specs.Prelude.{◌≡◌, ◌<◌, ◌≤◌, cond, length};
+ghost use Rattle.std.specs.Float.Ieee.{is_nan};
 ghost use Rattle.low_bytes.specs.Output.{Wrote, past_longest};
+ghost use Rattle.text.specs.Text.{bytes};
 ghost use Rattle.key_texts.specs.Answers.{hex_digit, hex_text, answer_line};
 ghost use Rattle.key_texts.specs.Lines.{line_room, AtFront};
 
@@ -14,13 +16,14 @@ fn hex_digit(digit: u8) -> u8
     requires { digit < 16 }
     ensures { result ≡ hex_digit digit }
 {
-    if digit < 10 {
-        return 48 + digit;
+    match digit {
+        0..=9 => b'0' + digit,
+        _ => b'A' + (digit - 10),
     }
-    55 + digit
 }
 
 // So many digits of a number, the highest first: those of its sixteenth, then its lowest.
+#[tactic(auto, using(low_bytes::proofs::Writing::none_written, low_bytes::proofs::Writing::written_as, low_bytes::proofs::Writing::stays_countable, crate::proofs::HexTexts::no_digits))]
 fn put_hex(out: &mut [u8], at: usize, digits: u32, n: u64) -> usize
     requires { at ≤ past_longest }
     ensures { Wrote at out.old (hex_text digits n) result out.new }
@@ -32,18 +35,23 @@ fn put_hex(out: &mut [u8], at: usize, digits: u32, n: u64) -> usize
     put(out, last, hex_digit((n % 16) as u8))
 }
 
+// What is said of a double behind its bits.
+fn kind_of(x: f64) -> &'static [u8]
+    ensures { result.now ≡ cond (is_nan x) (bytes " NaN\n") (bytes " number\n") }
+{
+    if x.is_nan() { b" NaN\n" } else { b" number\n" }
+}
+
 // The line of a double.
 fn put_double(out: &mut [u8], x: f64) -> usize
     ensures { Wrote 0 out.old (answer_line x) result out.new }
 {
     let end = put_hex(out, 0, BITS_DIGITS, double::bits(x));
-    if x.is_nan() {
-        return write(out, end, b" NaN\n");
-    }
-    write(out, end, b" number\n")
+    write(out, end, kind_of(x))
 }
 
 // The line of a double, at the front of an output that has room for it.
+#[tactic(auto, using(crate::proofs::Lengths::at_front, crate::proofs::Lengths::end_fits, crate::proofs::HexTexts::answer_is_short))]
 pub fn put_answer(out: &mut [u8], x: f64) -> usize
     requires { line_room ≤ length out.old }
     ensures { AtFront (answer_line x) result out.new }

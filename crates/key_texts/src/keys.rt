@@ -46,6 +46,7 @@ fn power(out: &mut [u8], e: u32) -> usize
 }
 
 // The line of a key.
+#[tactic(auto, using(low_bytes::proofs::Writing::written_as))]
 fn put_key(out: &mut [u8], key: Node) -> usize
     ensures { Wrote 0 out.old (key_line key) result out.new }
 {
@@ -64,13 +65,13 @@ fn put_key(out: &mut [u8], key: Node) -> usize
 }
 
 // The line of the key at a place of a strip.
+#[tactic(auto, using(crate::proofs::Lengths::line_is_short, crate::proofs::Lengths::at_front, crate::proofs::Lengths::end_fits, crate::proofs::Lengths::listing_from_its_first_key))]
 pub fn line_at(strip: &[u8], at: usize, out: &mut [u8]) -> KeyLine
     requires { (at < length strip.now) × (line_room ≤ length out.old) }
     ensures { LineAt strip.now at result out.new }
 {
     let key = strip_run::key_at(strip, at);
-    let node = key.node;
-    let end = put_key(out, node);
+    let end = put_key(out, key.node);
     KeyLine {
         end,
         next: key.next,

@@ -9,28 +9,18 @@ use Rattle.std.proofs.lemmas.List.Sums.{prefix_len-le-length}
 use Rattle.std.specs.Prelude.{Option, Some, None}
 use Rattle.std.specs.Option.{unwrap_or}
 use Rattle.std.specs.List.{position, position_or_len}
-use Rattle.std.specs.Char.{is_ascii_digit}
-use Rattle.number_list.specs.Numbers.{run}
+use Rattle.number_list.specs.Numbers.{belongs_to, run}
 
 pub within : (p : ℕ → Bool) (bs : List ℕ) → position_or_len p bs ≤ length bs
 within p bs = prefix_len-le-length (λ b. not (p b)) bs
 
 -- the first byte of the other kind, or the length
-pub before_of : (bs : List ℕ) → run false bs ≡ position_or_len is_ascii_digit bs
+pub run_ends : (digits : Bool) (bs : List ℕ) → run digits bs ≡ position_or_len (λ b. not (belongs_to digits b)) bs
 unfolding run
-before_of [] = refl
-before_of (b ∷ bs) = go (is_ascii_digit b) (before_of bs)
+run_ends digits [] = refl
+run_ends digits (b ∷ bs) = go (belongs_to digits b) (run_ends digits bs)
   where
-    go : (t : Bool) → run false bs ≡ position_or_len is_ascii_digit bs → cond (not t) (suc (run false bs)) 0 ≡ cond (not t) (1 + position_or_len is_ascii_digit bs) 0
-    go true e = refl
-    go false e = omega arith
-
-pub digits_of : (bs : List ℕ) → run true bs ≡ position_or_len (λ b. not (is_ascii_digit b)) bs
-unfolding run
-digits_of [] = refl
-digits_of (b ∷ bs) = go (is_ascii_digit b) (digits_of bs)
-  where
-    go : (t : Bool) → run true bs ≡ position_or_len (λ b. not (is_ascii_digit b)) bs → cond t (suc (run true bs)) 0 ≡ cond (not (not t)) (1 + position_or_len (λ b. not (is_ascii_digit b)) bs) 0
+    go : (t : Bool) → run digits bs ≡ position_or_len (λ b. not (belongs_to digits b)) bs → cond t (suc (run digits bs)) 0 ≡ cond (not (not t)) (1 + position_or_len (λ b. not (belongs_to digits b)) bs) 0
     go true e = omega arith
     go false e = refl
 

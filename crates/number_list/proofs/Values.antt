@@ -45,13 +45,25 @@ step bs i n t h d =
     let here : drop i bs ≡ get_or bs i 0 ∷ drop (i + 1) bs = drop-cons bs i 0 h ∙ ap (λ (j : ℕ). get_or bs i 0 ∷ drop j bs) (sym (add-one i)) in
     ap (value n) here ∙ ap (λ (s : Bool). cond s (value (10 * n + (get_or bs i 0 - 48)) (drop (i + 1) bs)) n) d
 
--- the turn of a digit, and the end
-pub turn : (bs : List ℕ) (i n r : ℕ) → i < length bs → is_digit (get_or bs i 0) ≡ true → r ≡ cut (10 * n + (get_or bs i 0 - 48)) → cut (value n (drop i bs)) ≡ cut (value 0 bs) → cut (value r (drop (i + 1) bs)) ≡ cut (value 0 bs)
-turn bs i n r h d e k = cut_before r (10 * n + (get_or bs i 0 - 48)) (drop (i + 1) bs) e ∙ ap cut (sym (step bs i n true h d)) ∙ k
+-- the digits before i gave n, cut off, and those from i on go on from it
+pub record Reading (bs : List ℕ) (n i : ℕ) : Type 0 where
+  pub small : n ≤ greatest_number
+  pub gives : cut (value n (drop i bs)) ≡ cut (value 0 bs)
 
-pub stops : (bs : List ℕ) (i n : ℕ) → n ≤ greatest_number → i < length bs → is_digit (get_or bs i 0) ≡ false → cut (value n (drop i bs)) ≡ cut (value 0 bs) → Reads n (value 0 bs)
-stops bs i n s h d k = cut_reads n (value 0 bs) (let e : value n (drop i bs) ≡ n = step bs i n false h d in omega arith)
+pub starts : (bs : List ℕ) → Reading bs 0 0
+starts bs = record { small = omega arith; gives = refl }
 
-pub ends : (bs : List ℕ) (i n : ℕ) → n ≤ greatest_number → length bs ≤ i → cut (value n (drop i bs)) ≡ cut (value 0 bs) → Reads n (value 0 bs)
-unfolding value
-ends bs i n s h k = cut_reads n (value 0 bs) (let e : value n (drop i bs) ≡ n = ap (value n) (drop_of_length-le bs h) in omega arith)
+module _ (bs : List ℕ) (n i : ℕ) (r : Reading bs n i) where
+  pub turn : {m : ℕ} → i < length bs → is_digit (get_or bs i 0) ≡ true → m ≡ cut (10 * n + (get_or bs i 0 - 48)) → Reading bs m (i + 1)
+  turn {m} h d e =
+      record {
+        small = omega arith;
+        gives = cut_before m (10 * n + (get_or bs i 0 - 48)) (drop (i + 1) bs) e ∙ ap cut (sym (step bs i n true h d)) ∙ r.gives;
+      }
+
+  pub stops : i < length bs → is_digit (get_or bs i 0) ≡ false → Reads n (value 0 bs)
+  stops h d = let s = r.small in let k = r.gives in cut_reads n (value 0 bs) (let e : value n (drop i bs) ≡ n = step bs i n false h d in omega arith)
+
+  pub ends : length bs ≤ i → Reads n (value 0 bs)
+  unfolding value
+  ends h = let s = r.small in let k = r.gives in cut_reads n (value 0 bs) (let e : value n (drop i bs) ≡ n = ap (value n) (drop_of_length-le bs h) in omega arith)

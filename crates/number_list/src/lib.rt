@@ -1,35 +1,32 @@
 // A list of numbers in a text: what the program `replay` reads. Each number is a run of digits; what stands between them is for the reader of the text.
 #![tactic(auto)]
 
-ghost use Rattle.std.specs.Prelude.{◌≡◌, ◌≤◌, true, false, leb, length};
-ghost use Rattle.number_list.specs.Numbers.{is_digit, run, value, next_number, behind_number, Reads};
+ghost use Rattle.std.specs.Prelude.{◌≡◌, ◌≤◌, true, false, not, leb, length, position};
+ghost use Rattle.number_list.specs.Numbers.{belongs_to, run, value, next_number, behind_number, Reads};
 
 // No table of a list is longer.
 const LENGTH_MAX: usize = 65_537;
 
-// How many bytes at the front are no digits.
-fn before_digit(bytes: &[u8]) -> usize
-    ensures value { result ≡ run false bytes.now }
-    ensures within { result ≤ length bytes.now }
+// The place of the first byte that is no digit, or of the first that is one.
+fn end_of(bytes: &[u8], digits: bool) -> Option<usize>
+    ensures { result ≡ position (λ b. not (belongs_to digits b)) bytes.now }
 {
     bytes
         .iter()
-        .position(|byte| byte.is_ascii_digit())
-        .unwrap_or(bytes.len())
+        .position(|byte| byte.is_ascii_digit() != digits)
 }
 
-// How many bytes at the front are digits.
-fn digits(bytes: &[u8]) -> usize
-    ensures value { result ≡ run true bytes.now }
+// How many bytes at the front are digits, or are none.
+#[tactic(auto, using(crate::proofs::Runs::run_ends, crate::proofs::Runs::or_len, crate::proofs::Runs::within))]
+fn run_of(bytes: &[u8], digits: bool) -> usize
+    ensures value { result ≡ run digits bytes.now }
     ensures within { result ≤ length bytes.now }
 {
-    bytes
-        .iter()
-        .position(|byte| !byte.is_ascii_digit())
-        .unwrap_or(bytes.len())
+    end_of(bytes, digits).unwrap_or(bytes.len())
 }
 
 // The value of the digits at the front, where it has 64 bits; a greater one is the greatest.
+#[tactic(auto, using(crate::proofs::Values::starts, crate::proofs::Values::turn, crate::proofs::Values::stops))]
 fn value(bytes: &[u8]) -> u64
     ensures { Reads result (value 0 bytes.now) }
 {
@@ -63,8 +60,8 @@ impl<'a> Numbers<'a> {
         ensures reads { Reads result (next_number self.old.rest.now) }
         ensures rest { self.new.rest.now ≡ behind_number self.old.rest.now }
     {
-        let (_, number) = self.rest.split_at(before_digit(self.rest));
-        let (_, behind) = number.split_at(digits(number));
+        let (_, number) = self.rest.split_at(run_of(self.rest, false));
+        let (_, behind) = number.split_at(run_of(number, true));
         self.rest = behind;
         value(number)
     }
@@ -73,7 +70,7 @@ impl<'a> Numbers<'a> {
     pub fn is_at_end(&self) -> bool
         ensures { result ≡ leb (length self.now.rest.now) (run false self.now.rest.now) }
     {
-        self.rest.len() <= before_digit(self.rest)
+        self.rest.len() <= run_of(self.rest, false)
     }
 
     // Passes over what is left of the line.
