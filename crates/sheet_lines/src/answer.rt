@@ -14,6 +14,7 @@ use sheet_text::Asked;
 use taylor::{Coefficients, Expansion, TERMS};
 
 // Whether no coefficient's text is too long.
+#[tactic(auto, using(sheet_page::proofs::Whole::is_long, crate::proofs::Pages::long_one, crate::proofs::Pages::all_ones, crate::proofs::Pages::one_more_short))]
 fn all_short(kinds: &[u8; LIMIT], words: &[u64; LIMIT], nodes: &Coefficients) -> bool
     ensures { result ≡ all_short (node_in kinds.now words.now) nodes.now }
 {
@@ -37,6 +38,7 @@ fn nodes_of(expansion: Expansion) -> Coefficients
 }
 
 // The expansion of a file's root.
+#[tactic(auto, unfolding(pool::specs::Pool::empty))]
 fn expand_file(
     file: &[u8],
     pool: &mut Pool,
@@ -53,6 +55,7 @@ fn expand_file(
 }
 
 // The sheet of numbers that are in their ranges.
+#[tactic(auto, using(crate::proofs::Pages::coefficients_found, crate::proofs::Pages::one_not_printed, crate::proofs::Pages::refusal_prepared))]
 fn lines_of(
     file: &[u8],
     pool: &mut Pool,
@@ -78,6 +81,7 @@ fn lines_of(
 }
 
 // 3, 4 and 5, then the file.
+#[tactic(auto, using(crate::proofs::Pages::no_variable, crate::proofs::Pages::no_point, crate::proofs::Pages::no_order, crate::proofs::Pages::in_range, crate::proofs::Pages::refusal_prepared, crate::proofs::Pages::prepared_as))]
 pub fn answer_to(file: &[u8], pool: &mut Pool, asked: Asked) -> Result<Page, Message>
     requires { pool.old ≡ empty }
     ensures { Prepared result pool.new.kinds pool.new.words (sheet_text asked.var asked.order asked.point (coefficients file.now asked.var asked.order asked.point)) }

@@ -11,8 +11,8 @@ pub fn prepared(file: &[u8], line: &[u8], pool: &mut Pool) -> Result<Page, Messa
     ensures { Prepared result pool.new.kinds pool.new.words (sheet file.now line.now) }
 {
     *pool = Pool::empty();
-    let Some(asked) = sheet_line::parse(line) else {
-        return Err(Message::Usage);
-    };
-    answer_to(file, pool, asked)
+    match sheet_line::parse(line) {
+        Some(asked) => answer_to(file, pool, asked),
+        None => Err(Message::Usage),
+    }
 }

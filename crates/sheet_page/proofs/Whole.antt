@@ -19,9 +19,6 @@ use Rattle.print.specs.Output.{Printed}
 use Rattle.std.specs.Prelude.{Some, None, Ok, Err}
 use Rattle.taylor.specs.Expand.{Point}
 use Rattle.refusals.specs.Numbers.{number}
-use Rattle.pool.specs.Pool.{node_in}
-use Rattle.walks.specs.Print.{text_of}
-use Rattle.taylor.specs.Coefficients.{at}
 use Rattle.sheet_page.specs.declared.first.Page.{Page}
 use Rattle.sheet_page.specs.declared.first.Message.{Message}
 use Rattle.sheet_text.specs.Sheet.{line_end, space, colon, refused_text, point_text, lines_from}
@@ -113,14 +110,8 @@ head_short (Err (Refused r)) = refused_short (number r)
 pub no_lines : (sheet : Sheet) {m : Message} (line : ℕ) → sheet ≡ Err m → line ≢ 0 → lines_in sheet < line
 no_lines sheet line is some = rw is (omega (arith, some))
 
-pub in_lines : (sheet : Sheet) {page : Page} {n line : ℕ} → sheet ≡ Ok page → n ≡ length page.nodes → line ≤ n → line ≤ lines_in sheet
-in_lines sheet is e h = rw is (omega arith)
-
 pub beyond_lines : (sheet : Sheet) {page : Page} {n line : ℕ} → sheet ≡ Ok page → n ≡ length page.nodes → n < line → lines_in sheet < line
 beyond_lines sheet is e h = rw is (omega arith)
-
-pub text_is : (sheet : Sheet) (ks ws : List ℕ) {page : Page} {node : ℕ} (i : ℕ) → sheet ≡ Ok page → node ≡ at page.nodes i → text_of (node_in ks ws) node ≡ text_at sheet ks ws i
-text_is sheet ks ws i is e = rw (is, e) refl
 
 -- ---- which piece it is
 module _ (page : Sheet) (ks ws : List ℕ) where
@@ -142,31 +133,18 @@ module _ (page : Sheet) (ks ws : List ℕ) where
     unfolding piece_of
     no_line part h = rw (← next, le-ltb (line - 1) (lines_in page) (omega (arith, h, some))) refl
 
-    module _ (there : line ≤ lines_in page) where
-      below : line - 1 < lines_in page
-      below = omega (arith, there, some)
+    pub of_line : line ≤ lines_in page → (part : ℕ) → piece_of_line (text_at page ks ws (line - 1)) (line - 1) part ≡ piece_of page ks ws line part
+    unfolding piece_of
+    of_line there part =
+        ap (λ (t : Bool). cond t (piece_of_line (text_at page ks ws (line - 1)) (line - 1) part) []) (sym (lt-ltb (line - 1) (lines_in page) (omega (arith, there, some))))
+        ∙ ap (λ (n : ℕ). piece_of page ks ws n part) next
 
-      of_line : (part : ℕ) → piece_of_line (text_at page ks ws (line - 1)) (line - 1) part ≡ piece_of page ks ws line part
-      unfolding piece_of
-      of_line part = ap (λ (t : Bool). cond t (piece_of_line (text_at page ks ws (line - 1)) (line - 1) part) []) (sym (lt-ltb (line - 1) (lines_in page) below)) ∙ ap (λ (n : ℕ). piece_of page ks ws n part) next
-
-      pub index_piece : {part : ℕ} → part ≡ 0 → decimal (line - 1) ++ colon ≡ piece_of page ks ws line part
-      index_piece e = rw e (of_line 0)
-
-      pub text_piece : {part : ℕ} → part ≡ 1 → text_at page ks ws (line - 1) ≡ piece_of page ks ws line part
-      text_piece e = rw e (of_line 1)
-
-      pub end_piece : {part : ℕ} → part ≡ 2 → line_end ≡ piece_of page ks ws line part
-      end_piece e = rw e (of_line 2)
-
-      pub no_part : {part : ℕ} → part ≢ 0 → part ≢ 1 → part ≢ 2 → [] ≡ piece_of page ks ws line part
-      no_part {part} a b c = go part a b c ∙ of_line part
-        where
-          go : (part : ℕ) → part ≢ 0 → part ≢ 1 → part ≢ 2 → [] ≡ piece_of_line (text_at page ks ws (line - 1)) (line - 1) part
-          go zero a b c = absurd (a refl)
-          go (suc zero) a b c = absurd (b refl)
-          go (suc (suc zero)) a b c = absurd (c refl)
-          go (suc (suc (suc part))) a b c = refl
+-- a line has three pieces
+pub no_part : (text : List ℕ) (i part : ℕ) → 2 < part → piece_of_line text i part ≡ []
+no_part text i zero h = absurd (omega arith)
+no_part text i (suc zero) h = absurd (omega arith)
+no_part text i (suc (suc zero)) h = absurd (omega arith)
+no_part text i (suc (suc (suc part))) h = refl
 
 -- ---- all pieces in order
 -- the texts of the coefficients from i on

@@ -43,6 +43,7 @@ fn refused_line(out: &mut [u8], number: u32) -> usize
 }
 
 // The point, or `none`.
+#[tactic(auto, using(low_bytes::proofs::Writing::written_as))]
 fn point_text(out: &mut [u8], at: usize, point: Option<i64>) -> usize
     requires { at ≤ past_longest }
     ensures { Wrote at out.old (point_text point) result out.new }

@@ -1,9 +1,10 @@
 // The pieces of a sheet: the first line, then an index, a text and a line end for each coefficient.
-ghost use Rattle.std.specs.Prelude.{◌≤◌, length};
+ghost use Rattle.std.specs.Prelude.{◌<◌, ◌≤◌, length};
 ghost use Rattle.low_bytes.specs.Output.{longest_text};
 ghost use Rattle.pool.specs.Pool.{node_in};
 ghost use Rattle.walks.specs.Print.{text_of};
-ghost use Rattle.sheet_page.specs.Pages.{piece_of, short, put_of, AtFront};
+ghost use Rattle.taylor.specs.Coefficients.{at, terms};
+ghost use Rattle.sheet_page.specs.Pages.{piece_of_line, piece_of, short, put_of, AtFront};
 
 use crate::first::{Message, Page, head, label};
 use pool::LIMIT;
@@ -12,6 +13,7 @@ use pool::LIMIT;
 pub const PIECES: u32 = 3;
 
 // The text of a node, unless it is too long.
+#[tactic(auto, using(crate::proofs::Whole::long_not_put, crate::proofs::Whole::short_put))]
 fn text_of(kinds: &[u8; LIMIT], words: &[u64; LIMIT], node: u32, out: &mut [u8]) -> usize
     requires { longest_text ≤ length out.old }
     ensures { AtFront (short (text_of (node_in kinds.now words.now) node)) out.old result out.new }
@@ -23,7 +25,30 @@ fn text_of(kinds: &[u8; LIMIT], words: &[u64; LIMIT], node: u32, out: &mut [u8])
     n
 }
 
+// A piece of a coefficient's line, where there is room for the longest text.
+#[tactic(auto, using(crate::proofs::Whole::put_short, crate::proofs::Whole::nothing_put, crate::proofs::Whole::wrote_put, crate::proofs::Whole::end_short, crate::proofs::Whole::no_part))]
+fn piece_of_line(
+    page: &Page,
+    kinds: &[u8; LIMIT],
+    words: &[u64; LIMIT],
+    index: u32,
+    part: u32,
+    out: &mut [u8],
+) -> usize
+    requires there { index < terms }
+    requires room { longest_text ≤ length out.old }
+    ensures { AtFront (short (piece_of_line (text_of (node_in kinds.now words.now) (at page.now.nodes index)) index part)) out.old result out.new }
+{
+    match part {
+        0 => label(out, index),
+        1 => text_of(kinds, words, page.nodes.at(index), out),
+        2 => low_bytes::write(out, 0, b"\n"),
+        _ => 0,
+    }
+}
+
 // A piece, where there is room for the longest text.
+#[tactic(auto, using(crate::proofs::Whole::nothing_put, crate::proofs::Whole::one_first_piece, crate::proofs::Whole::no_line, crate::proofs::Whole::no_lines, crate::proofs::Whole::beyond_lines, crate::proofs::Whole::of_line))]
 fn piece_of(
     sheet: &Result<Page, Message>,
     kinds: &[u8; LIMIT],
@@ -36,31 +61,21 @@ fn piece_of(
     ensures { AtFront (short (piece_of sheet.now kinds.now words.now line part)) out.old result out.new }
 {
     if line == 0 {
-        if part == 0 {
-            return head(out, sheet);
+        return if part == 0 { head(out, sheet) } else { 0 };
+    }
+    match sheet {
+        Ok(page) => {
+            if page.nodes.len() < line {
+                return 0;
+            }
+            piece_of_line(page, kinds, words, line - 1, part, out)
         }
-        return 0;
+        Err(_) => 0,
     }
-    let Ok(page) = sheet else {
-        return 0;
-    };
-    if line > page.nodes.len() {
-        return 0;
-    }
-    let index = line - 1;
-    if part == 0 {
-        return label(out, index);
-    }
-    if part == 1 {
-        return text_of(kinds, words, page.nodes.at(index), out);
-    }
-    if part == 2 {
-        return low_bytes::write(out, 0, b"\n");
-    }
-    0
 }
 
 // A piece, put at the front of the output: how many bytes it has, 0 where there is none or it cannot be put.
+#[tactic(auto, using(crate::proofs::Whole::put_as, crate::proofs::Whole::nothing_put, crate::proofs::Whole::no_room, crate::proofs::Whole::may_be_put))]
 pub fn piece(
     sheet: &Result<Page, Message>,
     kinds: &[u8; LIMIT],

@@ -1,10 +1,9 @@
--- `sheet_lines::answer::lines_of` meets its contract: a refusal, a text that is too long, or the lines.
+-- `sheet_lines::answer::lines_of` meets its contract: a refusal, or the lines.
 -- Assumes nothing.
-use Rattle.std.proofs.Common.{◌≡◌, sym, ◌∙◌, true, false}
-use Rattle.refusals.specs.declared.Refusal.TheVariants.{NoRoom}
+use Rattle.std.proofs.Common.{◌≡◌, sym, ◌∙◌, true}
 use Rattle.pool.specs.Pool.{node_at}
 use Rattle.sheet_lines.specs.Prepared.{all_short}
-use Rattle.sheet_lines.proofs.Pages.{refused_as, coefficients_found, refusal_found, one_not_printed, all_printed, lines_prepared, refusal_prepared}
+use Rattle.sheet_lines.proofs.Pages.{refused_as, coefficients_found, refusal_found, all_printed, lines_prepared, refusal_prepared}
 use Rattle.sheet_lines.proofs.answer.lines_of.Goals as goal
 
 pub returns-in_err-expansion : goal.returns-in_err-expansion
@@ -12,15 +11,6 @@ returns-in_err-expansion c =
     let a = c.args in
     rw (refused_as c.from_residual.result c.from_residual.ensures.1)
     (refusal_prepared _ a.var a.order a.point _ _ (refusal_found a.file.now a.var a.point a.order c.expand_file.new.pool c.expand_file.ensures c.in_err-expansion.was))
-
-pub returns-then-not-all_short : goal.returns-then-not-all_short
-returns-then-not-all_short c =
-    let a = c.args in
-    let P = c.expand_file.new.pool in
-    let cs = c.nodes_of-nodes.result in
-    let long : all_short (node_at P) cs ≡ false = sym c.all_short.ensures ∙ c.if-not-all_short.true in
-    refusal_prepared NoRoom a.var a.order a.point P.kinds P.words
-    (coefficients_found a.file.now a.var a.point a.order P c.expand_file.ensures c.in_ok-expansion.was ∙ one_not_printed P _ (rw c.nodes_of-nodes.ensures at long))
 
 pub returns : goal.returns
 returns c =

@@ -7,12 +7,12 @@ use Rattle.sheet_line.proofs.Theorems.{same_sheet}
 use Rattle.sheet_lines.proofs.Pages.{message_prepared, prepared_as}
 use Rattle.sheet_lines.proofs.prepare.prepared.Goals as goal
 
-pub returns-in_default : goal.returns-in_default
-returns-in_default c =
+pub returns-in-None : goal.returns-in-None
+returns-in-None c =
     message_prepared Usage _ _
-    (ap (answer_to c.args.file.now) (sym c.in_default.is ∙ c.parse.ensures) ∙ same_sheet c.args.file.now c.args.line.now)
+    (ap (answer_to c.args.file.now) (sym c.in-None.is ∙ c.parse.ensures) ∙ same_sheet c.args.file.now c.args.line.now)
 
-pub returns : goal.returns
-returns c =
+pub returns-in-Some : goal.returns-in-Some
+returns-in-Some c =
     prepared_as (ap (answer_to c.args.file.now) (sym c.in-Some.is ∙ c.parse.ensures) ∙ same_sheet c.args.file.now c.args.line.now)
     c.answer_to.ensures
