@@ -20,7 +20,7 @@ pub record Filled (formula : List ℕ → ℕ → Formula) (todo : ℕ) (res cs 
   pub new : List ℕ
   pub is : cs ≡ res ++ new
   pub long : length new ≡ todo
-  pub in_turn_lem : works (row (formula cs) (length res) todo) P ≡ done new Q
+  pub works_in_turn : works (row (formula cs) (length res) todo) P ≡ done new Q
 
 -- the earlier coefficients stay
 at_earlier : (res new : List ℕ) (j : ℕ) → j < length res → at (res ++ new) j ≡ at res j
@@ -36,7 +36,7 @@ module _ (f : List ℕ → ℕ → Work ℕ) (formula : List ℕ → ℕ → For
     (back : LooksBack formula) where
   pub fill_in_turn : (todo : ℕ) (res : List ℕ) (P : Pool) → least ≤ length res → Came P (λ cs Q. Filled formula todo res cs P Q) (fill f todo res P)
   unfolding fill works row
-  fill_in_turn zero res P l = came_here (record { new = []; is = sym (append-nil res); long = refl; in_turn_lem = refl })
+  fill_in_turn zero res P l = came_here (record { new = []; is = sym (append-nil res); long = refl; works_in_turn = refl })
   fill_in_turn (suc todo) res P l =
       came_next this (λ c A e g x.
       came_weaker (λ cs Q h. more c A cs Q e h) (fill_in_turn todo (res ++ (c ∷ [])) A (rw (length-append res (c ∷ [])) (omega arith))))
@@ -54,17 +54,17 @@ module _ (f : List ℕ → ℕ → Work ℕ) (formula : List ℕ → ℕ → For
             new = c ∷ h.new;
             is = joined;
             long = ap suc h.long;
-            in_turn_lem = one_more (formula cs (length res)) (row (formula cs) (suc (length res)) todo) P first (rw one at h.in_turn_lem);
+            works_in_turn = one_more (formula cs (length res)) (row (formula cs) (suc (length res)) todo) P first (rw one at h.works_in_turn);
           }
 
 -- all n coefficients, by the formulas 0, 1, ..
 pub record Row (formula : List ℕ → ℕ → Formula) (n : ℕ) (cs : List ℕ) (P Q : Pool) : Type 0 where
   pub long : length cs ≡ n
-  pub in_turn_lem : works (row (formula cs) 0 n) P ≡ done cs Q
+  pub works_in_turn : works (row (formula cs) 0 n) P ≡ done cs Q
 
 -- where none was there at first
 pub from_none : (formula : List ℕ → ℕ → Formula) {n : ℕ} {cs : List ℕ} {P Q : Pool} → Filled formula n [] cs P Q → Row formula n cs P Q
-from_none formula {n} {P = P} {Q} h = record { long = ap length h.is ∙ h.long; in_turn_lem = h.in_turn_lem ∙ ap (λ (r : List ℕ). done r Q) (sym h.is) }
+from_none formula {n} {P = P} {Q} h = record { long = ap length h.is ∙ h.long; works_in_turn = h.works_in_turn ∙ ap (λ (r : List ℕ). done r Q) (sym h.is) }
 
 -- where coefficient 0 was there at first, by its own formula
 pub from_first :
@@ -75,8 +75,8 @@ from_first formula {todo} {r} {cs} A {Q = Q} back e h =
     let none : (j : ℕ) → j < 0 → at cs j ≡ at [] j = λ j l. omega arith in
     record {
       long = ap length h.is ∙ ap suc h.long;
-      in_turn_lem =
-          one_more (formula cs 0) (row (formula cs) 1 todo) A (ap (λ (g : Formula). work g A) (back 0 cs [] none) ∙ e) h.in_turn_lem
+      works_in_turn =
+          one_more (formula cs 0) (row (formula cs) 1 todo) A (ap (λ (g : Formula). work g A) (back 0 cs [] none) ∙ e) h.works_in_turn
           ∙ ap (λ (l : List ℕ). done l Q) (sym h.is);
     }
 
@@ -90,7 +90,7 @@ row_shifted f first (suc n) = ap (λ fs. f (suc first) ∷ fs) (row_shifted f (s
 module _ (f : ℕ → Work ℕ) (formula : ℕ → Formula) (is : (u : ℕ) (P : Pool) → f u P ≡ work (formula u) P) where
   pub each_in_turn : (us : List ℕ) (P : Pool) → Came P (λ cs Q. Row (λ vs k. formula (at us k)) (length us) cs P Q) (each f us P)
   unfolding each works row
-  each_in_turn [] P = came_here (record { long = refl; in_turn_lem = refl })
+  each_in_turn [] P = came_here (record { long = refl; works_in_turn = refl })
   each_in_turn (u ∷ us) P = came_next this (λ c A e g x. came_next (each_in_turn us A) (λ cs Q e' g' h. came_here (more c A cs Q e h)))
     where
       this : Appends P (f u P)
@@ -101,5 +101,5 @@ module _ (f : ℕ → Work ℕ) (formula : ℕ → Formula) (is : (u : ℕ) (P :
           let shifted : row (λ k. formula (at (u ∷ us) k)) 1 (length us) ≡ row (λ k. formula (at us k)) 0 (length us) = row_shifted (λ k. formula (at (u ∷ us) k)) 0 (length us) in
           record {
             long = ap suc h.long;
-            in_turn_lem = one_more (formula u) (row (λ k. formula (at (u ∷ us) k)) 1 (length us)) P (sym (is u P) ∙ e) (ap (λ fs. works fs A) shifted ∙ h.in_turn_lem);
+            works_in_turn = one_more (formula u) (row (λ k. formula (at (u ∷ us) k)) 1 (length us)) P (sym (is u P) ∙ e) (ap (λ fs. works fs A) shifted ∙ h.works_in_turn);
           }

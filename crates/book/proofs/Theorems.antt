@@ -65,7 +65,7 @@ recurrence shared book ordered {n} {cs} P {Q = Q} e l d same =
       long = l;
       coefficient = coefficients_in_turn shared ordered n P e d;
       same = λ k h. same k;
-      in_turn_lem = holds_then (works_then shared (row ordered 0 n) P) e cs Q d;
+      works_in_turn = holds_then (works_then shared (row ordered 0 n) P) e cs Q d;
     }
 
 -- ---- coefficient 0 by its own formula, then the others from those before them
@@ -91,7 +91,7 @@ module _ (n : ℕ) (some : 1 ≤ n) (P : Pool) where
       answer : (cs : List ℕ) (Q : Pool) → Row formula (suc (n - 1)) cs A Q → Recurrence shared nodes (book cs) (formula cs) n cs P Q
       answer cs Q h =
           let all : suc (n - 1) ≡ n = omega arith in
-          recurrence shared (book cs) (formula cs) P e (h.long ∙ all) (rw all at h.in_turn_lem) (same cs)
+          recurrence shared (book cs) (formula cs) P e (h.long ∙ all) (rw all at h.works_in_turn) (same cs)
 
   -- after a literal 0
   with_zero :
@@ -134,7 +134,7 @@ each_follows :
     → Came P (λ cs Q. Recurrence [] [] (λ k. book (at us k)) (λ k. formula (at us k)) (length us) cs P Q) (each f us P)
 unfolding works
 each_follows f book formula us P is same =
-    came_weaker (λ cs Q h. recurrence [] (λ k. book (at us k)) (λ k. formula (at us k)) P refl h.long h.in_turn_lem (λ k. same (at us k))) (each_in_turn f formula is us P)
+    came_weaker (λ cs Q h. recurrence [] (λ k. book (at us k)) (λ k. formula (at us k)) P refl h.long h.works_in_turn (λ k. same (at us k))) (each_in_turn f formula is us P)
 
 -- ---- the theorems
 module _ (P : Pool) {cs : List ℕ} {Q : Pool} where
@@ -154,7 +154,7 @@ module _ (P : Pool) {cs : List ℕ} {Q : Pool} where
       call : (z : ℕ) (A : Pool) (cs : List ℕ) (Q : Pool) → zero_lit P ≡ done z A → Row (formula z) n cs A Q → WithZero (product_book (list us) (list ws)) (product_ordered (list us) (list ws)) n cs P Q
       call z A cs Q e h = (
         z,
-        recurrence (whole 0 ∷ []) (product_book (list us) (list ws)) (formula z cs) P (one_more (whole 0) [] P e refl) h.long h.in_turn_lem
+        recurrence (whole 0 ∷ []) (product_book (list us) (list ws)) (formula z cs) P (one_more (whole 0) [] P e refl) h.long h.works_in_turn
             (product_same (whole 0 ∷ []) (z ∷ []) (once 0 (omega arith)) (list us) (list ws)),
       )
 

@@ -24,7 +24,7 @@ pub record Recurrence (shared : List Formula) (nodes : List ℕ) (book ordered :
   -- which is the book's recurrence by the laws of arithmetic
   pub same : (k : ℕ) → k < n → ◌≈◌ shared nodes (book k) (ordered k)
   -- and nothing else is worked: first what is shared, then coefficient 0, 1, ..
-  pub in_turn_lem : works (shared ++ row ordered 0 n) P ≡ done (nodes ++ cs) Q
+  pub works_in_turn : works (shared ++ row ordered 0 n) P ≡ done (nodes ++ cs) Q
 
 -- a call that shares one literal 0 among all coefficients
 abbrev pub WithZero : (book : ℕ → Formula) (ordered : ℕ → ℕ → Formula) (n : ℕ) (cs : List ℕ) → Pool → Pool → Type 0

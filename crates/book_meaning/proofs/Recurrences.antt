@@ -186,7 +186,7 @@ module _ {A : Algebra} (M : Model A) (env : Values A) where
 
     valued : Valued all (nodes ++ cs) P Q
     unfolding all
-    valued = works_have_their_values all (λ j. j < P.count) P keeps (λ j l. l) (nodes ++ cs) Q follows.in_turn_lem all_named
+    valued = works_have_their_values all (λ j. j < P.count) P keeps (λ j l. l) (nodes ++ cs) Q follows.works_in_turn all_named
 
     -- what is shared has the values of its nodes
     pub shared_have_their_values : Shared A (val Q) shares nodes

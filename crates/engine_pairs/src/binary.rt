@@ -6,7 +6,7 @@ ghost use Rattle.pool.specs.Pool.{limit};
 ghost use Rattle.pool.specs.Nodes.{all_below};
 ghost use Rattle.lent.specs.Lent.{demanded};
 ghost use Rattle.refusals.specs.Numbers.{numbered};
-ghost use Rattle.taylor.specs.Answered.{answered};
+ghost use Rattle.pool.specs.Made.{made};
 ghost use Rattle.lent.specs.Call.{returned};
 ghost use Rattle.lent_series.specs.Series.{nodes_of, length_ok, given};
 ghost use Rattle.lent_series.specs.Call.{series_on_pool};
@@ -34,7 +34,7 @@ fn binary_in(
     lhs: &Expansion,
     rhs: &Expansion,
 ) -> Result<Expansion, Refusal>
-    ensures { answered result pool.new ≡ binary_work op lhs.now rhs.now pool.old }
+    ensures { made result pool.new ≡ binary_work op lhs.now rhs.now pool.old }
 {
     match op {
         Binary::Add => taylor_base::add_in(pool, lhs, rhs),

@@ -3,7 +3,7 @@
 
 ghost use Rattle.std.specs.Prelude.{◌≡◌};
 ghost use Rattle.refusals.specs.Numbers.{numbered};
-ghost use Rattle.taylor.specs.Answered.{answered};
+ghost use Rattle.pool.specs.Made.{made};
 ghost use Rattle.lent.specs.Call.{returned};
 ghost use Rattle.lent_series.specs.Call.{series_on_pool};
 ghost use Rattle.engine_series.specs.Operations.{unary_work, on_expansion, neg_call, exp_call, log_call, pow_call};
@@ -23,7 +23,7 @@ pub enum Unary {
 }
 
 fn unary_in(pool: &mut Pool, op: Unary, e: &Expansion) -> Result<Expansion, Refusal>
-    ensures { answered result pool.new ≡ unary_work op e.now pool.old }
+    ensures { made result pool.new ≡ unary_work op e.now pool.old }
 {
     match op {
         Unary::Neg => taylor_base::neg_in(pool, e),

@@ -1,9 +1,8 @@
 // The expansion of a node, of those of its parts.
 ghost use Rattle.std.specs.Prelude.{◌≡◌, ◌<◌, eqb, length};
 ghost use Rattle.pool.specs.Parts.{parts_in};
-ghost use Rattle.taylor.specs.Coefficients.{terms};
 ghost use Rattle.taylor.specs.Expand.{bind, lift, keep, state};
-ghost use Rattle.taylor.specs.Answered.{answered};
+ghost use Rattle.pool.specs.Made.{made};
 ghost use Rattle.expand.specs.Nodes.{visits, leaf_work, node_work};
 ghost use Rattle.expand.specs.Results.{results_of, expansion_at, IsKept, AllKept, walked};
 
@@ -18,7 +17,7 @@ pub fn visited(node: Node) -> Parts
 {
     match node {
         Node::Max(_, _) => Parts::None,
-        _ => pool::parts_of(node),
+        _ => node.parts(),
     }
 }
 
@@ -32,8 +31,7 @@ pub fn kept_for(kept: &[Option<Expansion>], i: u32) -> &Expansion
 
 // At a variable v: any other than the sought one is a constant.
 fn leaf_in(pool: &mut Pool, v: u32, term: u32, asked: &Asked) -> Result<Expansion, Refusal>
-    requires { asked.now.order < terms }
-    ensures { answered result pool.new ≡ leaf_work (eqb v asked.now.var) term asked.now.var asked.now.point asked.now.order pool.old }
+    ensures { made result pool.new ≡ leaf_work (eqb v asked.now.var) term asked.now.var asked.now.point asked.now.order pool.old }
 {
     if v == asked.var {
         return variable_in(pool, asked);
@@ -49,9 +47,8 @@ fn node_in(
     node: Node,
     asked: &Asked,
 ) -> Result<Expansion, Refusal>
-    requires small { asked.now.order < terms }
     requires visited { AllKept kept.now (visits node) }
-    ensures { answered result pool.new ≡ node_work asked.now.var asked.now.point asked.now.order (expansion_at kept.now) term node pool.old }
+    ensures { made result pool.new ≡ node_work asked.now.var asked.now.point asked.now.order (expansion_at kept.now) term node pool.old }
 {
     match node {
         Node::Empty => Err(Refusal::BrokenPool),
@@ -80,7 +77,6 @@ pub fn keep_in(
     node: Node,
     asked: &Asked,
 ) -> Result<(), Refusal>
-    requires small { asked.now.order < terms }
     requires within { term < length kept.old }
     requires visited { AllKept kept.old (visits node) }
     ensures { walked result pool.new kept.new term ≡ bind (lift (node_work asked.now.var asked.now.point asked.now.order (expansion_at kept.old) term node) (state pool.old (results_of kept.old))) (keep term) }

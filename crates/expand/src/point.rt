@@ -3,19 +3,19 @@ ghost use Rattle.std.specs.Prelude.{◌≡◌, ◌<◌};
 ghost use Rattle.pool.specs.Made.{made};
 ghost use Rattle.taylor.specs.Coefficients.{terms};
 ghost use Rattle.taylor.specs.Expand.{point_node, is_point};
-ghost use Rattle.taylor.specs.Answered.{answered};
 ghost use Rattle.expand.specs.Nodes.{variable_work};
 
 use pool::{Node, Pool};
 use refusals::Refusal;
 use taylor::Expansion;
 
-// What is asked of each node: the variable, the point at which it is expanded (its own, if there is none), and the order.
-#[derive(Clone, Copy)]
+// What is asked of each node: the variable, the point at which it is expanded (its own, if there is none), and the order, which is at most 24.
+#[derive(Drop)]
 pub struct Asked {
     pub var: u32,
     pub point: Option<i64>,
     pub order: u32,
+    ghost small: { order < terms },
 }
 
 // Whether the point is a literal, if there is one.
@@ -40,8 +40,7 @@ fn point_in(pool: &mut Pool, asked: &Asked) -> Result<u32, Refusal>
 
 // The expansion of the variable.
 pub fn variable_in(pool: &mut Pool, asked: &Asked) -> Result<Expansion, Refusal>
-    requires { asked.now.order < terms }
-    ensures { answered result pool.new ≡ variable_work asked.now.var asked.now.point asked.now.order pool.old }
+    ensures { made result pool.new ≡ variable_work asked.now.var asked.now.point asked.now.order pool.old }
 {
     let x = point_in(pool, asked)?;
     taylor_base::var_in(pool, x, asked.order)

@@ -3,7 +3,7 @@ ghost use Rattle.std.specs.Prelude.{◌≡◌, ◌+◌, ◌<◌, ◌≤◌, leng
 ghost use Rattle.pool.specs.Pool.{limit};
 ghost use Rattle.taylor.specs.Coefficients.{terms};
 ghost use Rattle.taylor.specs.Expand.{state, expand_below, expand};
-ghost use Rattle.taylor.specs.Answered.{answered};
+ghost use Rattle.pool.specs.Made.{made};
 ghost use Rattle.expand.specs.Results.{results_of, walked};
 
 use crate::node::{keep_in, kept_for, visited};
@@ -26,7 +26,7 @@ pub fn expand_in(
     order: u32,
 ) -> Result<Expansion, Refusal>
     requires { order < terms }
-    ensures { answered result pool.new ≡ expand root var point order pool.old }
+    ensures { made result pool.new ≡ expand root var point order pool.old }
 {
     let asked = Asked { var, point, order };
     let at = root as usize;
@@ -50,10 +50,9 @@ fn expand_within<const N: usize>(
     root: u32,
     asked: &Asked,
 ) -> Result<Expansion, Refusal>
-    requires small { asked.now.order < terms }
     requires within { root < N }
     requires most { N ≤ limit }
-    ensures { answered result pool.new ≡ expand root asked.now.var asked.now.point asked.now.order pool.old }
+    ensures { made result pool.new ≡ expand root asked.now.var asked.now.point asked.now.order pool.old }
 {
     let mut kept: [Option<Expansion>; N] = [None; N];
     expand_over(pool, &mut kept, root, asked)
@@ -66,11 +65,10 @@ fn expand_over(
     root: u32,
     asked: &Asked,
 ) -> Result<Expansion, Refusal>
-    requires small { asked.now.order < terms }
     requires within { root < length kept.old }
     requires most { length kept.old ≤ limit }
     requires nothing { results_of kept.old ≡ replicate limit None }
-    ensures { answered result pool.new ≡ expand root asked.now.var asked.now.point asked.now.order pool.old }
+    ensures { made result pool.new ≡ expand root asked.now.var asked.now.point asked.now.order pool.old }
 {
     walk_below(pool, kept, root + 1, root, asked)?;
     Ok(*kept_for(kept, root))
@@ -85,7 +83,6 @@ fn walk_below(
     i: u32,
     asked: &Asked,
 ) -> Result<(), Refusal>
-    requires small { asked.now.order < terms }
     requires within { bound ≤ length kept.old }
     requires most { length kept.old ≤ limit }
     ensures { walked result pool.new kept.new i ≡ expand_below asked.now.var asked.now.point asked.now.order bound i (state pool.old (results_of kept.old)) }

@@ -59,16 +59,13 @@ module _ (v : ℕ) (x : Point) (order : ℕ) (S : State) where
       less : (a k : ℕ) → suc k ≤ a → k ≤ a
       less a k h = omega arith
 
-no_node : (ks ws : List ℕ) (i : ℕ) → limit ≤ i → node_in ks ws i ≡ Empty
-unfolding node_in
-no_node ks ws i past = rw (le-ltb i limit past)
-
 -- a walk from a number past the tables comes to no node
 pub nowhere : (v : ℕ) (x : Point) (order root : ℕ) (P : Pool) → limit ≤ root → refused broken_pool ≡ expand root v x order P
+unfolding node_in
 nowhere v x order root P past =
     let S = state P (replicate limit None) in
     let none : get_or (replicate limit None) root None ≡ None = get_or-eq_default (replicate limit None) None {n = root} (rw (length-replicate {A = Kept} limit None) past) in
-    let empty : node_in P.kinds P.words root ≡ Empty = no_node P.kinds P.words root past in
+    let empty : node_in P.kinds P.words root ≡ Empty = rw (le-ltb root limit past) in
     ap expanded
     (sym
     (here v x order S root

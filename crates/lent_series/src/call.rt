@@ -3,7 +3,7 @@ ghost use Rattle.std.specs.Prelude.{◌≡◌, true};
 ghost use Rattle.refusals.specs.Refusals.{wrong_order};
 ghost use Rattle.refusals.specs.Numbers.{numbered};
 ghost use Rattle.pool.specs.Pool.{is_pool};
-ghost use Rattle.taylor.specs.Answered.{answered};
+ghost use Rattle.pool.specs.Made.{made};
 ghost use Rattle.lent.specs.Lent.{demanded};
 ghost use Rattle.lent.specs.Call.{returned, leaves, Appended};
 ghost use Rattle.lent_series.specs.Call.{accepted, refused_outcome};
@@ -32,8 +32,8 @@ pub fn finish(
     res: Result<Expansion, Refusal>,
 ) -> Result<Series, Refusal>
     requires count_value { is_pool kinds.old words.old count.old ≡ true }
-    requires appended { Appended kinds.old words.old count.old (answered res pool.now) }
-    ensures { returned (numbered result) kinds.new words.new count.new ≡ leaves accepted refused_outcome kinds.old words.old count.old (answered res pool.now) }
+    requires appended { Appended kinds.old words.old count.old (made res pool.now) }
+    ensures { returned (numbered result) kinds.new words.new count.new ≡ leaves accepted refused_outcome kinds.old words.old count.old (made res pool.now) }
 {
     let e = res?;
     lent::put_back(kinds, words, count, pool);

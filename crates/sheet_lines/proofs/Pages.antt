@@ -26,7 +26,7 @@ use Rattle.std.specs.Result.{IsErrAnd}
 use Rattle.refusals.specs.Numbers.{number}
 use Rattle.refusals.specs.declared.Refusal.{Refusal}
 use Rattle.pool.specs.Pool.{Pool, Out, done, refused, node_at, node_in}
-use Rattle.taylor.specs.Answered.{answered}
+use Rattle.pool.specs.Made.{made}
 use Rattle.taylor.specs.Coefficients.{terms}
 use Rattle.taylor.specs.declared.expansion.Expansion.TheVariants.{Constant, Polynomial}
 use Rattle.sheet_text.specs.Sheet.{Coefficients, print_all, coefficients_of, coefficients, empty, expand_root, sheet_text, lines_from}
@@ -151,7 +151,7 @@ module _ (file : List ℕ) (v : ℕ) (x : Point) (order : ℕ) where
   found_is (done root P) = refl
   found_is (refused k) = refl
 
-  module _ {result : Result Expansion Refusal} (P : Pool) (a : answered result P ≡ expand_file file v x order) where
+  module _ {result : Result Expansion Refusal} (P : Pool) (a : made result P ≡ expand_file file v x order) where
     pub coefficients_found : {e : Expansion} → result ≡ Ok e → file_coefficients file v order x ≡ print_all P (nodes_of e)
     coefficients_found {e} is =
         let found : done e P ≡ expand_file file v x order = rw is at a in

@@ -1,7 +1,7 @@
 // The sheet of a file, for numbers that were asked for.
 ghost use Rattle.std.specs.Prelude.{◌≡◌, ◌<◌};
 ghost use Rattle.pool.specs.Pool.{empty, node_in};
-ghost use Rattle.taylor.specs.Answered.{answered};
+ghost use Rattle.pool.specs.Made.{made};
 ghost use Rattle.taylor.specs.Coefficients.{terms};
 ghost use Rattle.sheet_text.specs.Sheet.{sheet_text, coefficients};
 ghost use Rattle.sheet_lines.specs.Prepared.{all_short, nodes_of, expand_file, file_coefficients, Prepared};
@@ -48,7 +48,7 @@ fn expand_file(
 ) -> Result<Expansion, Refusal>
     requires order_lt_terms { order < terms }
     requires blank { pool.old ≡ empty }
-    ensures { answered result pool.new ≡ expand_file file.now var point order }
+    ensures { made result pool.new ≡ expand_file file.now var point order }
 {
     let root = node_read::read_file(file, pool)?;
     expand::expand_in(pool, root, var, point, order)

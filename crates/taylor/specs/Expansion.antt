@@ -7,7 +7,9 @@ use Rattle.taylor.specs.declared.expansion.Expansion as coded
 use Rattle.taylor.specs.declared.expansion.Expansion.TheVariants.{Constant, Polynomial}
 use Rattle.taylor.specs.Work.{Work, ◌>>=◌, yield, refuse, from, zero_lit, one_lit, add, mul, div, neg, sub, exp, log, max, at, each, each_two, fold, fill}
 
--- "An expansion is a constant, or a list of 1 to 25 node numbers, coefficient 0 first." The code holds it as it is
+-- "An expansion is a constant, or a list of 1 to 25 node numbers, coefficient 0 first." The code's type has these two cases:
+--   Constant c: the constant, which is the node number c
+--   Polynomial cs: the list cs of coefficients; that it has 1 to 25 of them is kept by the code's type of lists
 abbrev pub Expansion : Type 0
 Expansion = coded.Expansion
 

@@ -1,5 +1,5 @@
 pub mod Coefficients
+pub mod Stored
 pub mod Work
-pub mod Answered
 pub mod Expansion
 pub mod Expand

@@ -17,7 +17,7 @@ pub struct Coefficients {
 impl Model for Coefficients {
     ghost use Rattle.std.specs.Prelude.{List, ℕ, take, length};
     ghost use Rattle.std.proofs.Common.{ap, ◌∙◌};
-    ghost use Rattle.taylor.specs.Coefficients.{Stored, array_of};
+    ghost use Rattle.taylor.specs.Stored.{Stored, array_of};
 
     ghost Value = { List ℕ };
 
@@ -63,10 +63,9 @@ impl Coefficients {
 
     // Coefficient k; 0 past the end.
     pub fn at(&self, k: u32) -> u32
-        requires { k < terms }
         ensures { result ≡ at self.now k }
     {
-        self.entries[k as usize]
+        self.entries.get(k as usize).copied().unwrap_or(0)
     }
 
     // One coefficient more.

@@ -38,3 +38,10 @@ module _ {f : List ℕ → ℕ → Work ℕ} {n : ℕ} {whole : Result (List ℕ
   fill_done e =
       let none : n - k ≡ 0 = omega (arith, e) in
       ap (λ (j : ℕ). fill f j list P) (sym none) ∙ g.is
+
+-- the first coefficient, and then the others
+pub fill_first : (f : List ℕ → ℕ → Work ℕ) (n : ℕ) (P : Pool) → 1 ≤ n → fill f n [] P ≡ bind (f [] 0 P) (λ c. fill f (n - 1) (c ∷ []))
+unfolding fill
+fill_first f n P h =
+    let more : n ≡ suc (n - 1) = omega arith in
+    ap (λ (m : ℕ). fill f m [] P) more

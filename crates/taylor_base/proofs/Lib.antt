@@ -2,3 +2,4 @@ pub mod Steps
 pub mod Entrywise
 pub mod Filling
 pub mod Variables
+pub mod Folding

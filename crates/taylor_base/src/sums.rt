@@ -4,10 +4,9 @@ ghost use Rattle.pool.specs.Made.{made};
 ghost use Rattle.taylor.specs.Coefficients.{terms};
 ghost use Rattle.taylor.specs.Work.{each, neg};
 ghost use Rattle.taylor.specs.Expansion.{var, coeff, add_to, negate, sub_from, maximum};
-ghost use Rattle.taylor.specs.Answered.{answered};
 ghost use Rattle.taylor_base.specs.Entries.{HasIndex};
 
-use crate::entry::{Entry, each_in, pairs_in};
+use crate::loops::{each_in, pairs_in};
 use crate::nodes::{from_in, sub_nodes};
 use constructors::DEPTH;
 use pool::Pool;
@@ -17,7 +16,7 @@ use taylor::{Coefficients, Expansion};
 // `TaylorExpansion::var`: the point, a one, and zeros up to the order.
 pub fn var_in(pool: &mut Pool, x: u32, order: u32) -> Result<Expansion, Refusal>
     requires { order < terms }
-    ensures { answered result pool.new ≡ var x order pool.old }
+    ensures { made result pool.new ≡ var x order pool.old }
 {
     let zero = from_in(pool, 0)?;
     let mut list = Coefficients::one(x);
@@ -54,7 +53,7 @@ pub fn coeff_in(pool: &mut Pool, e: &Expansion, k: u64) -> Result<u32, Refusal>
 
 // lhs + rhs
 pub fn add_in(pool: &mut Pool, lhs: &Expansion, rhs: &Expansion) -> Result<Expansion, Refusal>
-    ensures { answered result pool.new ≡ add_to lhs.now rhs.now pool.old }
+    ensures { made result pool.new ≡ add_to lhs.now rhs.now pool.old }
 {
     match (lhs, rhs) {
         (Expansion::Constant(l), Expansion::Constant(r)) => {
@@ -70,21 +69,21 @@ pub fn add_in(pool: &mut Pool, lhs: &Expansion, rhs: &Expansion) -> Result<Expan
             Ok(Expansion::Polynomial(ws.with_first(sum)))
         }
         (Expansion::Polynomial(us), Expansion::Polynomial(ws)) => {
-            let sums = pairs_in(pool, Entry::Sum, us, ws)?;
+            let sums = pairs_in(pool, us, ws, |pool, u, w| adds::add_in(pool, DEPTH, w, u))?;
             Ok(Expansion::Polynomial(sums))
         }
     }
 }
 
 fn negatives_in(pool: &mut Pool, list: &Coefficients) -> Result<Coefficients, Refusal>
-    ensures { answered result pool.new ≡ each neg list.now pool.old }
+    ensures { made result pool.new ≡ each neg list.now pool.old }
 {
-    each_in(pool, Entry::Negative, list)
+    each_in(pool, list, |pool, u| muls::neg_in(pool, DEPTH, u))
 }
 
 // -e
 pub fn neg_in(pool: &mut Pool, e: &Expansion) -> Result<Expansion, Refusal>
-    ensures { answered result pool.new ≡ negate e.now pool.old }
+    ensures { made result pool.new ≡ negate e.now pool.old }
 {
     match e {
         Expansion::Constant(c) => {
@@ -100,7 +99,7 @@ pub fn neg_in(pool: &mut Pool, e: &Expansion) -> Result<Expansion, Refusal>
 
 // lhs - rhs. Of a constant less a list all negatives come first, then the sum with coefficient 0.
 pub fn sub_in(pool: &mut Pool, lhs: &Expansion, rhs: &Expansion) -> Result<Expansion, Refusal>
-    ensures { answered result pool.new ≡ sub_from lhs.now rhs.now pool.old }
+    ensures { made result pool.new ≡ sub_from lhs.now rhs.now pool.old }
 {
     match (lhs, rhs) {
         (Expansion::Constant(l), Expansion::Constant(r)) => {
@@ -117,7 +116,7 @@ pub fn sub_in(pool: &mut Pool, lhs: &Expansion, rhs: &Expansion) -> Result<Expan
             Ok(Expansion::Polynomial(negatives.with_first(sum)))
         }
         (Expansion::Polynomial(us), Expansion::Polynomial(ws)) => {
-            let differences = pairs_in(pool, Entry::Difference, us, ws)?;
+            let differences = pairs_in(pool, us, ws, sub_nodes)?;
             Ok(Expansion::Polynomial(differences))
         }
     }
@@ -125,7 +124,7 @@ pub fn sub_in(pool: &mut Pool, lhs: &Expansion, rhs: &Expansion) -> Result<Expan
 
 // What `max` makes of two constants; 10 of any list.
 pub fn max_in(pool: &mut Pool, lhs: &Expansion, rhs: &Expansion) -> Result<Expansion, Refusal>
-    ensures { answered result pool.new ≡ maximum lhs.now rhs.now pool.old }
+    ensures { made result pool.new ≡ maximum lhs.now rhs.now pool.old }
 {
     match (lhs, rhs) {
         (Expansion::Constant(l), Expansion::Constant(r)) => {

@@ -107,15 +107,15 @@ unfolding calls
 mul_runs l r P t e = ap (λ (s : Term). build (calls (depth - 1)) s P) e
 
 module _ (at : ℕ → Node) (l r : ℕ) where
-  one_lits : (b : ℕ) → 1 ≤ b → at l ≡ Lit (pos 1) → at r ≡ Lit (pos b) → mul_lits at l r ≡ return (# r)
+  one_lit_kept : (b : ℕ) → 1 ≤ b → at l ≡ Lit (pos 1) → at r ≡ Lit (pos b) → mul_lits at l r ≡ return (# r)
   unfolding mul_lits
-  one_lits b h hl hr =
+  one_lit_kept b h hl hr =
       let some : b ≢ 0 = λ e. omega (arith, e, h) in
       rw (hl, hr, ne_eqb b 0 some) refl
 
-  two_lits_lem : (a b : ℕ) → 2 ≤ a → 2 ≤ b → at l ≡ Lit (pos a) → at r ≡ Lit (pos b) → mul_lits at l r ≡ return (terms.lit (pos a *ℤ pos b))
+  two_lits_multiplied : (a b : ℕ) → 2 ≤ a → 2 ≤ b → at l ≡ Lit (pos a) → at r ≡ Lit (pos b) → mul_lits at l r ≡ return (terms.lit (pos a *ℤ pos b))
   unfolding mul_lits
-  two_lits_lem a b g h hl hr =
+  two_lits_multiplied a b g h hl hr =
       let a0 : a ≢ 0 = λ e. omega (arith, e, g) in
       let b0 : b ≢ 0 = λ e. omega (arith, e, h) in
       let a1 : a ≢ 1 = λ e. omega (arith, e, g) in
@@ -127,12 +127,12 @@ module _ (at : ℕ → Node) (l r : ℕ) where
 
 one_times : (l r b : ℕ) (P : Pool) → 1 ≤ b → Literal (pos 1) l P → Literal (pos b) r P → mul l r P ≡ done r P
 unfolding build
-one_times l r b P h hl hr = mul_runs l r P (# r) (table_of (node_at P) l r (# r) (one_lits (node_at P) l r b h hl.is hr.is))
+one_times l r b P h hl hr = mul_runs l r P (# r) (table_of (node_at P) l r (# r) (one_lit_kept (node_at P) l r b h hl.is hr.is))
 
 two_times : (l r a b : ℕ) (P : Pool) → 2 ≤ a → 2 ≤ b → Literal (pos a) l P → Literal (pos b) r P → mul l r P ≡ lit (pos (a * b)) P
 unfolding build
 two_times l r a b P g h hl hr =
-    mul_runs l r P (terms.lit (pos a *ℤ pos b)) (table_of (node_at P) l r (terms.lit (pos a *ℤ pos b)) (two_lits_lem (node_at P) l r a b g h hl.is hr.is))
+    mul_runs l r P (terms.lit (pos a *ℤ pos b)) (table_of (node_at P) l r (terms.lit (pos a *ℤ pos b)) (two_lits_multiplied (node_at P) l r a b g h hl.is hr.is))
 
 -- ---- one factor more
 at_least_two : (j : ℕ) → 2 ≤ factorial_of (suc (suc j))

@@ -3,17 +3,16 @@
 
 ghost use Rattle.std.specs.Prelude.{◌≡◌, ◌<◌};
 ghost use Rattle.pool.specs.Made.{made};
-ghost use Rattle.taylor.specs.Work.{fold};
 ghost use Rattle.taylor.specs.Coefficients.{terms};
 ghost use Rattle.taylor.specs.Expansion.{derivative};
 ghost use Rattle.taylor_base.specs.Entries.{HasIndex};
-ghost use Rattle.taylor_derivative.specs.Factorials.{factor, factorial_lits, derivative_of};
+ghost use Rattle.taylor_derivative.specs.Factorials.{factor, derivative_of};
 
 use constructors::DEPTH;
 use pool::Pool;
 use refusals::Refusal;
 use taylor::{Coefficients, Expansion};
-use taylor_base::from_in;
+use taylor_base::{fold_in, from_in};
 
 // Up to this number the product is the number itself: the product before it is 1.
 const ITSELF: u32 = 2;
@@ -29,33 +28,13 @@ fn factor_in(pool: &mut Pool, i: u32) -> Result<u32, Refusal>
     adds::lit_in(pool, factorial::factorial(i as u64))
 }
 
-// From 0! on.
-fn products_in(pool: &mut Pool, one: u32, k: u32) -> Result<u32, Refusal>
-    requires { k < terms }
-    ensures { made result pool.new ≡ fold factor 1 k one pool.old }
-{
-    let mut product = one;
-    for i in 1..1 + k {
-        product = factor_in(pool, i)?;
-    }
-    Ok(product)
-}
-
-// The literal k!, with those that the source's fold makes on the way.
-fn factorial_in(pool: &mut Pool, k: u32) -> Result<u32, Refusal>
-    requires { k < terms }
-    ensures { made result pool.new ≡ factorial_lits k pool.old }
-{
-    let one = from_in(pool, 1)?;
-    products_in(pool, one, k)
-}
-
-// Of a list: k! times coefficient k.
+// Of a list: k! times coefficient k. The literals that the source's fold makes on the way to k! are made too.
 fn derivative_list(pool: &mut Pool, list: &Coefficients, k: u32) -> Result<u32, Refusal>
     requires { k < terms }
     ensures { made result pool.new ≡ derivative_of list.now k pool.old }
 {
-    let product = factorial_in(pool, k)?;
+    let one = from_in(pool, 1)?;
+    let product = fold_in(pool, 1, k, one, |pool, _, i| factor_in(pool, i))?;
     muls::mul_in(pool, DEPTH, product, list.at(k))
 }
 

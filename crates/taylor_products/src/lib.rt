@@ -4,9 +4,7 @@
 mod power;
 mod product;
 mod subst;
-mod term;
 
 pub use power::pow_in;
 pub use product::times_in;
 pub use subst::subst_in;
-pub use term::{Term, fold_in};

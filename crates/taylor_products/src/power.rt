@@ -1,6 +1,6 @@
 // Powers of an expansion, by the binary digits of the exponent.
 ghost use Rattle.std.specs.Prelude.{◌≡◌};
-ghost use Rattle.taylor.specs.Answered.{answered};
+ghost use Rattle.pool.specs.Made.{made};
 ghost use Rattle.taylor.specs.Expansion.{pow_from, power, digits};
 ghost use Rattle.taylor.specs.declared.expansion.Expansion.TheVariants.{Constant};
 ghost use Rattle.taylor_products.specs.Powers.{times_if};
@@ -17,7 +17,7 @@ fn times_if(
     lhs: &Expansion,
     rhs: &Expansion,
 ) -> Result<Expansion, Refusal>
-    ensures { answered result pool.new ≡ times_if asked lhs.now rhs.now pool.old }
+    ensures { made result pool.new ≡ times_if asked lhs.now rhs.now pool.old }
 {
     if asked {
         return times_in(pool, lhs, rhs);
@@ -27,7 +27,7 @@ fn times_if(
 
 // Each round takes a binary digit of the exponent, the lowest first. There are as many rounds as digits, which the leading zeros tell, and the square after the highest one bit is not taken.
 fn rounds_in(pool: &mut Pool, one: u32, base: &Expansion, exp: u32) -> Result<Expansion, Refusal>
-    ensures { answered result pool.new ≡ pow_from digits exp (Constant one) base.now pool.old }
+    ensures { made result pool.new ≡ pow_from digits exp (Constant one) base.now pool.old }
 {
     let mut res = Expansion::Constant(one);
     let mut square = *base;
@@ -43,7 +43,7 @@ fn rounds_in(pool: &mut Pool, one: u32, base: &Expansion, exp: u32) -> Result<Ex
 
 // base to the power exp
 pub fn pow_in(pool: &mut Pool, base: &Expansion, exp: u32) -> Result<Expansion, Refusal>
-    ensures { answered result pool.new ≡ power base.now exp pool.old }
+    ensures { made result pool.new ≡ power base.now exp pool.old }
 {
     let one = taylor_base::from_in(pool, 1)?;
     rounds_in(pool, one, base, exp)

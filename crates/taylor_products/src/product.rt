@@ -1,52 +1,75 @@
 // The product of two expansions.
-ghost use Rattle.std.specs.Prelude.{◌≡◌, [], length, min};
+ghost use Rattle.std.specs.Prelude.{◌≡◌, ◌≤◌, ◌<◌, [], length, min};
+ghost use Rattle.pool.specs.Made.{made};
+ghost use Rattle.taylor.specs.Coefficients.{terms};
 ghost use Rattle.taylor.specs.Work.{fill};
-ghost use Rattle.taylor.specs.Answered.{answered};
-ghost use Rattle.taylor.specs.Expansion.{product_at, times};
-ghost use Rattle.taylor_products.specs.Terms.{product_of};
+ghost use Rattle.taylor.specs.Expansion.{product_term, product_at, times};
 
-use crate::term::{Term, fold_in};
 use constructors::DEPTH;
 use pool::Pool;
 use refusals::Refusal;
 use taylor::{Coefficients, Expansion};
-use taylor_base::{Entry, each_in, from_in};
+use taylor_base::{each_in, fill_in, fold_in, from_in};
 
-// The coefficients of the product of two lists, up to the shorter length: coefficient k is us[0] * ws[k] + .. + us[k] * ws[0].
+// sum + us[j] * ws[k - j]
+fn product_term(
+    pool: &mut Pool,
+    us: &Coefficients,
+    ws: &Coefficients,
+    k: u32,
+    sum: u32,
+    j: u32,
+) -> Result<u32, Refusal>
+    requires { j ≤ k }
+    ensures { made result pool.new ≡ product_term us.now ws.now k sum j pool.old }
+{
+    let product = muls::mul_in(pool, DEPTH, us.at(j), ws.at(k - j))?;
+    adds::add_in(pool, DEPTH, sum, product)
+}
+
+// us[0] * ws[k] + .. + us[k] * ws[0]
+fn product_at(
+    pool: &mut Pool,
+    us: &Coefficients,
+    ws: &Coefficients,
+    zero: u32,
+    k: u32,
+) -> Result<u32, Refusal>
+    requires { k < terms }
+    ensures { made result pool.new ≡ product_at us.now ws.now zero [] k pool.old }
+{
+    fold_in(
+        pool,
+        0,
+        k + 1,
+        zero,
+        |pool, sum, j| product_term(pool, us, ws, k, sum, j),
+    )
+}
+
+// The coefficients of the product of two lists, up to the shorter length.
 fn products_in(
     pool: &mut Pool,
     us: &Coefficients,
     ws: &Coefficients,
     zero: u32,
 ) -> Result<Coefficients, Refusal>
-    ensures { answered result pool.new ≡ fill (product_at us.now ws.now zero) (min (length us.now) (length ws.now)) [] pool.old }
+    ensures { made result pool.new ≡ fill (product_at us.now ws.now zero) (min (length us.now) (length ws.now)) [] pool.old }
 {
-    let end = us.len().min(ws.len());
-    let first = fold_in(pool, Term::Plus, us, ws, 0, 0, 1, zero)?;
-    let mut list = Coefficients::one(first);
-    for k in 1..end {
-        let sum = fold_in(pool, Term::Plus, us, ws, k, 0, k + 1, zero)?;
-        list.push(sum);
-    }
-    Ok(list)
-}
-
-// The product of two lists.
-fn times_lists(
-    pool: &mut Pool,
-    us: &Coefficients,
-    ws: &Coefficients,
-) -> Result<Coefficients, Refusal>
-    ensures { answered result pool.new ≡ product_of us.now ws.now pool.old }
-{
-    let zero = from_in(pool, 0)?;
-    products_in(pool, us, ws, zero)
+    let n = us.len().min(ws.len());
+    let first = product_at(pool, us, ws, zero, 0)?;
+    fill_in(
+        pool,
+        first,
+        n,
+        |pool, _, k| product_at(pool, us, ws, zero, k),
+    )
 }
 
 // lhs * rhs
 #[tactic(auto, unfolding(taylor::specs::Expansion::times))]
 pub fn times_in(pool: &mut Pool, lhs: &Expansion, rhs: &Expansion) -> Result<Expansion, Refusal>
-    ensures { answered result pool.new ≡ times lhs.now rhs.now pool.old }
+    ensures { made result pool.new ≡ times lhs.now rhs.now pool.old }
 {
     match (lhs, rhs) {
         (Expansion::Constant(l), Expansion::Constant(r)) => {
@@ -54,15 +77,16 @@ pub fn times_in(pool: &mut Pool, lhs: &Expansion, rhs: &Expansion) -> Result<Exp
             Ok(Expansion::Constant(product))
         }
         (Expansion::Constant(l), Expansion::Polynomial(ws)) => {
-            let products = each_in(pool, Entry::Times(*l), ws)?;
+            let products = each_in(pool, ws, |pool, w| muls::mul_in(pool, DEPTH, w, *l))?;
             Ok(Expansion::Polynomial(products))
         }
         (Expansion::Polynomial(us), Expansion::Constant(r)) => {
-            let products = each_in(pool, Entry::Times(*r), us)?;
+            let products = each_in(pool, us, |pool, u| muls::mul_in(pool, DEPTH, u, *r))?;
             Ok(Expansion::Polynomial(products))
         }
         (Expansion::Polynomial(us), Expansion::Polynomial(ws)) => {
-            let products = times_lists(pool, us, ws)?;
+            let zero = from_in(pool, 0)?;
+            let products = products_in(pool, us, ws, zero)?;
             Ok(Expansion::Polynomial(products))
         }
     }

@@ -1,6 +1,6 @@
 // One expansion substituted into another, by Horner's method.
 ghost use Rattle.std.specs.Prelude.{◌≡◌, reverse};
-ghost use Rattle.taylor.specs.Answered.{answered};
+ghost use Rattle.pool.specs.Made.{made};
 ghost use Rattle.taylor.specs.Expansion.{horner, subst};
 ghost use Rattle.taylor.specs.declared.expansion.Expansion.TheVariants.{Constant};
 ghost use Rattle.taylor_products.specs.Powers.{horner_step};
@@ -17,7 +17,7 @@ fn step_in(
     inner: &Expansion,
     c: u32,
 ) -> Result<Expansion, Refusal>
-    ensures { answered result pool.new ≡ horner_step inner.now c res.now pool.old }
+    ensures { made result pool.new ≡ horner_step inner.now c res.now pool.old }
 {
     let product = times_in(pool, res, inner)?;
     taylor_base::add_in(pool, &product, &Expansion::Constant(c))
@@ -30,7 +30,7 @@ fn horner_in(
     outer: &Coefficients,
     inner: &Expansion,
 ) -> Result<Expansion, Refusal>
-    ensures { answered result pool.new ≡ horner inner.now (reverse outer.now) (Constant zero) pool.old }
+    ensures { made result pool.new ≡ horner inner.now (reverse outer.now) (Constant zero) pool.old }
 {
     let mut res = Expansion::Constant(zero);
     for i in (0..outer.len()).rev() {
@@ -41,7 +41,7 @@ fn horner_in(
 
 // outer with inner for its variable
 pub fn subst_in(pool: &mut Pool, outer: &Expansion, inner: &Expansion) -> Result<Expansion, Refusal>
-    ensures { answered result pool.new ≡ subst outer.now inner.now pool.old }
+    ensures { made result pool.new ≡ subst outer.now inner.now pool.old }
 {
     match outer {
         Expansion::Constant(c) => Ok(Expansion::Constant(*c)),

@@ -1,18 +1,19 @@
 // The exponential of an expansion.
 ghost use Rattle.std.specs.Prelude.{◌≡◌};
-ghost use Rattle.taylor.specs.Answered.{answered};
+ghost use Rattle.pool.specs.Made.{made};
 ghost use Rattle.taylor.specs.Expansion.{exponential};
 
-use crate::coefficient::{Recurrence, rest_in};
+use crate::coefficient::exp_at;
 use constructors::DEPTH;
 use pool::Pool;
 use refusals::Refusal;
 use taylor::Expansion;
-use taylor_base::from_in;
+use taylor_base::{fill_in, from_in};
 
-// exp e
+// exp e. `log_in` has the same form with another constructor and recurrence; one function that takes both as closures would be no plainer: its contract, which
+// holds of any work of either, would be longer than the lines that are shared.
 pub fn exp_in(pool: &mut Pool, e: &Expansion) -> Result<Expansion, Refusal>
-    ensures { answered result pool.new ≡ exponential e.now pool.old }
+    ensures { made result pool.new ≡ exponential e.now pool.old }
 {
     match e {
         Expansion::Constant(c) => {
@@ -22,8 +23,12 @@ pub fn exp_in(pool: &mut Pool, e: &Expansion) -> Result<Expansion, Refusal>
         Expansion::Polynomial(us) => {
             let zero = from_in(pool, 0)?;
             let first = muls::exp_in(pool, DEPTH, us.at(0))?;
-            let rule = Recurrence::Exponential { zero };
-            let list = rest_in(pool, rule, us, us, first, us.len())?;
+            let list = fill_in(
+                pool,
+                first,
+                us.len(),
+                |pool, res, k| exp_at(pool, zero, us, res, k),
+            )?;
             Ok(Expansion::Polynomial(list))
         }
     }

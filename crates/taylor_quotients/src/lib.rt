@@ -6,7 +6,6 @@ mod exp;
 mod log;
 mod quotient;
 
-pub use coefficient::Recurrence;
 pub use exp::exp_in;
 pub use log::log_in;
 pub use quotient::quotient_in;

@@ -1,18 +1,18 @@
 // The logarithm of an expansion.
 ghost use Rattle.std.specs.Prelude.{◌≡◌};
-ghost use Rattle.taylor.specs.Answered.{answered};
+ghost use Rattle.pool.specs.Made.{made};
 ghost use Rattle.taylor.specs.Expansion.{logarithm};
 
-use crate::coefficient::{Recurrence, rest_in};
+use crate::coefficient::log_at;
 use constructors::DEPTH;
 use pool::Pool;
 use refusals::Refusal;
 use taylor::Expansion;
-use taylor_base::from_in;
+use taylor_base::{fill_in, from_in};
 
-// log e
+// log e, in the form of `exp_in`
 pub fn log_in(pool: &mut Pool, e: &Expansion) -> Result<Expansion, Refusal>
-    ensures { answered result pool.new ≡ logarithm e.now pool.old }
+    ensures { made result pool.new ≡ logarithm e.now pool.old }
 {
     match e {
         Expansion::Constant(c) => {
@@ -22,8 +22,12 @@ pub fn log_in(pool: &mut Pool, e: &Expansion) -> Result<Expansion, Refusal>
         Expansion::Polynomial(us) => {
             let zero = from_in(pool, 0)?;
             let first = logs::log_in(pool, DEPTH, us.at(0))?;
-            let rule = Recurrence::Logarithm { zero };
-            let list = rest_in(pool, rule, us, us, first, us.len())?;
+            let list = fill_in(
+                pool,
+                first,
+                us.len(),
+                |pool, res, k| log_at(pool, zero, us, res, k),
+            )?;
             Ok(Expansion::Polynomial(list))
         }
     }

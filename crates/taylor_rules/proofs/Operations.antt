@@ -358,13 +358,13 @@ horner_keeps inner n r (c ∷ cs) res hi hc hr =
     (λ m p more hp. next_keeps (constant_added m p more hp)
     (λ m' s more' hs. series_as (after_one cs r (order inner)) (horner_keeps inner m' (min r (order inner)) cs s (within_more inner (omega arith) hi) (all_below_more cs (omega arith) hc.1) hs)))
   where
-    one_node_lem : (m : ℕ) → n ≤ m → Within m (Constant c)
-    one_node_lem m more = record { below = (omega (arith, hc.0), tt); least = omega arith; most = omega arith }
+    constant_within : (m : ℕ) → n ≤ m → Within m (Constant c)
+    constant_within m more = record { below = (omega (arith, hc.0), tt); least = omega arith; most = omega arith }
 
     -- a constant leaves the order as it is
     constant_added : (m : ℕ) (p : Expansion) → n ≤ m → Series (min r (order inner)) m p → Keeping m (Series (min r (order inner))) (add_to p (Constant c))
     constant_added m p more hp =
-        series_as (min-eq_left (order_most p hp.within) ∙ hp.order) (add_to_keeps p (Constant c) hp.within (one_node_lem m more))
+        series_as (min-eq_left (order_most p hp.within) ∙ hp.order) (add_to_keeps p (Constant c) hp.within (constant_within m more))
 
 reversed_below : (m : ℕ) (cs rest : List ℕ) → AllBelow m cs → AllBelow m rest → AllBelow m (reverse_aux cs rest)
 reversed_below m [] rest h r = r
