@@ -1,9 +1,8 @@
 // `derivative` of an expansion: a factorial times a coefficient.
 #![tactic(auto)]
 
-ghost use Rattle.std.specs.Prelude.{◌≡◌, ◌<◌};
+ghost use Rattle.std.specs.Prelude.{◌≡◌, ◌<◌, length};
 ghost use Rattle.pool.specs.Made.{made};
-ghost use Rattle.taylor.specs.Coefficients.{terms};
 ghost use Rattle.taylor.specs.Expansion.{derivative};
 ghost use Rattle.taylor_base.specs.Entries.{HasIndex};
 ghost use Rattle.taylor_derivative.specs.Factorials.{factor, derivative_of};
@@ -29,13 +28,16 @@ fn factor_in(pool: &mut Pool, i: u32) -> Result<u32, Refusal>
 }
 
 // Of a list: k! times coefficient k. The literals that the source's fold makes on the way to k! are made too.
-fn derivative_list(pool: &mut Pool, list: &Coefficients, k: u32) -> Result<u32, Refusal>
-    requires { k < terms }
+fn derivative_list(pool: &mut Pool, list: &Coefficients, k: u64) -> Result<u32, Refusal>
+    requires { k < length list.now }
     ensures { made result pool.new ≡ derivative_of list.now k pool.old }
 {
+    // The length is asked, so that it is known to be at most 25.
+    let _ = list.len();
+    let order = k as u32;
     let one = from_in(pool, 1)?;
-    let product = fold_in(pool, 1, k, one, |pool, _, i| factor_in(pool, i))?;
-    muls::mul_in(pool, DEPTH, product, list.at(k))
+    let product = fold_in(pool, 1, order, one, |pool, _, i| factor_in(pool, i))?;
+    muls::mul_in(pool, DEPTH, product, list.at(order))
 }
 
 // The k-th derivative; any positive one of a constant is a new literal 0.
@@ -51,11 +53,10 @@ pub fn derivative_in(pool: &mut Pool, e: &Expansion, k: u64) -> Result<u32, Refu
             from_in(pool, 0)
         }
         Expansion::Polynomial(list) => {
-            // The length is asked, so that it is known to be at most 25, and both tables are read, so that theirs are known: a literal that is made stands there.
-            let _ = list.len();
+            // Both tables are read, so that their lengths are known: a literal that is made stands there.
             let _ = pool.kinds[0];
             let _ = pool.words[0];
-            derivative_list(pool, list, k as u32)
+            derivative_list(pool, list, k)
         }
     }
 }
