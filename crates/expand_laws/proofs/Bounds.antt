@@ -7,7 +7,6 @@ use Prim.Native.Nat.{ℕ, zero, suc, ◌+◌, ◌≤◌, ◌<◌}
 use native.Mathlib.Nat.{eq-or-lt_of_le}
 use native.Mathlib.Numerals.{add-one}
 use native.Mathlib.Omega.{arith}
-use mathlib.Core.List.{List}
 use lib.ListN.{get_or, replicate, length-replicate, get_or-eq_default}
 use borrow.Author.Tests.{eq-eqb, ne_eqb, le-ltb}
 use Rattle.refusals.specs.Refusals.{broken_pool}
