@@ -7,9 +7,6 @@ ghost use Rattle.pool.specs.Made.{made};
 use pool::{Node, Pool};
 use refusals::Refusal;
 
-// The greatest exponent.
-const EXPONENT_MAX: u32 = 4_294_967_295;
-
 // The power of a node, with `left` constructors left to run inside one another.
 #[tactic(auto, using(views::proofs::Steps::runs_deeper, views::proofs::Steps::none_left, views::proofs::Steps::build_node, views::proofs::Steps::build_lit, views::proofs::Steps::build_pow, crate::proofs::Tables::power_zero, crate::proofs::Tables::power_one, crate::proofs::Tables::power_of_other, crate::proofs::Tables::power_of_zero, crate::proofs::Tables::power_of_one, crate::proofs::Tables::power_of_lit))]
 pub fn pow_in(pool: &mut Pool, left: u32, base: u32, exp: u32) -> Result<u32, Refusal>
@@ -31,13 +28,11 @@ pub fn pow_in(pool: &mut Pool, left: u32, base: u32, exp: u32) -> Result<u32, Re
     }
 }
 
-// pow(base, e1 + e2): a sum above the greatest exponent is refused before `pow` is entered.
+// pow(base, e1 + e2): a sum above the greatest exponent, which is the greatest u32, is refused before `pow` is entered.
 #[tactic(auto, unfolding(constructors::specs::Build::build))]
 pub fn pow_sum(pool: &mut Pool, left: u32, base: u32, e1: u32, e2: u32) -> Result<u32, Refusal>
     ensures { made result pool.new ≡ build (calls left) (pow (# base) (e1 + e2)) pool.old }
 {
-    if EXPONENT_MAX - e1 < e2 {
-        return Err(Refusal::ExponentTooLarge);
-    }
-    pow_in(pool, left, base, e1 + e2)
+    let exp = e1.checked_add(e2).ok_or(Refusal::ExponentTooLarge)?;
+    pow_in(pool, left, base, exp)
 }
