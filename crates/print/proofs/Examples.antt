@@ -45,6 +45,6 @@ pub no_max_reached : has_max nodes 8 ≡ false
 unfolding nodes fold_nodes fold_nodes_within under
 no_max_reached = refl
 
-pub max_reached_lem : has_max nodes 9 ≡ true
+pub a_max_reached : has_max nodes 9 ≡ true
 unfolding nodes fold_nodes fold_nodes_within under
-max_reached_lem = refl
+a_max_reached = refl

@@ -1,6 +1,5 @@
 pub mod ShortNumbers
 pub mod Writing
 pub mod Bounded
-pub mod Fmt
 pub mod Theorems
 pub mod Examples

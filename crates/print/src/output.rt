@@ -6,6 +6,7 @@ ghost use Rattle.low_bytes.specs.Output.{Wrote, past_longest};
 use low_bytes::{put, write};
 
 // The digits of a number. One or two, as most numbers have, are put byte by byte: they take no text of their own.
+#[tactic(auto, using(low_bytes::proofs::Writing::written_after, crate::proofs::ShortNumbers::of_one_digit, crate::proofs::ShortNumbers::of_two_digits))]
 fn write_decimal(out: &mut [u8], at: usize, n: u64) -> usize
     requires { at ≤ past_longest }
     ensures { Wrote at out.old (decimal n) result out.new }
@@ -21,6 +22,7 @@ fn write_decimal(out: &mut [u8], at: usize, n: u64) -> usize
 }
 
 // A variable's name. Most variables are a letter, which takes no text of its own.
+#[tactic(auto, using(text::proofs::Forms::a_letter))]
 pub fn write_variable(out: &mut [u8], at: usize, v: u32) -> usize
     requires { at ≤ past_longest }
     ensures { Wrote at out.old (display v) result out.new }
@@ -33,6 +35,7 @@ pub fn write_variable(out: &mut [u8], at: usize, v: u32) -> usize
 }
 
 // A literal: its sign where it is below 0, and its size.
+#[tactic(auto, using(low_bytes::proofs::Writing::written_after, text::proofs::Forms::signed_below, text::proofs::Forms::signed_else))]
 pub fn write_literal(out: &mut [u8], at: usize, z: i64) -> usize
     requires { at ≤ past_longest }
     ensures { Wrote at out.old (signed_decimal z) result out.new }

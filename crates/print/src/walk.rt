@@ -1,13 +1,13 @@
 // `node_fmt` of src/symbolic.rs: a node's own signs, and its parts by calls on smaller numbers. A text that is only counted is written to an empty output.
 ghost use Rattle.std.specs.Prelude.{◌≡◌, ◌++◌, ◌≤◌};
 ghost use Rattle.low_bytes.specs.Output.{Wrote, past_longest};
-ghost use Rattle.pool.specs.Pool.{node_in};
+ghost use Rattle.pool.specs.Tables.{nodes};
 ghost use Rattle.text.specs.Text.{decimal};
 ghost use Rattle.walks.specs.Print.{precedence, node_text, text_below, text_of, hat, closing};
 
 use crate::output::{write_exponent, write_literal, write_variable};
 use low_bytes::{TEXT_MAX, put, write};
-use pool::{LIMIT, Node};
+use pool::{Node, Tables};
 
 // `precedence` of src/symbolic.rs.
 fn precedence(node: Node) -> u32
@@ -30,17 +30,10 @@ fn precedence(node: Node) -> u32
 // A part whose number is below the bound, in brackets where its precedence is less than the one it stands under. Any other part prints nothing. The two are
 // numbers of their own: a struct of two numbers is handed on through memory, stored one by one and then read as one, and takes a processor longer.
 #[cycle(fmt)]
-fn node_fmt(
-    kinds: &[u8; LIMIT],
-    words: &[u64; LIMIT],
-    out: &mut [u8],
-    at: usize,
-    bound: usize,
-    of: u32,
-    under: u32,
-) -> usize
+#[tactic(auto, using(low_bytes::proofs::Writing::sets_joined, crate::proofs::Bounded::none_from_the_bound, crate::proofs::Bounded::in_brackets, crate::proofs::Bounded::without_brackets))]
+fn node_fmt(tables: Tables, out: &mut [u8], at: usize, bound: usize, of: u32, under: u32) -> usize
     requires { at ≤ past_longest }
-    ensures { Wrote at out.old (text_below (node_in kinds.now words.now) bound under of) result out.new }
+    ensures { Wrote at out.old (text_below (nodes tables.entry) bound under of) result out.new }
 {
     let i = of as usize;
     if bound <= i {
@@ -49,49 +42,43 @@ fn node_fmt(
     if TEXT_MAX < at {
         return at;
     }
-    if precedence(pool::node_at(kinds, words, of)) < under {
+    if precedence(tables.node(of)) < under {
         let opened = put(out, at, b'(');
-        let inner = inside(kinds, words, out, opened, i, of);
+        let inner = inside(tables, out, opened, i, of);
         return put(out, inner, b')');
     }
-    inside(kinds, words, out, at, i, of)
+    inside(tables, out, at, i, of)
 }
 
 // A node without the brackets around it; its parts are below its own number. It is looked up where it is matched: a node that is handed on takes longer. The
 // numbers of a node that has two are read from its word: a node made by value is stored in pieces and read back whole, which a processor waits for.
 #[cycle(fmt)]
-fn inside(
-    kinds: &[u8; LIMIT],
-    words: &[u64; LIMIT],
-    out: &mut [u8],
-    at: usize,
-    i: usize,
-    of: u32,
-) -> usize
+#[tactic(auto, using(pool::proofs::WordHalves::by_halves), unfolding(pool::specs::Pool::node_in, pool::specs::Nodes::decode))]
+fn inside(tables: Tables, out: &mut [u8], at: usize, i: usize, of: u32) -> usize
     requires { at ≤ past_longest }
-    ensures { Wrote at out.old (node_text (text_below (node_in kinds.now words.now) i) (node_in kinds.now words.now of)) result out.new }
+    ensures { Wrote at out.old (node_text (text_below (nodes tables.entry) i) (nodes tables.entry of)) result out.new }
 {
-    let left = pool::left_at(words, of);
-    let right = pool::right_at(words, of);
-    match pool::node_at(kinds, words, of) {
+    let left = tables.left(of);
+    let right = tables.right(of);
+    match tables.node(of) {
         Node::Empty => at,
         Node::Variable(v) => write_variable(out, at, v),
         Node::Lit(z) => write_literal(out, at, z),
-        Node::Add(_, _) => joined(kinds, words, out, at, i, left, 0, b" + ", right, 0),
-        Node::Mul(_, _) => joined(kinds, words, out, at, i, left, 1, b"*", right, 1),
-        Node::Div(_, _) => joined(kinds, words, out, at, i, left, 1, b"/", right, 2),
-        Node::Exp(a) => wrapped(kinds, words, out, at, i, b"exp(", a),
-        Node::Log(a) => wrapped(kinds, words, out, at, i, b"log(", a),
-        Node::Pow(_, _) => power(kinds, words, out, at, i, left, right),
+        Node::Add(_, _) => joined(tables, out, at, i, left, 0, b" + ", right, 0),
+        Node::Mul(_, _) => joined(tables, out, at, i, left, 1, b"*", right, 1),
+        Node::Div(_, _) => joined(tables, out, at, i, left, 1, b"/", right, 2),
+        Node::Exp(a) => wrapped(tables, out, at, i, b"exp(", a),
+        Node::Log(a) => wrapped(tables, out, at, i, b"log(", a),
+        Node::Pow(_, _) => power(tables, out, at, i, left, right),
         Node::Max(_, _) => at,
     }
 }
 
 // Two parts, the left one under the precedence `first` and the right one under `second`, and the sign between them.
 #[cycle(fmt)]
+#[tactic(auto, using(low_bytes::proofs::Writing::sets_joined))]
 fn joined(
-    kinds: &[u8; LIMIT],
-    words: &[u64; LIMIT],
+    tables: Tables,
     out: &mut [u8],
     at: usize,
     i: usize,
@@ -102,54 +89,41 @@ fn joined(
     second: u32,
 ) -> usize
     requires { at ≤ past_longest }
-    ensures { Wrote at out.old (text_below (node_in kinds.now words.now) i first left ++ sign.now ++ text_below (node_in kinds.now words.now) i second right) result out.new }
+    ensures { Wrote at out.old (text_below (nodes tables.entry) i first left ++ sign.now ++ text_below (nodes tables.entry) i second right) result out.new }
 {
-    let before = node_fmt(kinds, words, out, at, i, left, first);
+    let before = node_fmt(tables, out, at, i, left, first);
     let after = write(out, before, sign);
-    node_fmt(kinds, words, out, after, i, right, second)
+    node_fmt(tables, out, after, i, right, second)
 }
 
 // One part between an opening and its closing bracket.
 #[cycle(fmt)]
-fn wrapped(
-    kinds: &[u8; LIMIT],
-    words: &[u64; LIMIT],
-    out: &mut [u8],
-    at: usize,
-    i: usize,
-    opening: &[u8],
-    a: u32,
-) -> usize
+#[tactic(auto, using(low_bytes::proofs::Writing::sets_joined))]
+fn wrapped(tables: Tables, out: &mut [u8], at: usize, i: usize, opening: &[u8], a: u32) -> usize
     requires { at ≤ past_longest }
-    ensures { Wrote at out.old (opening.now ++ text_below (node_in kinds.now words.now) i 0 a ++ closing) result out.new }
+    ensures { Wrote at out.old (opening.now ++ text_below (nodes tables.entry) i 0 a ++ closing) result out.new }
 {
     let opened = write(out, at, opening);
-    let inner = node_fmt(kinds, words, out, opened, i, a, 0);
+    let inner = node_fmt(tables, out, opened, i, a, 0);
     put(out, inner, b')')
 }
 
 // A base and its exponent.
 #[cycle(fmt)]
-fn power(
-    kinds: &[u8; LIMIT],
-    words: &[u64; LIMIT],
-    out: &mut [u8],
-    at: usize,
-    i: usize,
-    a: u32,
-    e: u32,
-) -> usize
+#[tactic(auto, using(low_bytes::proofs::Writing::sets_joined))]
+fn power(tables: Tables, out: &mut [u8], at: usize, i: usize, a: u32, e: u32) -> usize
     requires { at ≤ past_longest }
-    ensures { Wrote at out.old (text_below (node_in kinds.now words.now) i 3 a ++ hat ++ decimal e) result out.new }
+    ensures { Wrote at out.old (text_below (nodes tables.entry) i 3 a ++ hat ++ decimal e) result out.new }
 {
-    let base = node_fmt(kinds, words, out, at, i, a, 3);
+    let base = node_fmt(tables, out, at, i, a, 3);
     let hat = put(out, base, b'^');
     write_exponent(out, hat, e)
 }
 
 // The whole text of a root, from the front of the output on.
-pub fn text_in(kinds: &[u8; LIMIT], words: &[u64; LIMIT], root: u32, out: &mut [u8]) -> usize
-    ensures { Wrote 0 out.old (text_of (node_in kinds.now words.now) root) result out.new }
+#[tactic(auto, using(crate::proofs::Bounded::whole_text))]
+pub fn text_in(tables: Tables, root: u32, out: &mut [u8]) -> usize
+    ensures { Wrote 0 out.old (text_of (nodes tables.entry) root) result out.new }
 {
-    node_fmt(kinds, words, out, 0, root as usize + 1, root, 0)
+    node_fmt(tables, out, 0, root as usize + 1, root, 0)
 }

@@ -1,13 +1,13 @@
 // The text of a root: how long it is, and the text in an output where it fits.
 ghost use Rattle.std.specs.Prelude.{◌≡◌, ◌+◌, min, length};
 ghost use Rattle.low_bytes.specs.Output.{longest_text};
-ghost use Rattle.pool.specs.Pool.{node_in};
+ghost use Rattle.pool.specs.Tables.{nodes};
 ghost use Rattle.walks.specs.Print.{text_of};
 ghost use Rattle.print.specs.Output.{Printed};
 
 use crate::walk::text_in;
 use low_bytes::TEXT_MAX;
-use pool::LIMIT;
+use pool::Tables;
 
 // How many bytes of a text are kept while its length is found, and how many below a small root. They decide nothing but the time that printing takes: a
 // scratch is cleared at every call.
@@ -18,24 +18,19 @@ const SMALL_SCRATCH: usize = 4_096;
 const SMALL_ROOT: u32 = 256;
 
 // The length of the text, or one past the most that a text has.
-pub fn text_length(kinds: &[u8; LIMIT], words: &[u64; LIMIT], root: u32) -> u32
-    ensures { result ≡ min (length (text_of (node_in kinds.now words.now) root)) (longest_text + 1) }
+pub fn text_length(tables: Tables, root: u32) -> u32
+    ensures { result ≡ min (length (text_of (nodes tables.entry) root)) (longest_text + 1) }
 {
     let mut none = [0u8; 0];
-    text_in(kinds, words, root, &mut none) as u32
+    text_in(tables, root, &mut none) as u32
 }
 
 // The text, from the front of the output on, as `print_into` has it. A text that the scratch has room for is made once, and a longer one twice.
-fn print_by(
-    kinds: &[u8; LIMIT],
-    words: &[u64; LIMIT],
-    root: u32,
-    scratch: &mut [u8],
-    out: &mut [u8],
-) -> u32
-    ensures { Printed (text_of (node_in kinds.now words.now) root) out.old result out.new }
+#[tactic(auto, using(crate::proofs::Writing::put_in_front, crate::proofs::Writing::kept_in_front))]
+fn print_by(tables: Tables, root: u32, scratch: &mut [u8], out: &mut [u8]) -> u32
+    ensures { Printed (text_of (nodes tables.entry) root) out.old result out.new }
 {
-    let length = text_in(kinds, words, root, scratch);
+    let length = text_in(tables, root, scratch);
     if TEXT_MAX < length {
         return length as u32;
     }
@@ -43,7 +38,7 @@ fn print_by(
         return length as u32;
     }
     if scratch.len() < length {
-        text_in(kinds, words, root, out);
+        text_in(tables, root, out);
         return length as u32;
     }
     out[..length].copy_from_slice(&scratch[..length]);
@@ -52,13 +47,13 @@ fn print_by(
 
 // The text, from the front of the output on, where it is not too long and the output has room for it; else the output stays as it is. The answer is the
 // text's length, or one past the most that a text has.
-pub fn print_into(kinds: &[u8; LIMIT], words: &[u64; LIMIT], root: u32, out: &mut [u8]) -> u32
-    ensures { Printed (text_of (node_in kinds.now words.now) root) out.old result out.new }
+pub fn print_into(tables: Tables, root: u32, out: &mut [u8]) -> u32
+    ensures { Printed (text_of (nodes tables.entry) root) out.old result out.new }
 {
     if root < SMALL_ROOT {
         let mut small = [0u8; SMALL_SCRATCH];
-        return print_by(kinds, words, root, &mut small, out);
+        return print_by(tables, root, &mut small, out);
     }
     let mut scratch = [0u8; SCRATCH];
-    print_by(kinds, words, root, &mut scratch, out)
+    print_by(tables, root, &mut scratch, out)
 }
