@@ -1,7 +1,7 @@
 // The inputs of the programs, standard input, nodes.bin and a strip's file, read to their end. Each read's own answer says whether it failed.
 #![tactic(auto)]
 
-ghost use Rattle.std.specs.Prelude.{◌+◌, ◌≤◌, length, IfOk};
+ghost use Rattle.std.specs.Prelude.{IfOk};
 ghost use Rattle.io.specs.Counts.{IsPrefixLen};
 ghost use Rattle.inputs.specs.Rooms.{Within, Decides};
 
@@ -9,9 +9,9 @@ use low_bytes::TEXT_MAX;
 use outputs::Failed;
 use pool::LIMIT;
 use std::env::{Env, FillError};
-use std::fs;
 use std::fs::Files;
 use std::io::{Eprint, ErrorKind, Read};
+use std::{fs, io};
 
 // One byte more than the longest file has: a file that fills this room is too long.
 pub const FILE_ROOM: usize = 4 + 9 * LIMIT + 1;
@@ -22,24 +22,23 @@ pub const STRIP_ROOM: usize = TEXT_MAX + 1;
 // One byte more than the longest path has.
 const NAME_ROOM: usize = 4096;
 
-// One read, behind the bytes that are there. At the input's end it has 0 bytes.
-fn read_more<R: Read>(
-    rt: &impl Eprint,
-    reader: &mut R,
-    name: &[u8],
-    room: &mut [u8],
-    done: usize,
-) -> Result<usize, Failed>
-    requires { done ≤ length room.old }
-    ensures { IfOk result (λ n. done + n ≤ length room.new) }
+// Reads until the room is full or the input ends: how many bytes there are. An input that is not ready, as a pipe that does not wait, has failed.
+pub fn read_full<R: Read>(reader: &mut R, room: &mut [u8]) -> io::Result<usize>
+    ensures { IfOk result (λ n. IsPrefixLen n room.new) }
 {
-    match reader.read(&mut room[done..]) {
-        Ok(n) => Ok(n),
-        Err(error) => Err(outputs::say_failed(rt, name, error)),
+    // A read says itself how many bytes it gave, so the loop goes by no index; std's reading to the end fills a Vec, and the room may be full before the end.
+    let mut done = 0;
+    while done < room.len() {
+        let n = reader.read(&mut room[done..])?;
+        if n == 0 {
+            return Ok(done);
+        }
+        done += n;
     }
+    Ok(done)
 }
 
-// An input until it ends or the room is full: how many bytes it has. One that is not ready, as a pipe that does not wait, has failed.
+// The same, where standard error is told what failed.
 pub fn read_input<R: Read>(
     rt: &impl Eprint,
     reader: &mut R,
@@ -48,16 +47,7 @@ pub fn read_input<R: Read>(
 ) -> Result<usize, Failed>
     ensures { IfOk result (λ n. IsPrefixLen n room.new) }
 {
-    // A loop of reads: std's reading to the end fills a Vec, and the room is one byte longer than what may be read.
-    let mut done = 0;
-    while done < room.len() {
-        let n = read_more(rt, reader, name, room, done)?;
-        if n == 0 {
-            return Ok(done);
-        }
-        done += n;
-    }
-    Ok(done)
+    read_full(reader, room).map_err(|error| outputs::say_failed(rt, name, error))
 }
 
 // The file of a name, which std wants as text: how many bytes it has, if there is such a file.
@@ -68,21 +58,18 @@ pub fn read_file(
 ) -> Result<Option<usize>, Failed>
     ensures { Within result room.new }
 {
-    let Ok(path) = str::from_utf8(name) else {
-        let failed = outputs::say(rt, b"the name of a file", "it is not UTF-8 text");
-        return Err(failed);
-    };
+    let path = str::from_utf8(name).map_err(|_| outputs::say(
+        rt,
+        b"the name of a file",
+        "it is not UTF-8 text",
+    ))?;
     match fs::open(rt, path) {
         Ok(mut file) => {
             let n = read_input(rt, &mut file, name, room)?;
             Ok(Some(n))
         }
-        Err(error) => {
-            if error.kind() == ErrorKind::NotFound {
-                return Ok(None);
-            }
-            Err(outputs::say_failed(rt, name, error))
-        }
+        Err(error) if error.kind() == ErrorKind::NotFound => Ok(None),
+        Err(error) => Err(outputs::say_failed(rt, name, error)),
     }
 }
 
@@ -101,10 +88,7 @@ pub fn read_nodes(
 fn read_named(rt: &(impl Files + Eprint), name: &[u8], room: &mut [u8]) -> Result<usize, Failed>
     ensures { IfOk result (λ n. IsPrefixLen n room.new) }
 {
-    match read_file(rt, name, room)? {
-        Some(n) => Ok(n),
-        None => Err(outputs::say_missing(rt, name)),
-    }
+    read_file(rt, name, room)?.ok_or_else(|| outputs::say_missing(rt, name))
 }
 
 // What is said where there is not exactly one argument.

@@ -1,6 +1,7 @@
 -- Numbers in a text: each is a run of digits, and what stands between them is passed over.
 -- Assumes nothing.
-use Rattle.std.specs.Prelude.{◌≡◌, Bool, true, false, not, ◌&&◌, cond, List, [], ◌∷◌, ℕ, suc, ◌+◌, ◌*◌, ◌-◌, ◌≤◌, ◌<◌, leb, drop}
+use Rattle.std.specs.Prelude.{◌≡◌, Bool, true, false, not, ◌&&◌, cond, List, [], ◌∷◌, ℕ, zero, suc, ◌+◌, ◌*◌, ◌-◌, ◌≤◌, ◌<◌, leb, eqb, drop}
+use Rattle.std.specs.List.{position_or_len}
 
 -- the greatest number of 64 bits
 abbrev pub greatest_number : ℕ
@@ -33,6 +34,19 @@ next_number text = value 0 (from_digit text)
 
 abbrev pub behind_number : List ℕ → List ℕ
 behind_number text = drop (run true (from_digit text)) (from_digit text)
+
+-- what is left behind so many numbers
+unfoldable pub behind_numbers : ℕ → List ℕ → List ℕ
+behind_numbers zero text = text
+behind_numbers (suc n) text = behind_number (behind_numbers n text)
+
+-- what is left of a text from its first line end on
+abbrev pub from_line_end : List ℕ → List ℕ
+from_line_end text = drop (position_or_len (λ b. eqb b 10) text) text
+
+-- no table of a list is longer
+abbrev pub longest : ℕ
+longest = 65537
 
 -- a number of 64 bits is read as it is; a greater one, which no list has, as the greatest
 pub record Reads (r v : ℕ) : Type 0 where

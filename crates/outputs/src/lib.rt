@@ -51,10 +51,7 @@ pub fn say_missing(rt: &impl Eprint, name: &[u8]) -> Failed {
 
 // What was written to standard output, or that it failed, which standard error is told.
 fn told(rt: &impl Eprint, written: io::Result<()>) -> Result<(), Failed> {
-    match written {
-        Ok(()) => Ok(()),
-        Err(error) => Err(say_failed(rt, b"standard output", error)),
-    }
+    written.map_err(|error| say_failed(rt, b"standard output", error))
 }
 
 // Bytes to standard output.
