@@ -57,7 +57,7 @@ fn lit_rule(pool: &Pool, lhs: u32, rhs: u32, a: i64) -> AddRule
     }
 }
 
-// On the left is Add(a, b).
+// On the left is Add(a, b). This function and the next two say so each: a struct that held the node with its parts would say it as its invariant, and be made for these calls alone.
 #[tactic(auto, using(views::proofs::Missed::lit_missed, views::proofs::Missed::add_missed, crate::proofs::Rules::sum_beside))]
 fn sum_rule(pool: &Pool, lhs: u32, rhs: u32, a: u32, b: u32) -> AddRule
     requires left { node_at pool.now lhs ≡ Add a b }

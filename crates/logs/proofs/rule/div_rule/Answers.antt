@@ -1,4 +1,4 @@
--- `logs::rule::div_rule` meets its contract: what the tests of the two literals gave is what the guards of the table say.
+-- `logs::rule::div_rule` meets its contract: what the tests of the two literals gave is what the guards of the table say. The search does not read what `is_some_and` ensures, so the laws are given it.
 -- Assumes nothing.
 use Rattle.pool.specs.Pool.{node_at}
 use Rattle.logs.proofs.Rules.{zero_over, over_one, over_other}
