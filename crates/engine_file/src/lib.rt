@@ -25,7 +25,7 @@ pub fn write(
     let mut pool = Pool::empty();
     lent::take_in(kinds, words, count, &mut pool)?;
     lent::one_given(count, root)?;
-    node_write::write_file(&pool.kinds, &pool.words, root as u32, out)
+    node_write::write_file(pool.tables(), root as u32, out)
 }
 
 // A node file, read into the pool: its root.

@@ -28,7 +28,7 @@ pub fn print(
     if reached::reaches(&pool.kinds, &pool.words, node, Test::Max) {
         return Err(Refusal::MaxReached);
     }
-    let length = print::print_into(&pool.kinds, &pool.words, node, out) as usize;
+    let length = print::print_into(pool.tables(), node, out) as usize;
     if low_bytes::TEXT_MAX < length {
         return Err(Refusal::NoRoom);
     }

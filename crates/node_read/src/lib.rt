@@ -74,7 +74,7 @@ fn in_order(entries: &Pool, roots: &[u64], n: usize) -> bool
     ensures { result ≡ are_in_order (node_at entries.now) roots.now n }
 {
     let mut numbering = Numbering::none();
-    numbering.number_all(&entries.kinds, &entries.words, roots);
+    numbering.number_all(entries.tables(), roots);
     in_place(&numbering.number, n)
 }
 
@@ -99,10 +99,10 @@ fn shifted(node: Node, by: u32) -> Node
     requires { (by ≤ limit) × PartsBelow limit node }
     ensures { result ≡ rename (λ j. by + j) node }
 {
-    match pool::parts_of(node) {
+    match node.parts() {
         Parts::None => node,
-        Parts::One(a) => pool::with_parts(node, by + a, 0),
-        Parts::Two(a, b) => pool::with_parts(node, by + a, by + b),
+        Parts::One(a) => node.with_parts(by + a, 0),
+        Parts::Two(a, b) => node.with_parts(by + a, by + b),
     }
 }
 

@@ -17,13 +17,9 @@ use Rattle.shape.specs.Walked.{Falls}
 use Rattle.shape.specs.Demand.{Below}
 use Rattle.shape.proofs.Lists.{all_first, all_rest, below_or_not}
 use Rattle.shape.proofs.Walked.{walk_done, walked_none, walked_done, walked_not_done, visit_room, visit_stored}
-use Rattle.node_walk.specs.Visits.{StandsFor, Stands, Visits, Fresh, Stored}
+use Rattle.node_walk.specs.Visits.{StandsFor, Stands, Visits, Turns, Fresh, Stored}
 use Rattle.node_walk.specs.declared.Numbering.{Numbering}
 use Rattle.node_walk.proofs.EachPart.{of_left, of_right}
-
--- visits of several nodes in turn
-abbrev pub Turns : (ℕ → Node) → List ℕ → Numbering → Numbering → Type 0
-Turns p is N M = (o : List ℕ) → StandsFor p o N → StandsFor p (in_turn (walk p limit) o is) M
 
 -- a node that has its number stays as it is
 pub visited_before : (p : ℕ → Node) (i : ℕ) {N : Numbering} → (get_or N.number i 0 ≡ 0 → ⊥) → Visits p i N N
@@ -40,10 +36,6 @@ module _ (p : ℕ → Node) (i : ℕ) where
 
   pub right_is_below : Falls p → {a b : ℕ} → parts (p i) ≡ a ∷ b ∷ [] → b < i
   right_is_below falls e = of_right (λ j. j < i) e (falls i)
-
--- the parts that were told are the node's, and the visits ended here
-pub turned_as : (p : ℕ → Node) (i : ℕ) {is : List ℕ} {N M L : Numbering} → parts (p i) ≡ is → L ≡ M → Turns p is N M → Turns p (parts (p i)) N L
-turned_as p i e f turns = rw (e, f) turns
 
 -- node i has no number yet, and its parts are visited
 module _ (p : ℕ → Node) (falls : Falls p) (i : ℕ) (l : i < limit) {N M : Numbering} (none : get_or N.number i 0 ≡ 0) (turns : Turns p (parts (p i)) N M) where

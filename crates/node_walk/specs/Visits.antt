@@ -3,7 +3,7 @@
 use Rattle.std.specs.Prelude.{◌≡◌, List, ℕ, ◌+◌, length, get_or, set}
 use Rattle.pool.specs.Pool.{limit}
 use Rattle.pool.specs.declared.node.Node.{Node}
-use Rattle.shape.specs.Order.{walk}
+use Rattle.shape.specs.Order.{in_turn, walk}
 use Rattle.shape.specs.Walked.{Walked}
 use Rattle.node_walk.specs.declared.Numbering.{Numbering}
 
@@ -18,6 +18,10 @@ Stands p N = (o : List ℕ) × StandsFor p o N
 -- whatever nodes the tables stand for: after a visit of i they stand for those that the walk from i has then done
 abbrev pub Visits : (ℕ → Node) → ℕ → Numbering → Numbering → Type 0
 Visits p i N M = (o : List ℕ) → StandsFor p o N → StandsFor p (walk p limit o i) M
+
+-- the same for visits of several nodes in turn
+abbrev pub Turns : (ℕ → Node) → List ℕ → Numbering → Numbering → Type 0
+Turns p is N M = (o : List ℕ) → StandsFor p o N → StandsFor p (in_turn (walk p limit) o is) M
 
 -- no node has a number
 pub record Fresh (N : Numbering) : Type 0 where

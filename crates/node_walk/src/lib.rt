@@ -2,13 +2,15 @@
 #![tactic(auto)]
 
 ghost use Rattle.std.specs.Prelude.{◌<◌};
-ghost use Rattle.pool.specs.Pool.{limit, node_in};
+ghost use Rattle.pool.specs.Nodes.{parts};
+ghost use Rattle.pool.specs.Pool.{limit};
+ghost use Rattle.pool.specs.Tables.{nodes};
 ghost use Rattle.shape.specs.Order.{numbered};
 ghost use Rattle.shape.specs.Demand.{Below};
 ghost use Rattle.shape.specs.Walked.{Falls};
-ghost use Rattle.node_walk.specs.Visits.{StandsFor, Stands, Visits, Fresh, Stored};
+ghost use Rattle.node_walk.specs.Visits.{StandsFor, Stands, Visits, Turns, Fresh, Stored};
 
-use pool::{LIMIT, Parts};
+use pool::{LIMIT, Parts, Tables};
 
 // Which nodes have a number: number[j] is 0 or j's number + 1, order[m] is the node with number m, and `done` nodes have one.
 #[derive(Drop)]
@@ -42,35 +44,50 @@ impl Numbering {
     }
 
     // The walk from node i.
-    pub fn visit(&mut self, kinds: &[u8; LIMIT], words: &[u64; LIMIT], i: u32)
+    #[cycle(visit)]
+    #[tactic(auto, using(crate::proofs::Visiting::visited_before))]
+    pub fn visit(&mut self, tables: Tables, i: u32)
         requires i_lt_limit { i < limit }
-        requires falls { Falls (node_in kinds.now words.now) }
-        requires stands { Stands (node_in kinds.now words.now) self.old }
-        ensures { Visits (node_in kinds.now words.now) i self.old self.new }
+        requires falls { Falls (nodes tables) }
+        requires stands { Stands (nodes tables) self.old }
+        ensures { Visits (nodes tables.entry) i self.old self.new }
     {
         if self.number[i as usize] != 0 {
             return;
         }
-        match pool::parts_of(pool::node_at(kinds, words, i)) {
-            Parts::None => {}
-            Parts::One(a) => self.visit(kinds, words, a),
-            Parts::Two(a, b) => {
-                self.visit(kinds, words, a);
-                self.visit(kinds, words, b);
-            }
-        }
+        self.visit_parts(tables, i);
         self.number_next(i);
     }
 
+    // The walks from the parts of node i, the left one first.
+    #[cycle(visit)]
+    #[tactic(auto, using(crate::proofs::Visiting::left_is_below, crate::proofs::Visiting::right_is_below, crate::proofs::Visiting::stands_after))]
+    fn visit_parts(&mut self, tables: Tables, i: u32)
+        requires i_lt_limit { i < limit }
+        requires falls { Falls (nodes tables) }
+        requires stands { Stands (nodes tables) self.old }
+        ensures { Turns (nodes tables.entry) (parts (nodes tables.entry i)) self.old self.new }
+    {
+        match tables.node(i).parts() {
+            Parts::None => {}
+            Parts::One(a) => self.visit(tables, a),
+            Parts::Two(a, b) => {
+                self.visit(tables, a);
+                self.visit(tables, b);
+            }
+        }
+    }
+
     // The walk over the roots in turn.
-    pub fn number_all(&mut self, kinds: &[u8; LIMIT], words: &[u64; LIMIT], roots: &[u64])
+    #[tactic(auto, using(crate::proofs::Visiting::root_below, crate::proofs::Visiting::all_visited))]
+    pub fn number_all(&mut self, tables: Tables, roots: &[u64])
         requires below { Below limit roots.now }
-        requires falls { Falls (node_in kinds.now words.now) }
+        requires falls { Falls (nodes tables) }
         requires fresh { Fresh self.old }
-        ensures { StandsFor (node_in kinds.now words.now) (numbered (node_in kinds.now words.now) roots.now) self.new }
+        ensures { StandsFor (nodes tables.entry) (numbered (nodes tables.entry) roots.now) self.new }
     {
         for root in roots {
-            self.visit(kinds, words, *root as u32);
+            self.visit(tables, *root as u32);
         }
     }
 }

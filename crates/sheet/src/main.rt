@@ -55,7 +55,7 @@ fn print_part(
     part: u32,
     out: &mut [u8],
 ) -> Result<(), Failed> {
-    let n = sheet_page::piece(sheet, &pool.kinds, &pool.words, line, part, out);
+    let n = sheet_page::piece(sheet, pool.tables(), line, part, out);
     outputs::put(rt, &out[..n])
 }
 

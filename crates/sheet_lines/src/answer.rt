@@ -1,13 +1,14 @@
 // The sheet of a file, for numbers that were asked for.
 ghost use Rattle.std.specs.Prelude.{◌≡◌, ◌<◌};
-ghost use Rattle.pool.specs.Pool.{empty, node_in};
+ghost use Rattle.pool.specs.Pool.{empty};
+ghost use Rattle.pool.specs.Tables.{nodes as nodes_in};
 ghost use Rattle.pool.specs.Made.{made};
 ghost use Rattle.taylor.specs.Coefficients.{terms};
 ghost use Rattle.sheet_text.specs.Sheet.{sheet_text, coefficients};
 ghost use Rattle.sheet_lines.specs.Prepared.{all_short, nodes_of, expand_file, file_coefficients, Prepared};
 
 use expand::is_point;
-use pool::{LIMIT, Pool};
+use pool::{Pool, Tables};
 use refusals::Refusal;
 use sheet_page::{Message, Page};
 use sheet_text::Asked;
@@ -15,11 +16,11 @@ use taylor::{Coefficients, Expansion, TERMS};
 
 // Whether no coefficient's text is too long.
 #[tactic(auto, using(sheet_page::proofs::Whole::is_long, crate::proofs::Pages::long_one, crate::proofs::Pages::all_ones, crate::proofs::Pages::one_more_short))]
-fn all_short(kinds: &[u8; LIMIT], words: &[u64; LIMIT], nodes: &Coefficients) -> bool
-    ensures { result ≡ all_short (node_in kinds.now words.now) nodes.now }
+fn all_short(tables: Tables, nodes: &Coefficients) -> bool
+    ensures { result ≡ all_short (nodes_in tables.entry) nodes.now }
 {
     for i in 0..nodes.len() {
-        let length = print::text_length(kinds, words, nodes.at(i));
+        let length = print::text_length(tables, nodes.at(i));
         if (length as usize) > low_bytes::TEXT_MAX {
             return false;
         }
@@ -69,7 +70,7 @@ fn lines_of(
 {
     let expansion = expand_file(file, pool, var, point, order)?;
     let nodes = nodes_of(expansion);
-    if !all_short(&pool.kinds, &pool.words, &nodes) {
+    if !all_short(pool.tables(), &nodes) {
         return Err(Message::Refused(Refusal::NoRoom));
     }
     Ok(Page {

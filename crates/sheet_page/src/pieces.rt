@@ -1,24 +1,24 @@
 // The pieces of a sheet: the first line, then an index, a text and a line end for each coefficient.
 ghost use Rattle.std.specs.Prelude.{◌<◌, ◌≤◌, length};
 ghost use Rattle.low_bytes.specs.Output.{longest_text};
-ghost use Rattle.pool.specs.Pool.{node_in};
+ghost use Rattle.pool.specs.Tables.{nodes};
 ghost use Rattle.walks.specs.Print.{text_of};
 ghost use Rattle.taylor.specs.Coefficients.{at, terms};
 ghost use Rattle.sheet_page.specs.Pages.{piece_of_line, piece_of, short, put_of, AtFront};
 
 use crate::first::{Message, Page, head, label};
-use pool::LIMIT;
+use pool::Tables;
 
 // How many pieces a line has at most. A piece goes by a number, as its line does, since the program counts through both.
 pub const PIECES: u32 = 3;
 
 // The text of a node, unless it is too long.
 #[tactic(auto, using(crate::proofs::Whole::long_not_put, crate::proofs::Whole::short_put))]
-fn text_of(kinds: &[u8; LIMIT], words: &[u64; LIMIT], node: u32, out: &mut [u8]) -> usize
+fn text_of(tables: Tables, node: u32, out: &mut [u8]) -> usize
     requires { longest_text ≤ length out.old }
-    ensures { AtFront (short (text_of (node_in kinds.now words.now) node)) out.old result out.new }
+    ensures { AtFront (short (text_of (nodes tables.entry) node)) out.old result out.new }
 {
-    let n = print::print_into(kinds, words, node, out) as usize;
+    let n = print::print_into(tables, node, out) as usize;
     if n > low_bytes::TEXT_MAX {
         return 0;
     }
@@ -29,19 +29,18 @@ fn text_of(kinds: &[u8; LIMIT], words: &[u64; LIMIT], node: u32, out: &mut [u8])
 #[tactic(auto, using(crate::proofs::Whole::put_short, crate::proofs::Whole::nothing_put, crate::proofs::Whole::wrote_put, crate::proofs::Whole::end_short, crate::proofs::Whole::no_part))]
 fn piece_of_line(
     page: &Page,
-    kinds: &[u8; LIMIT],
-    words: &[u64; LIMIT],
+    tables: Tables,
     index: u32,
     part: u32,
     out: &mut [u8],
 ) -> usize
     requires there { index < terms }
     requires room { longest_text ≤ length out.old }
-    ensures { AtFront (short (piece_of_line (text_of (node_in kinds.now words.now) (at page.now.nodes index)) index part)) out.old result out.new }
+    ensures { AtFront (short (piece_of_line (text_of (nodes tables.entry) (at page.now.nodes index)) index part)) out.old result out.new }
 {
     match part {
         0 => label(out, index),
-        1 => text_of(kinds, words, page.nodes.at(index), out),
+        1 => text_of(tables, page.nodes.at(index), out),
         2 => low_bytes::write(out, 0, b"\n"),
         _ => 0,
     }
@@ -51,14 +50,13 @@ fn piece_of_line(
 #[tactic(auto, using(crate::proofs::Whole::nothing_put, crate::proofs::Whole::one_first_piece, crate::proofs::Whole::no_line, crate::proofs::Whole::no_lines, crate::proofs::Whole::beyond_lines, crate::proofs::Whole::of_line))]
 fn piece_of(
     sheet: &Result<Page, Message>,
-    kinds: &[u8; LIMIT],
-    words: &[u64; LIMIT],
+    tables: Tables,
     line: u32,
     part: u32,
     out: &mut [u8],
 ) -> usize
     requires { longest_text ≤ length out.old }
-    ensures { AtFront (short (piece_of sheet.now kinds.now words.now line part)) out.old result out.new }
+    ensures { AtFront (short (piece_of sheet.now tables.entry.kinds.now tables.entry.words.now line part)) out.old result out.new }
 {
     if line == 0 {
         return if part == 0 { head(out, sheet) } else { 0 };
@@ -68,7 +66,7 @@ fn piece_of(
             if page.nodes.len() < line {
                 return 0;
             }
-            piece_of_line(page, kinds, words, line - 1, part, out)
+            piece_of_line(page, tables, line - 1, part, out)
         }
         Err(_) => 0,
     }
@@ -78,16 +76,15 @@ fn piece_of(
 #[tactic(auto, using(crate::proofs::Whole::put_as, crate::proofs::Whole::nothing_put, crate::proofs::Whole::no_room, crate::proofs::Whole::may_be_put))]
 pub fn piece(
     sheet: &Result<Page, Message>,
-    kinds: &[u8; LIMIT],
-    words: &[u64; LIMIT],
+    tables: Tables,
     line: u32,
     part: u32,
     out: &mut [u8],
 ) -> usize
-    ensures { AtFront (put_of sheet.now kinds.now words.now line part (length out.old)) out.old result out.new }
+    ensures { AtFront (put_of sheet.now tables.entry.kinds.now tables.entry.words.now line part (length out.old)) out.old result out.new }
 {
     if out.len() < low_bytes::TEXT_MAX {
         return 0;
     }
-    piece_of(sheet, kinds, words, line, part, out)
+    piece_of(sheet, tables, line, part, out)
 }
