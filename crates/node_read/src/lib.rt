@@ -17,6 +17,7 @@ use pool::{LIMIT, Node, Parts, Pool, ROWS};
 use refusals::Refusal;
 
 // A file's n, or 7.
+#[tactic(auto, unfolding(crate::specs::Reads::size_tested, shape::specs::File::is_sized))]
 fn size_of(file: &[u8]) -> Result<usize, Refusal>
     ensures { numbered result ≡ size_tested file.now }
 {
@@ -79,6 +80,7 @@ fn in_order(entries: &Pool, roots: &[u64], n: usize) -> bool
 }
 
 // The test of a node file, 7, 8 and 9: where it passes, the tables have its entries; how many they are is the answer.
+#[tactic(auto, unfolding(crate::specs::Reads::test_file, crate::specs::Reads::size_tested, shape::specs::File::is_sized, shape::specs::File::are_nodes, shape::specs::File::is_in_order))]
 pub fn test_file(file: &[u8], entries: &mut Pool) -> Result<usize, Refusal>
     requires { entries.old ≡ empty }
     ensures { FileTested (numbered result) file.now entries.new }
@@ -95,6 +97,7 @@ pub fn test_file(file: &[u8], entries: &mut Pool) -> Result<usize, Refusal>
 }
 
 // The node with its parts shifted.
+#[tactic(auto, using(node_walk::proofs::Renamed::renamed_none, node_walk::proofs::Renamed::renamed_one, node_walk::proofs::Renamed::renamed_two))]
 fn shifted(node: Node, by: u32) -> Node
     requires { (by ≤ limit) × PartsBelow limit node }
     ensures { result ≡ rename (λ j. by + j) node }
@@ -121,6 +124,7 @@ fn append_entries(entries: &Pool, n: usize, pool: &mut Pool) -> Result<u32, Refu
 }
 
 // A node file read into the pool: its test, then its nodes appended.
+#[tactic(auto, unfolding(shape::specs::File::read_file, shape::specs::File::is_sized, crate::specs::Reads::test_file))]
 pub fn read_file(file: &[u8], pool: &mut Pool) -> Result<u32, Refusal>
     requires { pool.old.count ≤ limit }
     ensures { made result pool.new ≡ read_file file.now pool.old }

@@ -3,14 +3,14 @@
 use mathlib.Core.Path.{◌≡◌, sym, ap, ap₂, ◌∙◌, subst, subst⁻¹}
 use mathlib.Core.Bool.{true}
 use Rattle.std.specs.Prelude.{Ok, Err}
-use mathlib.Core.List.{List, [], ◌∷◌, ◌++◌, map}
+use mathlib.Core.List.{List, [], ◌∷◌, ◌++◌}
 use Prim.Native.Nat.{ℕ, suc, ◌+◌, ◌-◌, ◌*◌, ◌≤◌, ◌<◌}
 use native.Mathlib.Omega.{arith}
 use lib.ListN.{length, get_or, drop}
 use lib.Seq.{sets, sets-eq, ext_get_or}
 use borrow.Author.Tests.{le-leb, lt-leb}
 use Rattle.low_bytes.specs.LowBytes.{low_bytes}
-use Rattle.pool.specs.Nodes.{kind_of, parts}
+use Rattle.pool.specs.Nodes.{parts}
 use Rattle.pool.specs.Pool.{limit, node_in}
 use Rattle.pool.specs.declared.node.Node.{Node}
 use Rattle.pool.specs.declared.node.Node.TheVariants.{Empty}
@@ -18,7 +18,7 @@ use Rattle.shape.specs.Shape.{rename, has}
 use Rattle.shape.specs.Table.{up_to}
 use Rattle.shape.specs.Demand.{Below}
 use Rattle.shape.specs.Order.{numbered, num, entries, written}
-use Rattle.shape.specs.File.{word_bytes, file_of, written_file}
+use Rattle.shape.specs.File.{file_of, written_file}
 use Rattle.shape.specs.Walked.{Falls, node_numbered}
 use Rattle.shape.proofs.Lists.{All}
 use Rattle.shape.proofs.Tables.{length_up_to, up_to_at}
@@ -26,16 +26,15 @@ use Rattle.shape.proofs.Renaming.{rename_alike}
 use Rattle.shape.proofs.Numbers.{built_distinct, built_closed, num_of_node, length_entries, entry_numbered}
 use Rattle.shape.proofs.Pigeonhole.{distinct_fit}
 use Rattle.low_bytes.proofs.Bytes.{length_bytes}
-use Rattle.low_bytes.proofs.Writing.{sets_joined}
 use Rattle.shape.proofs.Files.{length_file}
 use Rattle.shape.proofs.Pools.{rules_of_test, node_falls}
 use Rattle.shape.proofs.Walked.{walked_number}
 use Rattle.refusals.specs.Refusals.{no_room}
 use Rattle.node_walk.specs.Visits.{StandsFor}
 use Rattle.node_walk.specs.declared.Numbering.{Numbering}
-use Rattle.node_write.specs.Entries.{number_in, entry_by, Listed}
+use Rattle.node_write.specs.Entries.{number_in, entry_by, bytes_of, Listed}
 use Rattle.node_write.specs.Output.{HasRoots, file_output, file_into}
-use Rattle.node_write.proofs.Putting.{kinds_put}
+use Rattle.node_write.proofs.Putting.{put_behind}
 
 -- the tables of a pool with roots
 module _ {ks ws roots : List ℕ} (h : HasRoots ks ws roots) where
@@ -76,15 +75,12 @@ module _ (p : ℕ → Node) (o : List ℕ) (N : Numbering) (w : StandsFor p o N)
       ext_get_or Empty (up_to N.done (entry_by p N)) (entries p o) (length_up_to N.done (entry_by p N) ∙ sym (length_entries p o ∙ w.counted))
       (λ m l. let k : m < N.done = subst (λ j. m < j) (length_up_to N.done (entry_by p N)) l in up_to_at N.done (entry_by p N) Empty m k ∙ entry_is m k)
 
--- three runs of bytes from the front are the file, and leave what stands behind it
-three_runs : (old xs ys zs : List ℕ) (i j : ℕ) → i ≡ length xs → j ≡ length xs + length ys → length (xs ++ (ys ++ zs)) ≤ length old
-    → sets (sets (sets old 0 xs) i ys) j zs ≡ (xs ++ (ys ++ zs)) ++ drop (length (xs ++ (ys ++ zs))) old
-three_runs old xs ys zs i j e f l =
-    ap₂ (λ a b. sets (sets (sets old 0 xs) a ys) b zs) (e ∙ sym (from_zero (length xs))) (f ∙ ap (λ k. k + length ys) (sym (from_zero (length xs))))
-    ∙ sym (sets_joined ys zs (sets old 0 xs) (0 + length xs))
-    ∙ sym (sets_joined xs (ys ++ zs) old 0)
-    ∙ sets-eq (xs ++ (ys ++ zs)) old 0 (subst⁻¹ (λ k. k ≤ length old) (from_zero (length (xs ++ (ys ++ zs)))) l)
-    ∙ ap (λ k. (xs ++ (ys ++ zs)) ++ drop k old) (from_zero (length (xs ++ (ys ++ zs))))
+-- bytes put from the front on, and others behind them
+two_runs : (old xs ys : List ℕ) → length (xs ++ ys) ≤ length old → sets (sets old 0 xs) (length xs) ys ≡ (xs ++ ys) ++ drop (length (xs ++ ys)) old
+two_runs old xs ys l =
+    put_behind xs ys old 0 (length xs) (omega arith)
+    ∙ sets-eq (xs ++ ys) old 0 (omega arith)
+    ∙ ap (λ k. (xs ++ ys) ++ drop k old) (from_zero (length (xs ++ ys)))
   where
     from_zero : (k : ℕ) → 0 + k ≡ k
     from_zero k = omega arith
@@ -103,21 +99,18 @@ module _ (ks ws : List ℕ) (root : ℕ) {N : Numbering} (w : StandsFor (node_in
   unfolding file_into
   has_no_room old l = rw (lt-leb (length (written_file ks ws root)) (length old) (subst⁻¹ (λ k. length old < k) file_long l))
 
-  pub is_written : (old : List ℕ) {out₁ out₂ out₃ : List ℕ} → 4 + 9 * N.done ≤ length old
-      → out₁ ≡ sets old 0 (low_bytes 4 N.done) → out₂ ≡ sets out₁ 4 (map kind_of (up_to N.done (entry_by (node_in ks ws) N)))
-      → out₃ ≡ sets out₂ (4 + N.done) (word_bytes (up_to N.done (entry_by (node_in ks ws) N)))
-      → file_output (Ok (4 + 9 * N.done)) out₃ ≡ file_into old (written_file ks ws root)
+  pub is_written : (old : List ℕ) {out₁ out₂ : List ℕ} → 4 + 9 * N.done ≤ length old
+      → out₁ ≡ sets old 0 (low_bytes 4 N.done)
+      → out₂ ≡ sets out₁ 4 (bytes_of (up_to N.done (entry_by (node_in ks ws) N)))
+      → file_output (Ok (4 + 9 * N.done)) out₂ ≡ file_into old (written_file ks ws root)
   unfolding file_into file_of
-  is_written old {out₁} {out₂} {out₃} l a b c =
+  is_written old {out₁} {out₂} l a b =
       let f = written_file ks ws root in
       let es = up_to N.done (entry_by (node_in ks ws) N) in
       let long_enough : length f ≤ length old = subst⁻¹ (λ k. k ≤ length old) file_long l in
       let many : length es ≡ N.done = length_up_to N.done (entry_by (node_in ks ws) N) in
-      let e : out₃ ≡ file_of es ++ drop (length (file_of es)) old =
-      c ∙ ap (λ x. sets x (4 + N.done) (word_bytes es)) (b ∙ ap (λ x. sets x 4 (map kind_of es)) (a ∙ ap (λ k. sets old 0 (low_bytes 4 k)) (sym many)))
-      ∙ three_runs old (low_bytes 4 (length es)) (map kind_of es) (word_bytes es) 4 (4 + N.done) (sym (length_bytes 4 (length es)))
-      (sym (ap₂ ◌+◌ (length_bytes 4 (length es)) (kinds_put.long es ∙ ap (λ k. 1 * k) many ∙ once N.done))) (subst (λ x. length x ≤ length old) file_is long_enough) in
+      let e : out₂ ≡ file_of es ++ drop (length (file_of es)) old =
+      b ∙ ap (λ x. sets x 4 (bytes_of es)) (a ∙ ap (λ k. sets old 0 (low_bytes 4 k)) (sym many))
+      ∙ ap (λ k. sets (sets old 0 (low_bytes 4 (length es))) k (bytes_of es)) (sym (length_bytes 4 (length es)))
+      ∙ two_runs old (low_bytes 4 (length es)) (bytes_of es) (subst (λ x. length x ≤ length old) file_is long_enough) in
       rw (le-leb (length f) (length old) long_enough) (ap₂ (λ k x. file_output (Ok k) x) (sym file_long) (e ∙ ap (λ x. x ++ drop (length x) old) (sym file_is)))
-    where
-      once : (k : ℕ) → 1 * k ≡ k
-      once k = omega arith

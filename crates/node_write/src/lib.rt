@@ -1,15 +1,15 @@
 // nodes.bin written from one root into a lent output.
 #![tactic(auto)]
 
-ghost use Rattle.std.specs.Prelude.{◌≡◌, [], ◌∷◌, map, ◌+◌, ◌*◌, ◌<◌, ◌≤◌, length, get_or};
+ghost use Rattle.std.specs.Prelude.{◌≡◌, [], ◌∷◌, ◌+◌, ◌*◌, ◌<◌, ◌≤◌, length, get_or};
 ghost use Rattle.std.proofs.lemmas.List.Edits.{sets};
-ghost use Rattle.pool.specs.Nodes.{kind_of, parts};
+ghost use Rattle.pool.specs.Nodes.{parts};
 ghost use Rattle.pool.specs.Pool.{limit};
 ghost use Rattle.pool.specs.Tables.{nodes};
 ghost use Rattle.shape.specs.Shape.{rename};
-ghost use Rattle.shape.specs.File.{word_bytes, written_file};
+ghost use Rattle.shape.specs.File.{written_file};
 ghost use Rattle.refusals.specs.Numbers.{numbered};
-ghost use Rattle.node_write.specs.Entries.{number_in, Marked, AllMarked, entry_by, all_entries, Listed};
+ghost use Rattle.node_write.specs.Entries.{number_in, Marked, AllMarked, entry_by, all_entries, bytes_of, Listed};
 ghost use Rattle.node_write.specs.Output.{HasRoots, file_output, file_into};
 
 use node_walk::Numbering;
@@ -26,6 +26,7 @@ fn number_of(number: &[u32; LIMIT], part: u32) -> u32
 }
 
 // The node with its parts given by their numbers.
+#[tactic(auto, using(node_walk::proofs::Renamed::renamed_none, node_walk::proofs::Renamed::renamed_one, node_walk::proofs::Renamed::renamed_two))]
 fn renumbered(number: &[u32; LIMIT], node: Node) -> Node
     requires { AllMarked number.now (parts node) }
     ensures { result ≡ rename (number_in number.now) node }
@@ -54,45 +55,23 @@ fn entry(tables: Tables, numbering: &Numbering, m: usize) -> Node
     renumbered(&numbering.number, node)
 }
 
-// The kinds of the entries, from the place `first` on. One generic function for kinds and words would take a width and a closure, and is no plainer.
-fn put_kinds(
-    tables: Tables,
-    numbering: &Numbering,
-    first: usize,
-    out: &mut [u8],
-)
+// The entries from the place `first` on: the kinds of all, a byte each, and behind them the words. Each entry is made once, so both are put in one loop.
+#[tactic(auto, using(crate::proofs::Putting::no_entries_put, crate::proofs::Putting::entry_put, crate::proofs::Putting::all_entries_put))]
+fn put_entries(tables: Tables, numbering: &Numbering, first: usize, out: &mut [u8])
     requires listed { Listed (nodes tables) numbering.now }
-    requires n_in_bounds { first + numbering.now.done ≤ length out.old }
-    ensures { out.new ≡ sets out.old first (map kind_of (all_entries (nodes tables.entry) numbering.now)) }
+    requires n_in_bounds { first + 9 * numbering.now.done ≤ length out.old }
+    ensures { out.new ≡ sets out.old first (bytes_of (all_entries (nodes tables.entry) numbering.now)) }
 {
-    for m in 0..numbering.done as usize {
-        out[first + m] = entry(tables, numbering, m).kind();
-    }
-}
-
-// The words of the entries, from the place `first` on.
-fn put_words(
-    tables: Tables,
-    numbering: &Numbering,
-    first: usize,
-    out: &mut [u8],
-)
-    requires listed { Listed (nodes tables) numbering.now }
-    requires n_in_bounds { first + 8 * numbering.now.done ≤ length out.old }
-    ensures { out.new ≡ sets out.old first (word_bytes (all_entries (nodes tables.entry) numbering.now)) }
-{
-    for m in 0..numbering.done as usize {
-        let word = entry(tables, numbering, m).word();
-        low_bytes::put_bytes(out, first + 8 * m, 8, word);
+    let n = numbering.done as usize;
+    for m in 0..n {
+        let node = entry(tables, numbering, m);
+        out[first + m] = node.kind();
+        low_bytes::put_bytes(out, first + n + 8 * m, 8, node.word());
     }
 }
 
 // The node file of a root: how many bytes it has. That is known after the walk, before the first byte is written.
-pub fn write_file(
-    tables: Tables,
-    root: u32,
-    out: &mut [u8],
-) -> Result<u64, Refusal>
+pub fn write_file(tables: Tables, root: u32, out: &mut [u8]) -> Result<u64, Refusal>
     requires { HasRoots tables.kinds.now tables.words.now (root ∷ []) }
     ensures { file_output (numbered result) out.new ≡ file_into out.old (written_file tables.entry.kinds.now tables.entry.words.now root) }
 {
@@ -104,7 +83,6 @@ pub fn write_file(
         return Err(Refusal::NoRoom);
     }
     low_bytes::put_bytes(out, 0, 4, n as u64);
-    put_kinds(tables, &numbering, 4, out);
-    put_words(tables, &numbering, 4 + n, out);
+    put_entries(tables, &numbering, 4, out);
     Ok(length as u64)
 }

@@ -8,4 +8,4 @@ use Rattle.node_read.proofs.in_order.Goals as goal
 pub returns : goal.returns
 returns c =
     marks_pass _ c.args.n c.in_place.ensures ∙ in_order_by_marks (node_at c.args.entries.now) c.args.roots.now c.args.n
-    c.number_all.ensures
+    (rw (c.tables.ensures.kinds, c.tables.ensures.words) at c.number_all.ensures)

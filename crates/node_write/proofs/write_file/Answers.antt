@@ -1,30 +1,20 @@
--- `node_write::write_file` meets its contract: the walk gives the entries and the length, and the three runs of bytes are the file.
+-- `node_write::write_file` meets its contract: the walk gives the entries and the length, and the bytes put are the file.
 -- Assumes nothing.
-use mathlib.Core.List.{[], ◌∷◌}
-use native.Mathlib.Omega.{arith}
-use Rattle.pool.specs.Pool.{node_in}
-use Rattle.shape.specs.Order.{numbered}
+use Rattle.std.proofs.Common.{rules}
 use Rattle.node_write.proofs.Written.{roots_fit, pool_falls, all_listed, has_no_room, is_written}
 use Rattle.node_write.proofs.write_file.Goals as goal
 
-pub number_all-requires : goal.number_all-requires
-number_all-requires c = record { below = roots_fit c.requires; falls = pool_falls c.requires; fresh = c.none-numbering.ensures }
+pub number_all-requires-clause-below : goal.number_all-requires-clause-below
+number_all-requires-clause-below c = search (rules, roots_fit)
+
+pub number_all-requires-clause-falls : goal.number_all-requires-clause-falls
+number_all-requires-clause-falls c = search (rules, pool_falls)
 
 pub returns-then-out-length : goal.returns-then-out-length
-returns-then-out-length c =
-    has_no_room c.args.kinds.now c.args.words.now c.args.root c.number_all.ensures c.args.out.now c.if-out-length.true
+returns-then-out-length c = search (rules, has_no_room)
 
-pub put_kinds-requires : goal.put_kinds-requires
-put_kinds-requires c =
-    let p = node_in c.args.kinds.now c.args.words.now in
-    record { listed = all_listed p (numbered p (c.args.root ∷ [])) _ c.number_all.ensures; n_in_bounds = omega (arith, c.put_bytes.auto.out, c.if-out-length.false) }
-
-pub put_words-requires : goal.put_words-requires
-put_words-requires c =
-    let p = node_in c.args.kinds.now c.args.words.now in
-    record { listed = all_listed p (numbered p (c.args.root ∷ [])) _ c.number_all.ensures; n_in_bounds = omega (arith, c.put_kinds.auto.out, c.put_bytes.auto.out, c.if-out-length.false) }
+pub put_entries-requires-clause-listed : goal.put_entries-requires-clause-listed
+put_entries-requires-clause-listed c = search (rules, all_listed)
 
 pub returns : goal.returns
-returns c =
-    is_written c.args.kinds.now c.args.words.now c.args.root c.number_all.ensures c.args.out.now
-    c.if-out-length.false c.put_bytes.ensures c.put_kinds.ensures c.put_words.ensures
+returns c = search (rules, is_written)
