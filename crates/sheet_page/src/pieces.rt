@@ -27,13 +27,7 @@ fn text_of(tables: Tables, node: u32, out: &mut [u8]) -> usize
 
 // A piece of a coefficient's line, where there is room for the longest text.
 #[tactic(auto, using(crate::proofs::Whole::put_short, crate::proofs::Whole::nothing_put, crate::proofs::Whole::wrote_put, crate::proofs::Whole::end_short, crate::proofs::Whole::no_part))]
-fn piece_of_line(
-    page: &Page,
-    tables: Tables,
-    index: u32,
-    part: u32,
-    out: &mut [u8],
-) -> usize
+fn piece_of_line(page: &Page, tables: Tables, index: u32, part: u32, out: &mut [u8]) -> usize
     requires there { index < terms }
     requires room { longest_text ≤ length out.old }
     ensures { AtFront (short (piece_of_line (text_of (nodes tables.entry) (at page.now.nodes index)) index part)) out.old result out.new }

@@ -17,6 +17,6 @@ returns c =
     let a = c.args in
     let P = c.expand_file.new.pool in
     let cs = c.nodes_of-nodes.result in
-    let short : all_short (node_at P) cs ≡ true = sym c.all_short.ensures ∙ c.if-not-all_short.false in
+    let short : all_short (node_at P) cs ≡ true = sym (rw (c.tables.ensures.kinds, c.tables.ensures.words) at c.all_short.ensures) ∙ c.if-not-all_short.false in
     lines_prepared a.var a.order a.point cs P.kinds P.words short
     (rw c.nodes_of-nodes.ensures (coefficients_found a.file.now a.var a.point a.order P c.expand_file.ensures c.in_ok-expansion.was ∙ all_printed P _ (rw c.nodes_of-nodes.ensures at short)))
