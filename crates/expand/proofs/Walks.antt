@@ -12,12 +12,12 @@ use Rattle.pool.specs.declared.node.Node.{Node}
 use Rattle.taylor.specs.Work.{Result}
 use Rattle.taylor.specs.Expansion.{Expansion}
 use Rattle.taylor.specs.Expand.{Kept, State, state, Went, Walk, bind, lifted, keep, once, Point, expand_node, expand_at, expand_below, expanded, expand}
-use Rattle.expand_laws.proofs.Bounds.{expand_here, below}
+use Rattle.expand_laws.proofs.Bounds.{expand_here, below, above}
 use Rattle.expand_laws.proofs.Holding.{Came, came}
 use Rattle.expand.specs.Nodes.{visits, node_work}
 use Rattle.expand.specs.Results.{results_of, expansion_at, IsKept, AllKept}
 use Rattle.expand.proofs.Parts.{none_made, one_stopped, one_made, left_stopped, right_stopped, two_made}
-use Rattle.expand.proofs.Results.{results_long, result_at, result_set, expansion_set, stands_there, is_kept, is_there}
+use Rattle.expand.proofs.Results.{results_long, result_at, result_set, expansion_set, none_there, some_there, stands_there, is_kept, is_there}
 
 abbrev table : Pool → List Kept → State
 table P kept = state P (results_of kept)
@@ -133,3 +133,8 @@ module _ (v : ℕ) (x : Point) (order root : ℕ) (P : Pool) (blank : List Kept)
   root_kept Q kept l most same h =
       let there = (came v x order (root + 1) root (sym h)).there (rw none (rw (length-replicate {A = Kept} limit None) (omega arith))) in
       is_kept kept root (omega arith) there
+
+-- what the walk's contract is found by
+pub ruleset walks = (above, some_there, none_there, left_as_kept, made_alone, one_refused, left_refused, right_refused)
+
+pub ruleset whole = (whole_walk, root_kept)

@@ -70,6 +70,7 @@ fn node_in(
 
 // The expansion of the node `term` is made and kept. It is no part of the walk's own frame, of which there is one for each level.
 #[inline(never)]
+#[tactic(auto, using(crate::proofs::Walks::now_kept))]
 pub fn keep_in(
     pool: &mut Pool,
     kept: &mut [Option<Expansion>],

@@ -18,6 +18,7 @@ const FEW_PLACES: usize = 128;
 const SOME_PLACES: usize = 512;
 
 // `taylor_coeffs`, `taylor_coeffs_at`: the expansion of the expression at `root` in the variable `var`.
+#[tactic(auto, using(expand_laws::proofs::Bounds::nowhere))]
 pub fn expand_in(
     pool: &mut Pool,
     root: u32,
@@ -45,6 +46,7 @@ pub fn expand_in(
 // The expansion, with N places, of which one is the root's, and in which nothing is kept. It is never put into its caller, whose frame would then have
 // room for all places, 450 KB that are touched page by page at every call.
 #[inline(never)]
+#[tactic(auto, using(crate::proofs::Results::none_kept))]
 fn expand_within<const N: usize>(
     pool: &mut Pool,
     root: u32,
@@ -59,6 +61,7 @@ fn expand_within<const N: usize>(
 }
 
 // The expansion, with a place for the root and nothing kept.
+#[tactic(auto, using(crate::proofs::Walks::whole))]
 fn expand_over(
     pool: &mut Pool,
     kept: &mut [Option<Expansion>],
@@ -76,6 +79,7 @@ fn expand_over(
 
 // From node i, where i is below the bound: a node whose expansion is kept is not visited again; the parts of another, which have smaller numbers, come
 // first. A level of the walk hands on no expansion, so that it takes little of the stack.
+#[tactic(auto, using(crate::proofs::Walks::walks))]
 fn walk_below(
     pool: &mut Pool,
     kept: &mut [Option<Expansion>],

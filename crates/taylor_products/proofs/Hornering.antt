@@ -46,3 +46,5 @@ unfolding horner
 horner_done {inner} {cs} {whole} {i} {res} {P} g h =
     let none : 0 ≡ i = omega arith in
     ap (λ (j : ℕ). horner inner (reverse (take j cs)) res P) none ∙ g.is
+
+pub ruleset turns = (horner_starts, horner_stopped, horner_onward, horner_done)

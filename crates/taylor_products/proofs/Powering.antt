@@ -114,3 +114,5 @@ pow_done {extra} {whole} {e} {rounds} {res} {square} {P} g h =
     let none : rounds ≡ 0 = omega arith in
     let over : 0 ≡ e = sym (no_digits (rw none at g.digits_left)) in
     nothing_left (extra + rounds) res square P ∙ ap (λ (n : ℕ). pow_from (extra + rounds) n res square P) over ∙ g.is
+
+pub ruleset ends = (product_stopped, pow_done)

@@ -26,6 +26,7 @@ fn times_if(
 }
 
 // Each round takes a binary digit of the exponent, the lowest first. There are as many rounds as digits, which the leading zeros tell, and the square after the highest one bit is not taken.
+#[tactic(auto, using(crate::proofs::Powering::ends))]
 fn rounds_in(pool: &mut Pool, one: u32, base: &Expansion, exp: u32) -> Result<Expansion, Refusal>
     ensures { made result pool.new ≡ pow_from digits exp (Constant one) base.now pool.old }
 {

