@@ -79,3 +79,5 @@ module _ (f : ℕ → ℕ → Work ℕ) where
   each_is_two (c ∷ cs) P =
       bind_same (f c c P) (λ r Q. bind (each_two f cs cs Q) (λ rs. yield (r ∷ rs))) (λ r Q. bind (each (λ u. f u u) cs Q) (λ rs. yield (r ∷ rs)))
       (λ r Q. ap (λ (x : Result (List ℕ)). bind x (λ rs. yield (r ∷ rs))) (each_is_two cs Q))
+
+pub ruleset ends = (paired_stopped, paired_done)

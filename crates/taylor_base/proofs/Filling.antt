@@ -45,3 +45,5 @@ unfolding fill
 fill_first f n P h =
     let more : n ≡ suc (n - 1) = omega arith in
     ap (λ (m : ℕ). fill f m [] P) more
+
+pub ruleset ends = (fill_stopped, fill_done)

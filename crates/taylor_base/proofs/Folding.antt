@@ -34,3 +34,5 @@ module _ {f : ℕ → ℕ → Work ℕ} {end : ℕ} {whole : Result ℕ} where
   fold_done {j} {sum} {P} g h =
       let none : end - j ≡ 0 = omega arith in
       ap (λ (n : ℕ). fold f j n sum P) (sym none) ∙ g.is
+
+pub ruleset turns = (fold_starts, fold_stopped, fold_onward, fold_done)

@@ -12,6 +12,7 @@ use refusals::Refusal;
 use taylor::Coefficients;
 
 // Of the entries of both lists side by side, up to the shorter length.
+#[tactic(auto, using(crate::proofs::Entrywise::ends))]
 pub fn pairs_in<F: Fn(&mut Pool, u32, u32) -> Result<u32, Refusal>>(
     pool: &mut Pool,
     us: &Coefficients,
@@ -44,6 +45,7 @@ pub fn each_in<F: Fn(&mut Pool, u32) -> Result<u32, Refusal>>(
 }
 
 // (first .. first + todo).fold(start, next)
+#[tactic(auto, using(crate::proofs::Folding::turns))]
 pub fn fold_in<F: Fn(&mut Pool, u32, u32) -> Result<u32, Refusal>>(
     pool: &mut Pool,
     first: u32,
@@ -63,6 +65,7 @@ pub fn fold_in<F: Fn(&mut Pool, u32, u32) -> Result<u32, Refusal>>(
 }
 
 // The list of n coefficients of which the first is given, and coefficient k is made of those before it.
+#[tactic(auto, using(crate::proofs::Filling::ends))]
 pub fn fill_in<F: Fn(&mut Pool, &Coefficients, u32) -> Result<u32, Refusal>>(
     pool: &mut Pool,
     first: u32,

@@ -14,6 +14,7 @@ use refusals::Refusal;
 use taylor::{Coefficients, Expansion};
 
 // `TaylorExpansion::var`: the point, a one, and zeros up to the order.
+#[tactic(auto, using(crate::proofs::Variables::var_of_order))]
 pub fn var_in(pool: &mut Pool, x: u32, order: u32) -> Result<Expansion, Refusal>
     requires { order < terms }
     ensures { made result pool.new ≡ var x order pool.old }

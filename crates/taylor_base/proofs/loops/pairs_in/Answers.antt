@@ -3,7 +3,7 @@
 use Rattle.std.proofs.Common.{arith, ◌<◌, min, length}
 use Rattle.std.proofs.lemmas.Grind.{common_steps}
 use Rattle.std.proofs.lemmas.Result.{err_from_is_err_and}
-use Rattle.taylor_base.proofs.Entrywise.{paired_starts, paired_onward, paired_stopped, paired_done}
+use Rattle.taylor_base.proofs.Entrywise.{paired_starts, paired_onward, paired_stopped}
 use Rattle.taylor_base.proofs.loops.pairs_in.Goals as goal
 
 pub returns-in_err-first : goal.returns-in_err-first
@@ -24,13 +24,6 @@ loop-k-init g c =
           (paired_onward f c.args.us.now c.args.ws.now (paired_starts f c.args.us.now c.args.ws.now c.args.pool.now) c.at.ensures c.at-2.ensures some (m _ _ _ _ _ c.in_ok-first.ensures));
     }
 
-pub returns-in_err-entry : goal.returns-in_err-entry
-returns-in_err-entry g c f m =
-    let p = err_from_is_err_and c.from_residual-in_err-entry.result c.from_residual-in_err-entry.ensures.1 in
-    let more : c.loop-k.k < min (length c.args.us.now) (length c.args.ws.now) = omega (arith, c.len.ensures.is, c.len-2.ensures.is, c.min-end.ensures, c.loop-k-test.true) in
-    rw (p.1, p.2)
-    (paired_stopped f c.args.us.now c.args.ws.now (c.loop-k.invariant.pairs f m) c.at-in-loop-k.ensures c.at-in-loop-k-2.ensures more (m _ _ _ _ _ c.in_err-entry.ensures))
-
 pub loop-k-preserved : goal.loop-k-preserved
 loop-k-preserved g c =
     let more : c.loop-k.k < min (length c.args.us.now) (length c.args.ws.now) = omega (arith, c.len.ensures.is, c.len-2.ensures.is, c.min-end.ensures, c.loop-k-test.true) in
@@ -42,7 +35,3 @@ loop-k-preserved g c =
           rw c.push.ensures
           (paired_onward f c.args.us.now c.args.ws.now (c.loop-k.invariant.pairs f m) c.at-in-loop-k.ensures c.at-in-loop-k-2.ensures more (m _ _ _ _ _ c.in_ok-entry.ensures));
     }
-
-pub returns : goal.returns
-returns g c f m =
-    paired_done f c.args.us.now c.args.ws.now (c.loop-k.invariant.pairs f m) (omega (arith, c.len.ensures.is, c.len-2.ensures.is, c.min-end.ensures, c.loop-k-test.false))
