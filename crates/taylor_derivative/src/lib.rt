@@ -41,6 +41,7 @@ fn derivative_list(pool: &mut Pool, list: &Coefficients, k: u64) -> Result<u32, 
 }
 
 // The k-th derivative; any positive one of a constant is a new literal 0.
+#[tactic(auto, using(crate::proofs::Factorials::derivative_is))]
 pub fn derivative_in(pool: &mut Pool, e: &Expansion, k: u64) -> Result<u32, Refusal>
     requires { HasIndex e.now k }
     ensures { made result pool.new ≡ derivative e.now k pool.old }
