@@ -1,4 +1,3 @@
-pub mod Writing
 pub mod Growing
 pub mod Accepting
 pub mod Demand3

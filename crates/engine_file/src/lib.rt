@@ -12,7 +12,7 @@ use pool::Pool;
 use refusals::Refusal;
 
 // The node file of a root, written into the lent output.
-#[tactic(auto, unfolding(crate::specs::Write::write_call))]
+#[tactic(auto, unfolding(crate::specs::Write::write_call, node_write::specs::Output::file_into), using(lent::proofs::Calling::one_fits))]
 pub fn write(
     kinds: &[u8],
     words: &[u64],
@@ -22,13 +22,13 @@ pub fn write(
 ) -> Result<u64, Refusal>
     ensures { put (numbered result) out.new ≡ write_call kinds.now words.now count root out.old }
 {
-    let mut pool = Pool::empty();
-    lent::take_in(kinds, words, count, &mut pool)?;
+    let tables = lent::tables(kinds, words, count)?;
     lent::one_given(count, root)?;
-    node_write::write_file(pool.tables(), root as u32, out)
+    node_write::write_file(tables, root as u32, out)
 }
 
 // A node file, read into the pool: its root.
+#[tactic(auto, unfolding(pool::specs::Pool::is_pool))]
 pub fn read(
     kinds: &mut [u8],
     words: &mut [u64],

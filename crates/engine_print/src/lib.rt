@@ -6,12 +6,11 @@ ghost use Rattle.refusals.specs.Numbers.{numbered};
 ghost use Rattle.engine_print.specs.Printing.{print_call};
 ghost use Rattle.lent.specs.Writing.{put};
 
-use pool::Pool;
 use reached::Test;
 use refusals::Refusal;
 
 // The text of an expression, into a lent output; `print_into` leaves the output as it is where the text is too long or has no room there.
-#[tactic(auto, unfolding(crate::specs::Printing::print_call))]
+#[tactic(auto, unfolding(crate::specs::Printing::print_call), using(lent::proofs::Calling::one_fits))]
 pub fn print(
     kinds: &[u8],
     words: &[u64],
@@ -21,14 +20,13 @@ pub fn print(
 ) -> Result<u64, Refusal>
     ensures { put (numbered result) out.new ≡ print_call kinds.now words.now count root out.old }
 {
-    let mut pool = Pool::empty();
-    lent::take_in(kinds, words, count, &mut pool)?;
+    let tables = lent::tables(kinds, words, count)?;
     lent::one_given(count, root)?;
     let node = root as u32;
-    if reached::reaches(&pool.kinds, &pool.words, node, Test::Max) {
+    if reached::reaches(tables, node, Test::Max) {
         return Err(Refusal::MaxReached);
     }
-    let length = print::print_into(pool.tables(), node, out) as usize;
+    let length = print::print_into(tables, node, out) as usize;
     if low_bytes::TEXT_MAX < length {
         return Err(Refusal::NoRoom);
     }
