@@ -18,9 +18,6 @@ use Rattle.std.specs.Option.{option_and_then}
 use Rattle.key_values.specs.Values.{bits_digits, hex_digit, hex_from}
 
 -- a digit's value is below 16
-none_is : {A : Type 0} {d : ℕ} → None ≡ Some d → A
-none_is e = let z : ◌≡◌ {A = ℕ} 0 1 = cc in absurd (omega arith)
-
 same : {m d : ℕ} → Some m ≡ Some d → m ≡ d
 same e = cc
 
@@ -36,7 +33,7 @@ digit_below : (b d : ℕ) → hex_digit b ≡ Some d → d < 16
 digit_below b d e =
     from_range 48 57 b (b - 48) d _
     (from_range 65 70 b (b - 55) d _
-    (from_range 97 102 b (b - 87) d None none_is (λ k. omega (arith, leb-true b 102 k)))
+    (from_range 97 102 b (b - 87) d None (λ e. absurd cc) (λ k. omega (arith, leb-true b 102 k)))
     (λ k. omega (arith, leb-true b 70 k)))
     (λ k. omega (arith, leb-true b 57 k))
     e

@@ -61,7 +61,7 @@ at_most_nine b e = go (leb 48 b) e
   where
     go : (t : Bool) → t && leb b 57 ≡ true → b - 48 ≤ 9
     go true f = omega (arith, leb-true b 57 f)
-    go false f = let z : ◌≡◌ {A = ℕ} 0 1 = cc in absurd (omega arith)
+    go false f = absurd cc
 
 -- so many digits make no greater number
 digits_below : (n : ℕ) (bs : List ℕ) (p : ℕ) → digits_from n bs ≡ Some p → p < (n + 1) * 10 ^ length bs
@@ -80,7 +80,7 @@ digits_below n (b ∷ bs) p e = go (is_digit b) refl e (digits_below (10 * n + (
         let less = below f in
         let more : (10 * n + (b - 48) + 1) * 10 ^ length bs ≤ (10 * n + 10) * 10 ^ length bs = mul-le-mul_right (10 ^ length bs) (omega arith) in
         rw (pow-succ' 10 (length bs)) (omega arith)
-    go false d f below = let z : ◌≡◌ {A = ℕ} 0 1 = cc in absurd (omega arith)
+    go false d f below = absurd cc
 
 -- a number of so few digits is whole, and exact as a double
 whole_number : (bs : List ℕ) {p : ℕ} → length bs ≤ most_digits → Some p ≡ cut_number (digits_from 0 bs) → (digits_from 0 bs ≡ Some p) × (p ≤ greatest)
@@ -165,12 +165,12 @@ module _ (negative : Bool) (bytes : List ℕ) where
 
 pub with_minus : (bytes : List ℕ) → pointwise eqb (take 1 bytes) (minus ∷ []) ≡ true → unsigned_of true (drop 1 bytes) ≡ decimal_of bytes
 unfolding decimal_of
-with_minus [] e = let z : ◌≡◌ {A = ℕ} 0 1 = cc in absurd (omega arith)
+with_minus [] e = absurd cc
 with_minus (b ∷ bs) e = go (eqb b minus) e
   where
     go : (t : Bool) → t && true ≡ true → unsigned_of true bs ≡ cond t (unsigned_of true bs) (unsigned_of false (b ∷ bs))
     go true k = refl
-    go false k = let z : ◌≡◌ {A = ℕ} 0 1 = cc in absurd (omega arith)
+    go false k = absurd cc
 
 pub without_minus : (bytes : List ℕ) → pointwise eqb (take 1 bytes) (minus ∷ []) ≡ false → unsigned_of false bytes ≡ decimal_of bytes
 unfolding decimal_of unsigned_of first_at
@@ -178,5 +178,5 @@ without_minus [] e = refl
 without_minus (b ∷ bs) e = go (eqb b minus) e
   where
     go : (t : Bool) → t && true ≡ false → unsigned_of false (b ∷ bs) ≡ cond t (unsigned_of true bs) (unsigned_of false (b ∷ bs))
-    go true k = let z : ◌≡◌ {A = ℕ} 0 1 = cc in absurd (omega arith)
+    go true k = absurd cc
     go false k = refl

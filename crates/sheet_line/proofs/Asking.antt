@@ -17,7 +17,7 @@ use Rattle.sheet_line.proofs.Cutting.{cut_within}
 use Rattle.sheet_line.proofs.Splitting.{split_content}
 
 pub no_value : {A : Type 0} (x : A) → None ≡ Some x → ⊥
-no_value x e = let z : ◌≡◌ {A = ℕ} 0 1 = cc in omega arith
+no_value x e = cc
 
 pub number_within : (r : Option ℕ) {n : ℕ} → Some n ≡ cut_number r → n ≤ cut_at
 number_within None e = absurd (no_value _ (sym e))

@@ -124,7 +124,7 @@ some_field (b ∷ bs) = go (eqb b 32) (split bs)
 -- a space makes two fields, and no space one
 pub two_fields : (bytes : List ℕ) → list_any (λ y. eqb y 32) bytes ≡ true → 1 < length (split bytes)
 unfolding split
-two_fields [] h = let z : ◌≡◌ {A = ℕ} 0 1 = cc in absurd (omega arith)
+two_fields [] h = absurd cc
 two_fields (b ∷ bs) h = go (eqb b 32) (some_field bs) (two_fields bs) h
   where
     go : (t : Bool) → 0 < length (split bs) → (list_any (λ y. eqb y 32) bs ≡ true → 1 < length (split bs)) → t || list_any (λ y. eqb y 32) bs ≡ true → 1 < length (cond t ([] ∷ split bs) (joined b (split bs)))
@@ -141,5 +141,5 @@ no_space_split [] h = refl
 no_space_split (b ∷ bs) h = go (eqb b 32) (no_space_split bs) h
   where
     go : (t : Bool) → (list_any (λ y. eqb y 32) bs ≡ false → split bs ≡ bs ∷ []) → t || list_any (λ y. eqb y 32) bs ≡ false → cond t ([] ∷ split bs) (joined b (split bs)) ≡ (b ∷ bs) ∷ []
-    go true later e = let z : ◌≡◌ {A = ℕ} 0 1 = cc in absurd (omega arith)
+    go true later e = absurd cc
     go false later e = ap (joined b) (later e)

@@ -1,6 +1,5 @@
 // The sheet of a file, for numbers that were asked for.
 ghost use Rattle.std.specs.Prelude.{◌≡◌, ◌<◌};
-ghost use Rattle.pool.specs.Pool.{empty};
 ghost use Rattle.pool.specs.Tables.{nodes as nodes_in};
 ghost use Rattle.pool.specs.Made.{made};
 ghost use Rattle.taylor.specs.Coefficients.{terms};
@@ -38,7 +37,7 @@ fn nodes_of(expansion: Expansion) -> Coefficients
     }
 }
 
-// The expansion of a file's root.
+// The expansion of a file's root: the pool is emptied, and holds the file's nodes and those of the coefficients then.
 #[tactic(auto, unfolding(pool::specs::Pool::empty))]
 fn expand_file(
     file: &[u8],
@@ -47,10 +46,10 @@ fn expand_file(
     point: Option<i64>,
     order: u32,
 ) -> Result<Expansion, Refusal>
-    requires order_lt_terms { order < terms }
-    requires blank { pool.old ≡ empty }
+    requires { order < terms }
     ensures { made result pool.new ≡ expand_file file.now var point order }
 {
+    *pool = Pool::empty();
     let root = node_read::read_file(file, pool)?;
     expand::expand_in(pool, root, var, point, order)
 }
@@ -64,8 +63,7 @@ fn lines_of(
     point: Option<i64>,
     order: u32,
 ) -> Result<Page, Message>
-    requires order_lt_terms { order < terms }
-    requires blank { pool.old ≡ empty }
+    requires { order < terms }
     ensures { Prepared result pool.new.kinds pool.new.words (sheet_text var order point (file_coefficients file.now var order point)) }
 {
     let expansion = expand_file(file, pool, var, point, order)?;
@@ -84,7 +82,6 @@ fn lines_of(
 // 3, 4 and 5, then the file.
 #[tactic(auto, using(crate::proofs::Pages::no_variable, crate::proofs::Pages::no_point, crate::proofs::Pages::no_order, crate::proofs::Pages::in_range, crate::proofs::Pages::refusal_prepared, crate::proofs::Pages::prepared_as))]
 pub fn answer_to(file: &[u8], pool: &mut Pool, asked: Asked) -> Result<Page, Message>
-    requires { pool.old ≡ empty }
     ensures { Prepared result pool.new.kinds pool.new.words (sheet_text asked.var asked.order asked.point (coefficients file.now asked.var asked.order asked.point)) }
 {
     if asked.var > pool::VARIABLE_MAX {

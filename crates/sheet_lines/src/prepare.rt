@@ -6,11 +6,10 @@ use crate::answer::answer_to;
 use pool::Pool;
 use sheet_page::{Message, Page};
 
-// The sheet; the pool is emptied first, and holds the nodes of its coefficients then.
+// The sheet; the pool holds the nodes of its coefficients then.
 pub fn prepared(file: &[u8], line: &[u8], pool: &mut Pool) -> Result<Page, Message>
     ensures { Prepared result pool.new.kinds pool.new.words (sheet file.now line.now) }
 {
-    *pool = Pool::empty();
     match sheet_line::parse(line) {
         Some(asked) => answer_to(file, pool, asked),
         None => Err(Message::Usage),

@@ -1,9 +1,9 @@
 // The pieces of a sheet: the first line, then an index, a text and a line end for each coefficient.
-ghost use Rattle.std.specs.Prelude.{◌<◌, ◌≤◌, length};
+ghost use Rattle.std.specs.Prelude.{◌≤◌, length};
 ghost use Rattle.low_bytes.specs.Output.{longest_text};
 ghost use Rattle.pool.specs.Tables.{nodes};
 ghost use Rattle.walks.specs.Print.{text_of};
-ghost use Rattle.taylor.specs.Coefficients.{at, terms};
+ghost use Rattle.taylor.specs.Coefficients.{at};
 ghost use Rattle.sheet_page.specs.Pages.{piece_of_line, piece_of, short, put_of, AtFront};
 
 use crate::first::{Message, Page, head, label};
@@ -28,8 +28,7 @@ fn text_of(tables: Tables, node: u32, out: &mut [u8]) -> usize
 // A piece of a coefficient's line, where there is room for the longest text.
 #[tactic(auto, using(crate::proofs::Whole::put_short, crate::proofs::Whole::nothing_put, crate::proofs::Whole::wrote_put, crate::proofs::Whole::end_short, crate::proofs::Whole::no_part))]
 fn piece_of_line(page: &Page, tables: Tables, index: u32, part: u32, out: &mut [u8]) -> usize
-    requires there { index < terms }
-    requires room { longest_text ≤ length out.old }
+    requires { longest_text ≤ length out.old }
     ensures { AtFront (short (piece_of_line (text_of (nodes tables.entry) (at page.now.nodes index)) index part)) out.old result out.new }
 {
     match part {
