@@ -23,7 +23,7 @@ use Rattle.key_strip.specs.Trees.{IsTreesStrip}
 use Rattle.key_strip.proofs.Theorems.{strip_is_tested, strip_runs}
 use Rattle.key_strip.proofs.Accepted.{accepted_exactly}
 use Rattle.key_strip.proofs.SameStrip.{same_shape_same_strip, same_shape_same_places, same_shape_same_exp_or_log}
-use Rattle.situations.specs.Refusal.{by, Among, of_valued}
+use Rattle.situations.specs.Refusal.{by, Among, of_answer}
 use Rattle.situations.specs.Situations.{of_running}
 use Rattle.situations.proofs.Running.{of_strips}
 use Rattle.lent.specs.Call.{demand}
@@ -88,7 +88,7 @@ module _ (bs : List ℕ) (are : AreBytes bs) (values : List Float) (few : length
   accepted_is_not_28 : is_strip bs ≡ true → run_strip_call bs values ≡ Err wrong_strip → ⊥
   accepted_is_not_28 is e =
       let ran : run_strip values bs ≡ Err wrong_strip = sym (run_is bs values is ∙ ap (λ t. demand Err t wrong_values (run_strip values bs)) (le-leb (length values) most_values few)) ∙ e in
-      not_by_28 (subst (λ v. Among of_running (of_valued v)) ran ((of_strips bs is).running values))
+      not_by_28 (subst (λ v. Among of_running (of_answer v)) ran ((of_strips bs is).running values))
 
   refused_is_28 : is_strip bs ≡ false → run_strip_call bs values ≡ Err wrong_strip
   unfolding run_strip_call

@@ -32,17 +32,17 @@ module _ (strip : ℕ → List ℕ) (places : ℕ → ℕ) where
   two_strips code a b is part =
       combined code (places a) (places b) (strip a) (strip b) is (part a (here a (b ∷ []))) (part b (further a (b ∷ []) b (here b [])))
 
-  node_strip_lem : (n : Node) → HasCode n → All (λ i. StripOfTree (places i) (strip i)) (parts n) → StripOfTree (node_places places n) (node_strip strip n)
-  node_strip_lem Empty c part = absurd c.0
-  node_strip_lem (Variable v) c part = variable v c.0
-  node_strip_lem (Lit z) c part = literal z c.0
-  node_strip_lem (Add a b) c part = two_strips 3 a b refl part
-  node_strip_lem (Mul a b) c part = two_strips 4 a b refl part
-  node_strip_lem (Div a b) c part = two_strips 5 a b refl part
-  node_strip_lem (Exp a) c part = absurd (true≢false c.1)
-  node_strip_lem (Log a) c part = absurd (true≢false c.1)
-  node_strip_lem (Pow a e) c part = raised e (places a) (strip a) c.0.2 (omega arith) (part a (here a []))
-  node_strip_lem (Max a b) c part = two_strips 9 a b refl part
+  node_strip_of_tree : (n : Node) → HasCode n → All (λ i. StripOfTree (places i) (strip i)) (parts n) → StripOfTree (node_places places n) (node_strip strip n)
+  node_strip_of_tree Empty c part = absurd c.0
+  node_strip_of_tree (Variable v) c part = variable v c.0
+  node_strip_of_tree (Lit z) c part = literal z c.0
+  node_strip_of_tree (Add a b) c part = two_strips 3 a b refl part
+  node_strip_of_tree (Mul a b) c part = two_strips 4 a b refl part
+  node_strip_of_tree (Div a b) c part = two_strips 5 a b refl part
+  node_strip_of_tree (Exp a) c part = absurd (true≢false c.1)
+  node_strip_of_tree (Log a) c part = absurd (true≢false c.1)
+  node_strip_of_tree (Pow a e) c part = raised e (places a) (strip a) c.0.2 (omega arith) (part a (here a []))
+  node_strip_of_tree (Max a b) c part = two_strips 9 a b refl part
 
 module _ (P : Pool) (keeps : KeepsRules P) (root : ℕ) (given : root < P.count) (none : has_exp_or_log (node_at P) root ≡ false) where
   -- what is written for an expression is the strip of a tree that needs its places
@@ -51,7 +51,7 @@ module _ (P : Pool) (keeps : KeepsRules P) (root : ℕ) (given : root < P.count)
       let at = node_at P in
       by_parts P keeps (λ i. StripOfTree (places_of at i) (strip_of at i)) (λ i c part.
       subst₂ StripOfTree (sym (visits 0 node_places at i)) (sym (visits [] node_strip at i))
-      (node_strip_lem (under [] (strip_of at) i) (under 0 (places_of at) i) (at i) c (λ a m.
+      (node_strip_of_tree (under [] (strip_of at) i) (under 0 (places_of at) i) (at i) c (λ a m.
       let falls : a < i = falls_in P keeps i a m in
       subst₂ StripOfTree (below 0 (places_of at) i a falls) (below [] (strip_of at) i a falls) (part a m))))
       root given none

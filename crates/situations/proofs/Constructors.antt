@@ -18,23 +18,23 @@ use Rattle.situations.specs.Situations.{of_constructors}
 use Rattle.situations.proofs.Steps.{Refusing, ◌>>=◌, yield_refuses, refuse_refuses, append_refuses, exponent_refuses, folded_refuses, exp_of_refuses, log_of_refuses}
 
 -- ---- the constructors' numbers
-no_exp_or_log_lem : OneOf of_constructors no_exp_or_log
-no_exp_or_log_lem = inl refl
+no_exp_or_log_met : OneOf of_constructors no_exp_or_log
+no_exp_or_log_met = inl refl
 
-out_of_range_lem : OneOf of_constructors out_of_range
-out_of_range_lem = inr (inl refl)
+out_of_range_met : OneOf of_constructors out_of_range
+out_of_range_met = inr (inl refl)
 
-exponent_too_large_lem : OneOf of_constructors exponent_too_large
-exponent_too_large_lem = inr (inr (inl refl))
+exponent_too_large_met : OneOf of_constructors exponent_too_large
+exponent_too_large_met = inr (inr (inl refl))
 
-too_deep_lem : OneOf of_constructors too_deep
-too_deep_lem = inr (inr (inr (inl refl)))
+too_deep_met : OneOf of_constructors too_deep
+too_deep_met = inr (inr (inr (inl refl)))
 
-pub pool_full_lem : OneOf of_constructors pool_full
-pool_full_lem = inr (inr (inr (inr (inl refl))))
+pub pool_full_met : OneOf of_constructors pool_full
+pool_full_met = inr (inr (inr (inr (inl refl))))
 
 pub literals_refuse : (z : ℤ) → Refusing of_constructors (literal (folded z))
-literals_refuse z = folded_refuses pool_full_lem out_of_range_lem z
+literals_refuse z = folded_refuses pool_full_met out_of_range_met z
 
 -- constructors that refuse by these only
 pub record AllRefuse (c : Calls) : Type 0 where
@@ -51,8 +51,8 @@ pub build_refuses : {c : Calls} → AllRefuse c → (t : Term) → Refusing of_c
 unfolding build
 build_refuses g (# a) = yield_refuses a
 build_refuses g (lit z) = literals_refuse z
-build_refuses g (lit_exp z) = exp_of_refuses pool_full_lem no_exp_or_log_lem z
-build_refuses g (lit_log z) = log_of_refuses pool_full_lem no_exp_or_log_lem z
+build_refuses g (lit_exp z) = exp_of_refuses pool_full_met no_exp_or_log_met z
+build_refuses g (lit_log z) = log_of_refuses pool_full_met no_exp_or_log_met z
 build_refuses g (add s t) = do
   a ← build_refuses g s
   b ← build_refuses g t
@@ -69,32 +69,32 @@ build_refuses g (log t) = do
   g.log_at a
 build_refuses g (pow t e) = do
   a ← build_refuses g t
-  exponent_refuses exponent_too_large_lem (leb e greatest_exponent) (g.pow_at a e)
+  exponent_refuses exponent_too_large_met (leb e greatest_exponent) (g.pow_at a e)
 build_refuses g (Add s t) = do
   a ← build_refuses g s
   b ← build_refuses g t
-  append_refuses pool_full_lem (node.Add a b)
+  append_refuses pool_full_met (node.Add a b)
 build_refuses g (Mul s t) = do
   a ← build_refuses g s
   b ← build_refuses g t
-  append_refuses pool_full_lem (node.Mul a b)
+  append_refuses pool_full_met (node.Mul a b)
 build_refuses g (Div s t) = do
   a ← build_refuses g s
   b ← build_refuses g t
-  append_refuses pool_full_lem (node.Div a b)
+  append_refuses pool_full_met (node.Div a b)
 build_refuses g (Max s t) = do
   a ← build_refuses g s
   b ← build_refuses g t
-  append_refuses pool_full_lem (node.Max a b)
+  append_refuses pool_full_met (node.Max a b)
 build_refuses g (Exp t) = do
   a ← build_refuses g t
-  append_refuses pool_full_lem (node.Exp a)
+  append_refuses pool_full_met (node.Exp a)
 build_refuses g (Log t) = do
   a ← build_refuses g t
-  append_refuses pool_full_lem (node.Log a)
+  append_refuses pool_full_met (node.Log a)
 build_refuses g (Pow t e) = do
   a ← build_refuses g t
-  append_refuses pool_full_lem (node.Pow a e)
+  append_refuses pool_full_met (node.Pow a e)
 
 -- a term that is chosen by the pool
 pub table_refuses : {c : Calls} → AllRefuse c → (table : Pool → Term) → Refusing of_constructors (λ P. build c (table P) P)
@@ -116,14 +116,14 @@ deeper_refuse g =
 none_refuse : AllRefuse no_calls
 none_refuse =
     record {
-      add_at = λ lhs rhs. refuse_refuses too_deep too_deep_lem;
-      mul_at = λ lhs rhs. refuse_refuses too_deep too_deep_lem;
-      div_at = λ lhs rhs. refuse_refuses too_deep too_deep_lem;
-      max_at = λ lhs rhs. refuse_refuses too_deep too_deep_lem;
-      neg_at = λ arg. refuse_refuses too_deep too_deep_lem;
-      exp_at = λ arg. refuse_refuses too_deep too_deep_lem;
-      log_at = λ arg. refuse_refuses too_deep too_deep_lem;
-      pow_at = λ base e. refuse_refuses too_deep too_deep_lem;
+      add_at = λ lhs rhs. refuse_refuses too_deep too_deep_met;
+      mul_at = λ lhs rhs. refuse_refuses too_deep too_deep_met;
+      div_at = λ lhs rhs. refuse_refuses too_deep too_deep_met;
+      max_at = λ lhs rhs. refuse_refuses too_deep too_deep_met;
+      neg_at = λ arg. refuse_refuses too_deep too_deep_met;
+      exp_at = λ arg. refuse_refuses too_deep too_deep_met;
+      log_at = λ arg. refuse_refuses too_deep too_deep_met;
+      pow_at = λ base e. refuse_refuses too_deep too_deep_met;
     }
 
 -- with any depth left, every constructor does

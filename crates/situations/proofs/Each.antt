@@ -50,9 +50,9 @@ module _ {c : Calls} (g : (a b : ℕ) → Refusing of_sums (c.add_at a b)) where
 
   -- the table's lines: what is returned for a term is what it makes
   module _ (at : ℕ → Node) (lhs rhs : ℕ) where
-    add_arms_lem : Gives (Making of_sums c) (add_arms at lhs rhs)
+    add_arms_refuse : Gives (Making of_sums c) (add_arms at lhs rhs)
     unfolding add_arms
-    add_arms_lem =
+    add_arms_refuse =
         (found (lit? at lhs) >>= (λ a _. is_zero a >> return (node_made rhs)))
         or (found (lit? at rhs) >>= (λ b _. is_zero b >> return (node_made lhs)))
         or (found (lit? at lhs) & found (lit? at rhs) >>= (λ (a, b) _. return (folded_made _)))
@@ -66,22 +66,22 @@ module _ {c : Calls} (g : (a b : ℕ) → Refusing of_sums (c.add_at a b)) where
               or (found (lit? at b) >>= (λ _ _. return (sum_made (sum_made (node_made a) (node_made rhs)) (node_made b))))
               or (found (lit? at d) >>= (λ _ _. return (sum_made (sum_made (node_made lhs) (node_made c)) (node_made d)))))))
 
-    add_table_lem : Making of_sums c (add_table at lhs rhs)
-    add_table_lem = add_arms_lem then add_made sums_full (node_made lhs) (node_made rhs)
+    add_table_refuses : Making of_sums c (add_table at lhs rhs)
+    add_table_refuses = add_arms_refuse then add_made sums_full (node_made lhs) (node_made rhs)
 
 pub add_refuses : (left lhs rhs : ℕ) → Refusing of_sums ((calls left).add_at lhs rhs)
 unfolding calls
 add_refuses zero lhs rhs = refuse_refuses too_deep (inr (inl refl))
-add_refuses (suc left) lhs rhs = record { refuses = λ P. (add_table_lem (add_refuses left) (node_at P) lhs rhs).made.refuses P }
+add_refuses (suc left) lhs rhs = record { refuses = λ P. (add_table_refuses (add_refuses left) (node_at P) lhs rhs).made.refuses P }
 
 -- ---- div, max, pow: a literal 0 or 1, a node that is there, or one that is appended
 appending_full : OneOf of_appending pool_full
 appending_full = inl refl
 
 module _ {c : Calls} (at : ℕ → Node) where
-  div_table_lem : (lhs rhs : ℕ) → Making of_appending c (div_table at lhs rhs)
+  div_table_refuses : (lhs rhs : ℕ) → Making of_appending c (div_table at lhs rhs)
   unfolding div_table build
-  div_table_lem lhs rhs =
+  div_table_refuses lhs rhs =
       ◌then◌ {H = Making of_appending c}
       ((found (lit? at lhs) >>= (λ a _. is_zero a >> return (small_made appending_full (pos 0) refl)))
       or (found (lit? at rhs) >>= (λ b _. is_one b >> return (node_made lhs))))
@@ -90,13 +90,13 @@ module _ {c : Calls} (at : ℕ → Node) where
       quotient_made : Making of_appending c (Terms.Div (# lhs) (# rhs))
       quotient_made = record { made = record { refuses = (append_refuses {ks = of_appending} appending_full (node.Div lhs rhs)).refuses } }
 
-  max_table_lem : (lhs rhs : ℕ) → Making of_appending c (max_table at lhs rhs)
+  max_table_refuses : (lhs rhs : ℕ) → Making of_appending c (max_table at lhs rhs)
   unfolding build
-  max_table_lem lhs rhs = record { made = record { refuses = (append_refuses {ks = of_appending} appending_full (node.Max lhs rhs)).refuses } }
+  max_table_refuses lhs rhs = record { made = record { refuses = (append_refuses {ks = of_appending} appending_full (node.Max lhs rhs)).refuses } }
 
-  pow_table_lem : (base e : ℕ) → Making of_appending c (pow_table at base e)
+  pow_table_refuses : (base e : ℕ) → Making of_appending c (pow_table at base e)
   unfolding pow_table build
-  pow_table_lem base e =
+  pow_table_refuses base e =
       ◌then◌ {H = Making of_appending c}
       ((eqb e 0 >> return (small_made appending_full (pos 1) refl))
       or (eqb e 1 >> return (node_made base))
@@ -110,15 +110,15 @@ module _ {c : Calls} (at : ℕ → Node) where
 module _ (left : ℕ) where
   pub div_refuses : (lhs rhs : ℕ) → Refusing of_appending ((calls (suc left)).div_at lhs rhs)
   unfolding calls
-  div_refuses lhs rhs = record { refuses = λ P. (div_table_lem (node_at P) lhs rhs).made.refuses P }
+  div_refuses lhs rhs = record { refuses = λ P. (div_table_refuses (node_at P) lhs rhs).made.refuses P }
 
   pub max_refuses : (lhs rhs : ℕ) → Refusing of_appending ((calls (suc left)).max_at lhs rhs)
   unfolding calls
-  max_refuses lhs rhs = record { refuses = λ P. (max_table_lem (node_at P) lhs rhs).made.refuses P }
+  max_refuses lhs rhs = record { refuses = λ P. (max_table_refuses (node_at P) lhs rhs).made.refuses P }
 
   pub pow_refuses : (base e : ℕ) → Refusing of_appending ((calls (suc left)).pow_at base e)
   unfolding calls
-  pow_refuses base e = record { refuses = λ P. (pow_table_lem (node_at P) base e).made.refuses P }
+  pow_refuses base e = record { refuses = λ P. (pow_table_refuses (node_at P) base e).made.refuses P }
 
 -- ---- neg
 -- the product of a literal and 1 or -1 is a literal
@@ -204,18 +204,18 @@ module _ (left : ℕ) (P : Pool) (l : Long P) (arg : ℕ) where
   unfolding build
   small_on z h = record { on = (literal_refuses {ks = of_exp_log} exp_log_full z h).refuses P }
 
-  exp_table_lem : ByExpLog (calls left).exp_at → MakingOn P (calls left) (exp_table (node_at P) arg)
+  exp_table_refuses : ByExpLog (calls left).exp_at → MakingOn P (calls left) (exp_table (node_at P) arg)
   unfolding exp_arms build
-  exp_table_lem less =
+  exp_table_refuses less =
       ◌then◌ {H = MakingOn P (calls left)}
       ((found (lit? (node_at P) arg) >>= (λ a _. is_zero a >> return (small_on (pos 1) refl)))
       or (found (lit? (node_at P) arg) >>= (λ a _. return (record { on = (exp_of_refuses {ks = of_exp_log} exp_log_full (inl refl) a).refuses P })))
       or (found (add? (node_at P) arg) >>= (λ (a, b) _. inside (found (lit? (node_at P) b) >>= (λ b _. return (exp_of_sum left less P l b a))))))
       (record { on = (append_refuses {ks = of_exp_log} exp_log_full (node.Exp arg)).refuses P })
 
-  log_table_lem : ByExpLog (calls left).log_at → MakingOn P (calls left) (log_table (node_at P) arg)
+  log_table_refuses : ByExpLog (calls left).log_at → MakingOn P (calls left) (log_table (node_at P) arg)
   unfolding log_arms build
-  log_table_lem less =
+  log_table_refuses less =
       ◌then◌ {H = MakingOn P (calls left)}
       ((found (lit? (node_at P) arg) >>= (λ a _. is_one a >> return (small_on (pos 0) refl)))
       or (found (lit? (node_at P) arg) >>= (λ a _. return (record { on = (log_of_refuses {ks = of_exp_log} exp_log_full (inl refl) a).refuses P })))
@@ -225,9 +225,9 @@ module _ (left : ℕ) (P : Pool) (l : Long P) (arg : ℕ) where
 pub exp_refuses : (left : ℕ) → ByExpLog (calls left).exp_at
 unfolding calls
 exp_refuses zero arg P l = exp_log_deep
-exp_refuses (suc left) arg P l = (exp_table_lem left P l arg (exp_refuses left)).on
+exp_refuses (suc left) arg P l = (exp_table_refuses left P l arg (exp_refuses left)).on
 
 pub log_refuses : (left : ℕ) → ByExpLog (calls left).log_at
 unfolding calls
 log_refuses zero arg P l = exp_log_deep
-log_refuses (suc left) arg P l = (log_table_lem left P l arg (log_refuses left)).on
+log_refuses (suc left) arg P l = (log_table_refuses left P l arg (log_refuses left)).on

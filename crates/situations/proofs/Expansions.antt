@@ -26,7 +26,7 @@ use Rattle.shape.proofs.Pools.{rules_of}
 use Rattle.situations.specs.Refusal.{OneOf, Among, of_result}
 use Rattle.situations.specs.Situations.{of_constructors, and_max}
 use Rattle.situations.proofs.Steps.{append_refuses}
-use Rattle.situations.proofs.Constructors.{pool_full_lem}
+use Rattle.situations.proofs.Constructors.{pool_full_met}
 use Rattle.situations.proofs.Literals.{Long, long_grown}
 use Rattle.situations.proofs.Throughout.{left, right, Walking, throughout}
 use Rattle.taylor_laws.proofs.General as law
@@ -113,12 +113,12 @@ module _ (P₀ : Pool) (long : Long P₀) (v : ℕ) (x : Point) (order : ℕ) wh
   made g = lift_tame P₀ and_max long (wider of_constructors and_max (λ k h. inr h) g)
 
   point_holds : (x : Point) → Holding (refusing_by of_constructors) (point_node v x)
-  point_holds None = called of_constructors (append_grows (Variable v)) (λ P l. (append_refuses {ks = of_constructors} pool_full_lem (Variable v)).refuses P)
+  point_holds None = called of_constructors (append_grows (Variable v)) (λ P l. (append_refuses {ks = of_constructors} pool_full_met (Variable v)).refuses P)
   point_holds (Some z) = every_constructor.lit_holds z
 
   variable_tame : (sought : Bool) (term : ℕ) → Expanded (of_variable sought term v x order)
   variable_tame true term =
-      made (law.◌>>=◌ (point_holds x) (λ p. law.var_holds (zero_holds of_constructors pool_full_lem) (one_holds of_constructors pool_full_lem) p order))
+      made (law.◌>>=◌ (point_holds x) (λ p. law.var_holds (zero_holds of_constructors pool_full_met) (one_holds of_constructors pool_full_met) p order))
   variable_tame false term = yield_tame P₀ and_max (Constant term)
 
   node_tame : (down : ℕ → Walk) (term : ℕ) (n : Node) → Valid n → All (λ a. Expanded (down a)) (parts n) → Expanded (expand_node v x order down term n)

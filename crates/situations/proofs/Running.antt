@@ -22,7 +22,7 @@ use Rattle.pool.specs.Nodes.{greatest_variable, least_exponent, high_of, pair, d
 use Rattle.walks.specs.Evaluate.{one, evaluate_node}
 use Rattle.key_strip.specs.Strip.{most_places}
 use Rattle.key_strip.specs.Machine.{following, key_of, keys_within, keys_of, taken, accepts, is_strip, in_place, run_from}
-use Rattle.situations.specs.Refusal.{Among, of_valued}
+use Rattle.situations.specs.Refusal.{Among, of_answer}
 use Rattle.situations.specs.Situations.{of_running, OfStrips}
 
 -- what may be a key
@@ -95,12 +95,12 @@ keys_may_run (suc k) (code ∷ bs) = go (leb (following code) (length bs)) (keys
     go false rest = (tt, tt)
 
 -- one key: a double, or 15
-key_answers : (values places : List Float) (key : Node) → is_node key ≡ true → MayRun key → Among (of_running) (of_valued (evaluate_node values (in_place places) key))
+key_answers : (values places : List Float) (key : Node) → is_node key ≡ true → MayRun key → Among (of_running) (of_answer (evaluate_node values (in_place places) key))
 unfolding double_of
 key_answers values places Empty is may = absurd (false≢true is)
 key_answers values places (Variable v) is may = go (ltb v (length values)) (get_or values v nan)
   where
-    go : (t : Bool) (x : Float) → Among (of_running) (of_valued (cond t (Ok x) (Err no_value)))
+    go : (t : Bool) (x : Float) → Among (of_running) (of_answer (cond t (Ok x) (Err no_value)))
     go true x = tt
     go false x = inl refl
 key_answers values places (Lit z) is may = rw may tt
@@ -119,15 +119,15 @@ first_and_rest true true false t e = absurd (false≢true e)
 first_and_rest true false c t e = absurd (false≢true e)
 first_and_rest false b c t e = absurd (false≢true e)
 
-keys_answer : (values places : List Float) (d : ℕ) (keys : List Node) → accepts d keys ≡ true → AllMayRun keys → Among (of_running) (of_valued (run_from values places keys))
+keys_answer : (values places : List Float) (d : ℕ) (keys : List Node) → accepts d keys ≡ true → AllMayRun keys → Among (of_running) (of_answer (run_from values places keys))
 unfolding accepts run_from
 keys_answer values places d [] is may = tt
 keys_answer values places d (key ∷ more) is (may, rest) =
     let tests = first_and_rest (is_node key) (leb (taken key) d) (leb (d - taken key + 1) most_places) (accepts (d - taken key + 1) more) is in
     go (evaluate_node values (in_place places) key) (key_answers values places key tests.0 may) (λ x. keys_answer values (x ∷ drop (taken key) places) (d - taken key + 1) more tests.1 rest)
   where
-    go : (v : Valued) → Among (of_running) (of_valued v) → ((x : Float) → Among (of_running) (of_valued (run_from values (x ∷ drop (taken key) places) more)))
-        → Among (of_running) (of_valued (one v (λ x. run_from values (x ∷ drop (taken key) places) more)))
+    go : (v : Valued) → Among (of_running) (of_answer v) → ((x : Float) → Among (of_running) (of_answer (run_from values (x ∷ drop (taken key) places) more)))
+        → Among (of_running) (of_answer (one v (λ x. run_from values (x ∷ drop (taken key) places) more)))
     go (Ok x) h then = then x
     go (Err k) h then = h
 

@@ -17,8 +17,8 @@ use Rattle.situations.proofs.Derivative.{derivative_refuses}
 use Rattle.situations.proofs.Expansions.{rules_are_long, expansion_refuses}
 
 module _ (P : Pool) (k : KeepsRules P) where
-  pub of_constructors_lem : OfConstructors P
-  of_constructors_lem =
+  pub constructors_refuse : OfConstructors P
+  constructors_refuse =
       let long = rules_are_long P k in
       record {
         add_meets = λ lhs rhs. (add_refuses depth lhs rhs).refuses P;

@@ -32,7 +32,7 @@ use Rattle.pool.proofs.Folds.{below, above, visits}
 use Rattle.shape.specs.Demand.{KeepsRules}
 use Rattle.shape.proofs.Lists.{All}
 use Rattle.shape.proofs.TableOfKinds.{Valid}
-use Rattle.situations.specs.Refusal.{Among, of_valued, of_divided}
+use Rattle.situations.specs.Refusal.{Among, of_answer}
 use Rattle.situations.specs.Situations.{of_evaluation, of_residues}
 use Rattle.situations.proofs.Throughout.{left, right, Walking, throughout}
 
@@ -67,7 +67,7 @@ module _ {A : Type 0} (none : A) where
 
 -- ---- doubles
 record Fine (x : Valued) : Type 0 where
-  only : Among of_evaluation (of_valued x)
+  only : Among of_evaluation (of_answer x)
 
 one_fine : (x : Valued) {next : Float → Valued} → Fine x → ((a : Float) → Fine (next a)) → Fine (doubles.one x next)
 one_fine (Ok a) f g = g a
@@ -97,12 +97,12 @@ module _ (values : List Float) (down : ℕ → Valued) where
   double_fine (Pow a e) v h = one_fine (down a) (left a [] h) (λ x. record { only = tt })
   double_fine (Max a b) v h = both_fine (down a) (down b) (left a (b ∷ []) h) (right a b h) (λ x y. record { only = tt })
 
-pub evaluation_refuses : (P : Pool) → KeepsRules P → (root : ℕ) → root < P.count → (values : List Float) → Among of_evaluation (of_valued (evaluate (node_at P) values root))
+pub evaluation_refuses : (P : Pool) → KeepsRules P → (root : ℕ) → root < P.count → (values : List Float) → Among of_evaluation (of_answer (evaluate (node_at P) values root))
 evaluation_refuses P k root l values = (everywhere (Err broken_pool) (evaluate_node values) Fine (λ down i. double_fine values down) k root l).only
 
 -- ---- residues
 record Whole (x : Divided) : Type 0 where
-  only : Among of_residues (of_divided x)
+  only : Among of_residues (of_answer x)
 
 one_whole : (x : Divided) {next : ℕ → Divided} → Whole x → ((a : ℕ) → Whole (next a)) → Whole (whole.one x next)
 one_whole (Ok a) f g = g a
@@ -147,5 +147,5 @@ module _ (m : ℕ) (values : List ℕ) (down : ℕ → Divided) where
   residue_whole (Pow a e) v h = one_whole (down a) (left a [] h) (λ x. record { only = tt })
   residue_whole (Max a b) v h = both_whole (down a) (down b) (left a (b ∷ []) h) (right a b h) (λ x y. record { only = inr (inl refl) })
 
-pub residues_refuse : (P : Pool) → KeepsRules P → (root : ℕ) → root < P.count → (m : ℕ) (values : List ℕ) → Among of_residues (of_divided (evaluate_residue m (node_at P) values root))
+pub residues_refuse : (P : Pool) → KeepsRules P → (root : ℕ) → root < P.count → (m : ℕ) (values : List ℕ) → Among of_residues (of_answer (evaluate_residue m (node_at P) values root))
 residues_refuse P k root l m values = (everywhere (Err broken_pool) (residue_node m values) Whole (λ down i. residue_whole m values down) k root l).only

@@ -1,8 +1,7 @@
 -- By which numbers an answer refuses, the same for all kinds of answers.
 -- Assumes nothing.
 use Rattle.std.specs.Prelude.{◌≡◌, ◌⊎◌, List, [], ◌∷◌, ℕ, Ok, Err}
-use Rattle.double.specs.Double.{Valued}
-use Rattle.residue.specs.Residue.{Divided}
+use Rattle.std.specs.Prelude as std
 use Rattle.pool.specs.Pool.{Out, done, refused}
 use Rattle.taylor.specs.Work.{Result}
 
@@ -29,10 +28,7 @@ abbrev pub of_result : {A : Type 0} → Result A → Refusal
 of_result (done x P) = none
 of_result (refused k) = by k
 
-abbrev pub of_valued : Valued → Refusal
-of_valued (Ok x) = none
-of_valued (Err k) = by k
-
-abbrev pub of_divided : Divided → Refusal
-of_divided (Ok x) = none
-of_divided (Err k) = by k
+-- a node, a value, a length or an expansion
+abbrev pub of_answer : {A : Type 0} → std.Result A ℕ → Refusal
+of_answer (Ok x) = none
+of_answer (Err k) = by k

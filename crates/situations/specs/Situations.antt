@@ -10,7 +10,7 @@ use Rattle.walks.specs.EvaluateResidue.{evaluate_residue}
 use Rattle.taylor.specs.Expansion.{Expansion, var, coeff, derivative, negate, exponential, logarithm, power, add_to, sub_from, times, quotient, maximum, subst}
 use Rattle.taylor.specs.Expand.{Point, expand}
 use Rattle.key_strip.specs.Machine.{run_strip}
-use Rattle.situations.specs.Refusal.{Among, of_out, of_result, of_valued, of_divided}
+use Rattle.situations.specs.Refusal.{Among, of_out, of_result, of_answer}
 
 -- "Constructors of src/symbolic.rs .. 11 to 14, 18."
 abbrev pub of_constructors : List ℕ
@@ -64,8 +64,8 @@ pub record OfConstructors (P : Pool) : Type 0 where
 
 -- the work on an expression that stands in the pool
 pub record OfWalks (P : Pool) (root : ℕ) : Type 0 where
-  pub evaluation : (values : List Float) → Among of_evaluation (of_valued (evaluate (node_at P) values root))
-  pub residues : (m : ℕ) (values : List ℕ) → Among of_residues (of_divided (evaluate_residue m (node_at P) values root))
+  pub evaluation : (values : List Float) → Among of_evaluation (of_answer (evaluate (node_at P) values root))
+  pub residues : (m : ℕ) (values : List ℕ) → Among of_residues (of_answer (evaluate_residue m (node_at P) values root))
   pub substitution : (var value : ℕ) → Among of_constructors (of_out (substitute_var root var value P))
   pub derivation : (var : ℕ) → Among and_max (of_out (derive root var P))
   pub expansion : (v : ℕ) (x : Point) (order : ℕ) → Among and_max (of_result (expand root v x order P))
@@ -88,4 +88,4 @@ pub record OfExpansions (P : Pool) : Type 0 where
 
 -- a strip that the machine accepts
 pub record OfStrips (bs : List ℕ) : Type 0 where
-  pub running : (values : List Float) → Among of_running (of_valued (run_strip values bs))
+  pub running : (values : List Float) → Among of_running (of_answer (run_strip values bs))
