@@ -9,7 +9,7 @@ ghost use Rattle.engine_strip.specs.Strips.{strip_call, run_strip_call};
 use engine_values::VALUES_MAX;
 use key_strip::PLACES;
 use low_bytes::TEXT_MAX;
-use reached::Test;
+use pool::Node;
 use refusals::Refusal;
 
 // The strip of an expression, into a lent output: what it needs is known before a byte of it is written.
@@ -26,7 +26,7 @@ pub fn strip(
     let tables = lent::tables(kinds, words, count)?;
     lent::one_given(count, root)?;
     let node = root as u32;
-    if reached::reaches(tables, node, Test::ExpOrLog) {
+    if reached::reaches(tables, node, |n| matches!(n, Node::Exp(_) | Node::Log(_))) {
         return Err(Refusal::NotEvaluated);
     }
     let need = strip_write::need_of(tables, node);

@@ -1,7 +1,7 @@
 -- The table of answers: it says of each part what the definition says, so one node more is one answer more.
 -- Assumes nothing.
 use mathlib.Core.Path.{◌≡◌, refl, sym, ap, ◌∙◌}
-use mathlib.Core.Bool.{Bool, false, ◌||◌}
+use mathlib.Core.Bool.{Bool, true, false, ◌||◌}
 use mathlib.Core.List.{List}
 use Prim.Native.Nat.{ℕ, ◌+◌, ◌<◌, ◌≤◌}
 use native.Mathlib.Omega.{arith}
@@ -15,9 +15,7 @@ use Rattle.pool.specs.Reaches.{reaches_at, reaches}
 use Rattle.pool.specs.declared.node.Node.{Node}
 use Rattle.pool.specs.declared.node.Node.TheVariants.{Empty}
 use Rattle.pool.proofs.Folds.{visits, same_under}
-use Rattle.reached.specs.Kept.{test_of, kept_below, FoundBelow}
-use Rattle.reached.specs.declared.Test.{Test}
-use Rattle.reached.specs.declared.Test.TheVariants.{Max, ExpOrLog}
+use Rattle.reached.specs.Kept.{kept_below, FoundBelow}
 
 module _ (test : Node → Bool) where
   pub none_found : (at : ℕ → Node) (found : List Bool) → length found ≡ limit → FoundBelow test at 0 found
@@ -46,11 +44,11 @@ module _ (test : Node → Bool) where
         go j h (yes s) = rw s (get_or-set_same found i r false (omega (arith, f.long)) ∙ e ∙ ap (reaches_at test (kept_below found i)) node ∙ answer_is)
         go j h (no n) = get_or-set_other found i j r false n ∙ f.answer j (omega arith)
 
--- past the tables there is no node
-pub no_node : (test : Test) (ks ws : List ℕ) (root : ℕ) → limit ≤ root → false ≡ reaches (test_of test) (node_in ks ws) root
-unfolding node_in
-no_node test ks ws root h = sym (visits false (reaches_at (test_of test)) (node_in ks ws) root ∙ rw (le-ltb root limit h) (empty test))
-  where
-    empty : (test : Test) → test_of test Empty || false ≡ false
-    empty Max = refl
-    empty ExpOrLog = refl
+  -- past the tables there is no node
+  pub no_node : (ks ws : List ℕ) (root : ℕ) → limit ≤ root → reaches test (node_in ks ws) root ≡ test Empty
+  unfolding node_in
+  no_node ks ws root h = visits false (reaches_at test) (node_in ks ws) root ∙ rw (le-ltb root limit h) (or_nothing (test Empty))
+    where
+      or_nothing : (t : Bool) → t || false ≡ t
+      or_nothing true = refl
+      or_nothing false = refl

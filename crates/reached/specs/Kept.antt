@@ -2,15 +2,12 @@
 -- Assumes nothing.
 use Rattle.std.specs.Prelude.{◌≡◌, Bool, false, cond, List, ℕ, ◌<◌, ltb, length, get_or}
 use Rattle.pool.specs.Pool.{limit}
-use Rattle.pool.specs.Reaches.{reaches, is_max, is_exp_or_log}
+use Rattle.pool.specs.Reaches.{reaches}
 use Rattle.pool.specs.declared.node.Node.{Node}
-use Rattle.reached.specs.declared.Test.{Test}
-use Rattle.reached.specs.declared.Test.TheVariants.{Max, ExpOrLog}
 
--- the test that the code's word names
-abbrev pub test_of : Test → Node → Bool
-test_of Max = is_max
-test_of ExpOrLog = is_exp_or_log
+-- the answers of the code's test are those of the definition's
+abbrev pub Decides : (Node → Bool → Type 0) → (Node → Bool) → Type 0
+Decides answers is = (n : Node) (b : Bool) → answers n b → b ≡ is n
 
 -- the answer for a part of node i
 abbrev pub kept_below : List Bool → ℕ → ℕ → Bool

@@ -1,12 +1,14 @@
--- `reached::fill` meets its contract: after each turn the table has the answers of the nodes that were passed.
+-- `reached::fill` meets its contract: after each turn the table has the answers of the nodes that were passed, whatever test it is that the code's decides.
 -- Assumes nothing.
+use mathlib.Core.Path.{◌∙◌}
 use native.Mathlib.Omega.{arith}
-use Rattle.reached.proofs.Found.{none_found, one_more_found}
+use lib.ListN.{length-set}
+use Rattle.reached.proofs.Found.{one_more_found}
 use Rattle.reached.proofs.fill.Goals as goal
 
-pub loop-i-init : goal.loop-i-init
-loop-i-init c = none_found _ _ _ c.requires.found_len
-
 pub loop-i-preserved : goal.loop-i-preserved
-loop-i-preserved c =
-    one_more_found _ c.loop-i.invariant _ (omega (arith, c.loop-i-test.true, c.requires.end_le_limit)) c.node.ensures c.node_reaches.ensures
+loop-i-preserved g c = (
+  length-set c.loop-i.found c.loop-i.i c.node_reaches.result ∙ c.loop-i.invariant.0,
+  λ is decides.
+      one_more_found is (c.loop-i.invariant.1 is decides) _ (omega (arith, c.loop-i-test.true, c.requires.end_le_limit)) c.node.ensures (c.node_reaches.ensures is decides),
+)
