@@ -14,7 +14,7 @@ use Rattle.residue.specs.Residue.{fixed_modulus}
 use Rattle.pool.specs.Pool.{each}
 use Rattle.constructor_laws.proofs.Rules.{each_at, each_of}
 use Rattle.lent.proofs.Finishing.{and_right}
-use Rattle.evaluate_residue.specs.Residues.{Residues}
+use Rattle.evaluate_residue.specs.Residues.{AreResidues}
 use Rattle.engine_values.specs.Values.{most_values, are_residues}
 
 -- the test of all values is the definition's
@@ -32,7 +32,7 @@ all_told values false h = go (each (length values) (λ i. ltb (get_or values i 0
 
 -- the table of residues
 module _ (values : List ℕ) where
-  pub residues_below : are_residues values ≡ true → Residues fixed_modulus values
+  pub residues_below : are_residues values ≡ true → AreResidues fixed_modulus values
   residues_below e =
       record {
         below = λ v h. ltb-true (get_or values v 0) fixed_modulus (each_at (length values) (λ j. ltb (get_or values j 0) fixed_modulus) v h (and_right (leb (length values) most_values) _ e));

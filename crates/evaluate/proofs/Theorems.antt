@@ -9,7 +9,7 @@ use Rattle.pool.specs.Nodes.{parts}
 use Rattle.pool.specs.declared.node.Node.{Node}
 use Rattle.refusals.specs.Refusals.{broken_pool}
 use Rattle.walks.specs.Evaluate.{evaluate}
-use Rattle.evaluate.specs.Laws.{goes_by_parts}
+use Rattle.value_walk.proofs.Doubles.{goes_by_parts}
 use Rattle.walks.proofs.Reached.{Reached, agrees_on, agrees_on_reached, agrees_up_to}
 
 module _ (values : List Float) where

@@ -5,8 +5,8 @@ ghost use Rattle.std.specs.Prelude.{◌≡◌, Ok};
 ghost use Rattle.refusals.specs.Numbers.{numbered};
 ghost use Rattle.pool.specs.Tables.{nodes};
 ghost use Rattle.walks.specs.Evaluate.{value_of_variable, evaluate_node, evaluate};
-ghost use Rattle.evaluate.specs.Laws.{laws};
 ghost use Rattle.evaluate.specs.Operations.{applied};
+ghost use Rattle.value_walk.proofs.Doubles.{laws};
 
 use pool::{LIMIT, Node, Tables};
 use refusals::Refusal;

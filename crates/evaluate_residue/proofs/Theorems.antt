@@ -8,7 +8,7 @@ use Rattle.pool.specs.Nodes.{parts}
 use Rattle.pool.specs.declared.node.Node.{Node}
 use Rattle.refusals.specs.Refusals.{broken_pool}
 use Rattle.walks.specs.EvaluateResidue.{evaluate_residue}
-use Rattle.evaluate_residue.specs.Laws.{goes_by_parts}
+use Rattle.value_walk.proofs.Residues.{goes_by_parts}
 use Rattle.walks.proofs.Reached.{Reached, agrees_on, agrees_on_reached, agrees_up_to}
 
 module _ (m : ℕ) (values : List ℕ) where

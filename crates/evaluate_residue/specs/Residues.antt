@@ -4,7 +4,7 @@ use Rattle.std.specs.Prelude.{List, ℕ, ◌<◌, length, get_or, Ok, Err}
 use Rattle.residue.specs.Residue.{Divided}
 
 -- every value of the table is a residue
-pub record Residues (m : ℕ) (values : List ℕ) : Type 0 where
+pub record AreResidues (m : ℕ) (values : List ℕ) : Type 0 where
   pub below : (v : ℕ) → v < length values → get_or values v 0 < m
 
 -- an answer that is a residue, or a refusal

@@ -5,8 +5,8 @@ ghost use Rattle.std.specs.Prelude.{◌≡◌, ◌<◌};
 ghost use Rattle.refusals.specs.Numbers.{numbered};
 ghost use Rattle.pool.specs.Tables.{nodes};
 ghost use Rattle.walks.specs.EvaluateResidue.{value_of_variable, residue_node, evaluate_residue};
-ghost use Rattle.evaluate_residue.specs.Residues.{Residues};
-ghost use Rattle.evaluate_residue.specs.Laws.{laws};
+ghost use Rattle.evaluate_residue.specs.Residues.{AreResidues};
+ghost use Rattle.value_walk.proofs.Residues.{laws};
 
 use pool::{LIMIT, Node, Tables};
 use refusals::Refusal;
@@ -28,7 +28,7 @@ fn value_of_variable(values: &[u32], v: u32) -> Result<u64, Refusal>
 struct Given<'a> {
     residues: residue::Residues,
     values: &'a [u32],
-    ghost below: { Residues residues.modulus values.now },
+    ghost below: { AreResidues residues.modulus values.now },
 }
 
 impl<'a> Values for Given<'a> {
@@ -38,7 +38,7 @@ impl<'a> Values for Given<'a> {
 
     ghost fits = { λ of x. x < of.residues.modulus };
 
-    ghost laws = { λ of. laws of.residues.modulus of.values.now of.residues.is_modulus of.below };
+    ghost laws = { λ of. laws of.residues.modulus of.values.now of.residues.is_modulus of.below.below };
 
     // Exp, Log and Max have no residue.
     fn joined(&self, kept: &[u64], node: Node) -> Result<u64, Refusal> {
@@ -65,7 +65,7 @@ pub fn evaluate_residue_from(
     values: &[u32],
     root: u32,
 ) -> Result<u64, Refusal>
-    requires { Residues residues.modulus values.now }
+    requires { AreResidues residues.modulus values.now }
     ensures { numbered result ≡ evaluate_residue residues.modulus (nodes tables.entry) values.now root }
 {
     let mut kept = [0; LIMIT];

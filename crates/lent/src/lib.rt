@@ -41,7 +41,10 @@ fn sized<'a>(kinds: &'a [u8], words: &'a [u64]) -> Option<Tables<'a>>
     ensures lengths { IsSome result ↔ (length kinds.now ≡ limit) × (length words.now ≡ limit) }
     ensures lent_tables { IfSome result (λ tables. (tables.kinds.now ≡ kinds.now) × (tables.words.now ≡ words.now)) }
 {
-    Some(Tables { kinds: kinds.as_array()?, words: words.as_array()? })
+    Some(Tables {
+        kinds: kinds.as_array()?,
+        words: words.as_array()?,
+    })
 }
 
 // 1, or both tables as they lie where they are lent, for a call that only reads them: nothing is copied.

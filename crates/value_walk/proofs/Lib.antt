@@ -1,2 +1,3 @@
 pub mod Walking
-pub mod Parts
+pub mod Doubles
+pub mod Residues

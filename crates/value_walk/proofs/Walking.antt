@@ -17,7 +17,7 @@ use Rattle.pool.specs.declared.parts.CountedParts.{CountedParts}
 use Rattle.pool.proofs.Folds.{visits, below, above}
 use Rattle.pool.proofs.PartsTold.{one_more}
 use Rattle.walks.proofs.Tables.{limit_is_enough}
-use Rattle.value_walk.specs.Walk.{in_turn, NodeLaws, value_of, told, nth, in_table, Has, Ready, Keeps, Walked}
+use Rattle.value_walk.specs.Walk.{in_turn, NodeLaws, value_of, told, nth, in_table, Has, Kept, Ready, Keeps, Walked}
 
 ok_is_no_refusal : {A : Type 0} {x : A} {k : ℕ} → Ok x ≡ Err k → ⊥
 ok_is_no_refusal e = let clash : ◌≡◌ {A = ℕ} 0 1 = cc in omega arith
@@ -64,6 +64,10 @@ no_mark (suc n) (suc j) = no_mark n j
 
 false_is_not_true : false ≡ true → ⊥
 false_is_not_true e = let clash : ◌≡◌ {A = ℕ} 0 1 = cc in omega arith
+
+all_ready : {A : Type 0} {Fits : A → Type 0} {kept : List A} (its : List ℕ) → ((a : ℕ) → Memᴰ a its → Kept Fits kept a) → Ready Fits kept its
+all_ready [] each = tt
+all_ready (a ∷ more) each = (each a (Memᴰ.head refl), all_ready more (λ b m. each b (Memᴰ.tail m)))
 
 -- the parts before the one that is refused have values
 refused_in_turn :
@@ -186,13 +190,12 @@ module _ {A : Type 0} (node : (ℕ → Result A ℕ) → Node → Result A ℕ) 
               let e : j ≡ length (parts n) = omega (arith, t.within) in
               rw (e, take-length) m
 
-          pub parts_ready : i < limit → Ready Fits kept n
+          pub parts_ready : i < limit → Ready Fits kept (parts n)
           parts_ready h =
-              record {
-                part = λ a m.
-                    let d = t.done a (among a m) in
-                    (omega (arith, d.0, t.keeps.long), (d.1.0, (d.1.1.value, value_fits a (t.keeps.right a d.1.0 d.1.1))));
-              }
+              all_ready (parts n)
+              (λ a m.
+              let d = t.done a (among a m) in
+              record { within = omega (arith, d.0, t.keeps.long); value = d.1.0; is = d.1.1.value; fit = value_fits a (t.keeps.right a d.1.0 d.1.1) })
 
           value_of_node : value_of node at i ≡ node (in_table kept) n
           value_of_node =

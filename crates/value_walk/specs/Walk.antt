@@ -50,9 +50,17 @@ pub record Has {A : Type 0} (kept : List A) (seen : List Bool) (a : ℕ) (x : A)
   pub mark : get_or seen a false ≡ true
   pub value : nth kept a ≡ Some x
 
--- the table has values of all parts of a node, and they fit
-pub record Ready {A : Type 0} (Fits : A → Type 0) (kept : List A) (n : Node) : Type 0 where
-  pub part : (a : ℕ) → Memᴰ a (parts n) → (a < length kept) × ((x : A) × ((nth kept a ≡ Some x) × Fits x))
+-- the table has a value of node a, and it fits
+pub record Kept {A : Type 0} (Fits : A → Type 0) (kept : List A) (a : ℕ) : Type 0 where
+  pub within : a < length kept
+  pub value : A
+  pub is : nth kept a ≡ Some value
+  pub fit : Fits value
+
+-- it has values of all these nodes
+abbrev pub Ready : {A : Type 0} → (A → Type 0) → List A → List ℕ → Type 0
+Ready Fits kept [] = Unit
+Ready Fits kept (a ∷ more) = Kept Fits kept a × Ready Fits kept more
 
 -- "keep each visited node's result for that call": where there is a mark, the value beside it is right
 pub record Keeps {A : Type 0} (node : (ℕ → Result A ℕ) → Node → Result A ℕ) (at : ℕ → Node) (kept : List A) (seen : List Bool) : Type 0 where

@@ -4,6 +4,7 @@
 ghost use Rattle.std.specs.Prelude.{◌≡◌, ◌<◌, ℕ, Result, Some, length};
 ghost use Rattle.refusals.specs.Numbers.{numbered};
 ghost use Rattle.pool.specs.declared.node.Node.{Node};
+ghost use Rattle.pool.specs.Nodes.{parts};
 ghost use Rattle.pool.specs.Pool.{limit};
 ghost use Rattle.pool.specs.Tables.{nodes};
 ghost use Rattle.value_walk.specs.Walk.{NodeLaws, in_table, Ready, Keeps, Walked, value_of, nth};
@@ -22,7 +23,7 @@ pub trait Values {
     ghost fits: { Self → Self.Value → Type 0 };
 
     fn joined(&self, kept: &[Self::Value], node: Node) -> Result<Self::Value, Refusal>
-        requires { Ready (fits self.now) kept.now node }
+        requires { Ready (fits self.now) kept.now (parts node) }
         ensures { numbered result ≡ at_node self.now (in_table kept.now) node };
 
     ghost laws: { (s : Self) → NodeLaws (at_node s) (fits s) };
@@ -57,6 +58,7 @@ pub fn value_from<V: Values>(
 
 // The walk at node i: its value is then kept, if it is not refused. The parts come first, in one loop with one call: a level of the
 // walk then takes the least of the stack.
+#[tactic(auto, using(crate::proofs::Walking::none_turned))]
 fn value_at<V: Values>(
     of: &V,
     tables: Tables<'_>,

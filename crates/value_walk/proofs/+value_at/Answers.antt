@@ -3,14 +3,11 @@
 use Rattle.std.proofs.Common.{ap, arith}
 use Rattle.std.proofs.lemmas.Result.{err_from_is_err_and}
 use Rattle.refusals.specs.Numbers.{numbered}
-use Rattle.value_walk.proofs.Walking.{already_kept, none_turned, part_past, part_stopped, part_done, parts_ready, value_kept, value_refused}
+use Rattle.value_walk.proofs.Walking.{already_kept, part_past, part_stopped, part_done, parts_ready, value_kept, value_refused}
 use Rattle.value_walk.proofs.+value_at.Goals as goal
 
 pub returns-then-seen-i : goal.returns-then-seen-i
 returns-then-seen-i g t c = already_kept _ _ c.requires.i_lt_limit c.requires.keeps c.if-seen-i.true
-
-pub loop-init : goal.loop-init
-loop-init g t c = none_turned _ _ _ c.requires.keeps c.counted_parts-parts.ensures
 
 pub returns-then-i-part : goal.returns-then-i-part
 returns-then-i-part g t c =

@@ -15,7 +15,11 @@ use Rattle.pool.specs.declared.node.Node.{Node}
 use Rattle.pool.specs.declared.node.Node.TheVariants.{Empty, Variable, Lit, Add, Mul, Div, Exp, Log, Pow, Max}
 use Rattle.walks.specs.EvaluateResidue.{one, both, residue_node}
 use Rattle.value_walk.specs.Walk.{after, in_turn, NodeLaws}
-use Rattle.evaluate_residue.specs.Residues.{Residues, Below}
+
+-- an answer that is a residue, or a refusal
+abbrev Below : ℕ → Divided → Type 0
+Below m (Ok x) = x < m
+Below m (Err k) = Unit
 
 module _ (m : ℕ) where
   one_below : (r : Divided) (next : ℕ → Divided) → ((x : ℕ) → Below m (next x)) → Below m (one r next)
@@ -37,12 +41,12 @@ module _ (m : ℕ) where
   unfolding quotient_of
   quotient_below x y = provided_below (divides_to m 1 y) (divides_to m x y) (sought_below (sought m _))
 
-  module _ (modulus : Modulus m) (values : List ℕ) (residues : Residues m values) where
+  module _ (modulus : Modulus m) (values : List ℕ) (residues : (v : ℕ) → v < length values → get_or values v 0 < m) where
     variable_below : (v : ℕ) (t : Bool) → ltb v (length values) ≡ t → Below m (cond t (Ok (get_or values v 0)) (Err no_value))
-    variable_below v true e = residues.below v (ltb-true v (length values) e)
+    variable_below v true e = residues v (ltb-true v (length values) e)
     variable_below v false e = tt
 
-    pub node_below : (down : ℕ → Divided) (n : Node) → Below m (residue_node m values down n)
+    node_below : (down : ℕ → Divided) (n : Node) → Below m (residue_node m values down n)
     node_below down Empty = tt
     node_below down (Variable v) = variable_below v (ltb v (length values)) refl
     node_below down (Lit z) = residue_below_lem m z modulus.least
@@ -53,6 +57,10 @@ module _ (m : ℕ) where
     node_below down (Log a) = one_below (down a) _ (λ x. tt)
     node_below down (Pow a e) = one_below (down a) _ (λ x. mod-lt (x ^ e) (omega (arith, modulus.least)))
     node_below down (Max a b) = both_below (down a) (down b) _ (λ x y. tt)
+
+    -- whatever a node comes to is below the modulus
+    pub fits : (down : ℕ → Divided) (n : Node) (x : ℕ) → residue_node m values down n ≡ Ok x → x < m
+    fits down n x e = rw e at (node_below down n)
 
 one_again : (v : Divided) (next : ℕ → Divided) → one v next ≡ after v (one v next)
 one_again (Ok x) next = refl
@@ -88,11 +96,11 @@ module _ (m : ℕ) (values : List ℕ) where
   goes_by_parts down down' (Pow a e) same = rw (same a (Memᴰ.head refl))
   goes_by_parts down down' (Max a b) same = rw (same a (Memᴰ.head refl), same b (Memᴰ.tail (Memᴰ.head refl)))
 
-  pub laws : Modulus m → Residues m values → NodeLaws (residue_node m values) (λ x. x < m)
+  pub laws : Modulus m → ((v : ℕ) → v < length values → get_or values v 0 < m) → NodeLaws (residue_node m values) (λ x. x < m)
   laws modulus residues =
       record {
         empty = λ down. refl;
         parts_first = parts_first;
         by_parts = goes_by_parts;
-        fit = λ down n x e. rw e at (node_below m modulus values residues down n);
+        fit = fits m modulus values residues;
       }
