@@ -6,7 +6,7 @@ ghost use Rattle.refusals.specs.Numbers.{numbered};
 ghost use Rattle.engine_print.specs.Printing.{print_call};
 ghost use Rattle.lent.specs.Writing.{put};
 
-use reached::Test;
+use pool::Node;
 use refusals::Refusal;
 
 // The text of an expression, into a lent output; `print_into` leaves the output as it is where the text is too long or has no room there.
@@ -23,7 +23,7 @@ pub fn print(
     let tables = lent::tables(kinds, words, count)?;
     lent::one_given(count, root)?;
     let node = root as u32;
-    if reached::reaches(tables, node, Test::Max) {
+    if reached::reaches(tables, node, |n| matches!(n, Node::Max(_, _))) {
         return Err(Refusal::MaxReached);
     }
     let length = print::print_into(tables, node, out) as usize;
