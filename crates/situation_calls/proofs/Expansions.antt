@@ -27,12 +27,12 @@ use Rattle.engine_given.specs.Variable.{var_call}
 use Rattle.engine_given.specs.Read.{count_of, coefficients_of}
 use Rattle.engine_pairs.specs.Pairs.{agree}
 use Rattle.engine_expand.specs.Expressions.{expand_work}
-use Rattle.situations.specs.Refusal.{Among, of_result}
+use Rattle.situations.specs.Refusal.{Among, of_result, of_answer}
 use Rattle.situations.specs.Situations.{OfExpansions}
 use Rattle.situations.proofs.Situations.{of_walks, of_expansions}
 use Rattle.situation_calls.specs.Table as table
 use Rattle.situation_calls.specs.Table.{Call, checked, met}
-use Rattle.situation_calls.specs.Answers.{Situated, ByTable, ExpansionByTable, of_answer, of_counted, one_tested, two_tested, OfSeries}
+use Rattle.situation_calls.specs.Answers.{Situated, ByTable, ExpansionByTable, one_tested, two_tested, OfSeries}
 use Rattle.situation_calls.proofs.Laws.{working, passing, failing, demanded, numbers, not_zero, no_zero}
 use Rattle.situation_calls.proofs.Nodes.{rules, root_below, node_call}
 
@@ -75,10 +75,10 @@ module _ (ks ws : List ℕ) (n : ℕ) (fit : (i : ℕ) → get_or ws i 0 < 2 ^ 6
   two_call s t fits work h = three_checks (all_below n (nodes_of s) && all_below n (nodes_of t)) fits work h
 
   -- what is only read
-  order_answers : (s : Series) → ByTable table.of_order (one_tested ks ws n s (length_ok s)) (of_counted (count_of ks ws n s))
+  order_answers : (s : Series) → ByTable table.of_order (one_tested ks ws n s (length_ok s)) (of_answer (count_of ks ws n s))
   order_answers s = go (is_pool ks ws n) (all_below n (nodes_of s)) (length_ok s)
     where
-      go : (p b l : Bool) → ByTable table.of_order (p ∷ b ∷ l ∷ []) (of_counted (demand Err p broken_pool (demand Err b unknown_node (demand Err l wrong_order (Ok (order (given s)))))))
+      go : (p b l : Bool) → ByTable table.of_order (p ∷ b ∷ l ∷ []) (of_answer (demand Err p broken_pool (demand Err b unknown_node (demand Err l wrong_order (Ok (order (given s)))))))
       go true true true = passing 1 (passing 2 (passing 5 (working tt)))
       go true true false = passing 1 (passing 2 (failing 5))
       go true false l = passing 1 (failing 2)
@@ -118,21 +118,21 @@ module _ (ks ws : List ℕ) (n : ℕ) (fit : (i : ℕ) → get_or ws i 0 < 2 ^ 6
   of_series =
       let E : KeepsRules P → OfExpansions P = of_expansions P in
       record {
-        var_call_lem = λ x order. series_call table.of_var (var_call x order) (three_checks (all_below n (x ∷ [])) (ltb order terms) (var x order) (λ r. (E r).var_meets x order));
-        coeff_call_lem = λ s k. index_call s k (coeff (given s) k) (λ r. (E r).coeff_meets (given s) k);
-        derivative_call_lem = λ s k. index_call s k (derivative (given s) k) (λ r. (E r).derivative_meets (given s) k);
-        order_call = order_answers;
-        from_coefficients_call = read_answers;
-        neg_call_lem = λ s. series_call table.of_neg (given_series s (negate (given s))) (one_call s (negate (given s)) (λ r. (E r).neg_meets (given s)));
-        exp_call_lem = λ s. series_call table.of_exp (given_series s (exponential (given s))) (one_call s (exponential (given s)) (λ r. (E r).exp_meets (given s)));
-        log_call_lem = λ s. series_call table.of_log (given_series s (logarithm (given s))) (one_call s (logarithm (given s)) (λ r. (E r).log_meets (given s)));
-        pow_call_lem = λ s e. series_call table.of_pow (given_series s (power (given s) e)) (one_call s (power (given s) e) (λ r. (E r).pow_meets (given s) e));
-        add_call_lem = λ s t. series_call table.of_add (given_two s t (length_ok s && length_ok t) (add_to (given s) (given t))) (two_call s t (length_ok s && length_ok t) (add_to (given s) (given t)) (λ r. (E r).add_meets (given s) (given t)));
-        sub_call_lem = λ s t. series_call table.of_sub (given_two s t (length_ok s && length_ok t) (sub_from (given s) (given t))) (two_call s t (length_ok s && length_ok t) (sub_from (given s) (given t)) (λ r. (E r).sub_meets (given s) (given t)));
-        mul_call_lem = λ s t. series_call table.of_mul (given_two s t (length_ok s && length_ok t) (times (given s) (given t))) (two_call s t (length_ok s && length_ok t) (times (given s) (given t)) (λ r. (E r).mul_meets (given s) (given t)));
-        div_call_lem = λ s t. series_call table.of_div (given_two s t (length_ok s && length_ok t) (quotient (given s) (given t))) (two_call s t (length_ok s && length_ok t) (quotient (given s) (given t)) (λ r. (E r).div_meets (given s) (given t)));
-        max_call_lem = λ s t. series_call table.of_max (given_two s t (length_ok s && length_ok t) (maximum (given s) (given t))) (two_call s t (length_ok s && length_ok t) (maximum (given s) (given t)) (λ r. (E r).max_meets (given s) (given t)));
-        subst_call_lem = λ s t. series_call table.of_subst (given_two s t ((length_ok s && length_ok t) && agree s t) (subst (given s) (given t))) (two_call s t ((length_ok s && length_ok t) && agree s t) (subst (given s) (given t)) (λ r. (E r).subst_meets (given s) (given t)));
-        coeffs_call = λ root v order. series_call table.coeffs (expand_work root v None order) (coeffs_answers root v order);
-        coeffs_at_call = λ root v z order. series_call table.coeffs_at (expand_work root v (Some z) order) (coeffs_at_answers root v order z);
+        var_by_table = λ x order. series_call table.of_var (var_call x order) (three_checks (all_below n (x ∷ [])) (ltb order terms) (var x order) (λ r. (E r).var_meets x order));
+        coeff_by_table = λ s k. index_call s k (coeff (given s) k) (λ r. (E r).coeff_meets (given s) k);
+        derivative_by_table = λ s k. index_call s k (derivative (given s) k) (λ r. (E r).derivative_meets (given s) k);
+        order_by_table = order_answers;
+        from_coefficients_by_table = read_answers;
+        neg_by_table = λ s. series_call table.of_neg (given_series s (negate (given s))) (one_call s (negate (given s)) (λ r. (E r).neg_meets (given s)));
+        exp_by_table = λ s. series_call table.of_exp (given_series s (exponential (given s))) (one_call s (exponential (given s)) (λ r. (E r).exp_meets (given s)));
+        log_by_table = λ s. series_call table.of_log (given_series s (logarithm (given s))) (one_call s (logarithm (given s)) (λ r. (E r).log_meets (given s)));
+        pow_by_table = λ s e. series_call table.of_pow (given_series s (power (given s) e)) (one_call s (power (given s) e) (λ r. (E r).pow_meets (given s) e));
+        add_by_table = λ s t. series_call table.of_add (given_two s t (length_ok s && length_ok t) (add_to (given s) (given t))) (two_call s t (length_ok s && length_ok t) (add_to (given s) (given t)) (λ r. (E r).add_meets (given s) (given t)));
+        sub_by_table = λ s t. series_call table.of_sub (given_two s t (length_ok s && length_ok t) (sub_from (given s) (given t))) (two_call s t (length_ok s && length_ok t) (sub_from (given s) (given t)) (λ r. (E r).sub_meets (given s) (given t)));
+        mul_by_table = λ s t. series_call table.of_mul (given_two s t (length_ok s && length_ok t) (times (given s) (given t))) (two_call s t (length_ok s && length_ok t) (times (given s) (given t)) (λ r. (E r).mul_meets (given s) (given t)));
+        div_by_table = λ s t. series_call table.of_div (given_two s t (length_ok s && length_ok t) (quotient (given s) (given t))) (two_call s t (length_ok s && length_ok t) (quotient (given s) (given t)) (λ r. (E r).div_meets (given s) (given t)));
+        max_by_table = λ s t. series_call table.of_max (given_two s t (length_ok s && length_ok t) (maximum (given s) (given t))) (two_call s t (length_ok s && length_ok t) (maximum (given s) (given t)) (λ r. (E r).max_meets (given s) (given t)));
+        subst_by_table = λ s t. series_call table.of_subst (given_two s t ((length_ok s && length_ok t) && agree s t) (subst (given s) (given t))) (two_call s t ((length_ok s && length_ok t) && agree s t) (subst (given s) (given t)) (λ r. (E r).subst_meets (given s) (given t)));
+        coeffs_by_table = λ root v order. series_call table.coeffs (expand_work root v None order) (coeffs_answers root v order);
+        coeffs_at_by_table = λ root v z order. series_call table.coeffs_at (expand_work root v (Some z) order) (coeffs_at_answers root v order z);
       }

@@ -37,13 +37,13 @@ use Rattle.engine_file.specs.Write.{write_call}
 use Rattle.key_strip.specs.Strip.{strip_of, places_of, most_places, has_exp_or_log}
 use Rattle.key_strip.specs.Machine.{is_strip, run_strip}
 use Rattle.engine_strip.specs.Strips.{strip_call, run_strip_call}
-use Rattle.situations.specs.Refusal.{Among, of_out, of_valued, of_divided}
+use Rattle.situations.specs.Refusal.{Among, of_out, of_answer}
 use Rattle.situations.proofs.Steps.{Refusing, ◌>>=◌, append_refuses}
-use Rattle.situations.proofs.Situations.{of_constructors_lem, of_walks}
+use Rattle.situations.proofs.Situations.{constructors_refuse, of_walks}
 use Rattle.situations.proofs.Running.{of_strips}
 use Rattle.situation_calls.specs.Table as table
 use Rattle.situation_calls.specs.Table.{met}
-use Rattle.situation_calls.specs.Answers.{Situated, ByTable, of_answer, of_written, OfCalls}
+use Rattle.situation_calls.specs.Answers.{Situated, ByTable, OfCalls}
 use Rattle.situation_calls.proofs.Laws.{working, passing, failing, demanded}
 
 -- ---- checks of calls that give a node
@@ -95,10 +95,10 @@ module _ (ks ws : List ℕ) (n : ℕ) (fit : (i : ℕ) → get_or ws i 0 < 2 ^ 6
       asked (leb v greatest_variable) unknown_variable (run P) (λ f. working (h r e))))
 
   -- a call that gives a double
-  valued : {checks meets : List ℕ} {tests : List Bool} (t : Bool) (k : ℕ) (v : Valued) → (t ≡ true → Situated checks meets tests (of_valued v)) → Situated (k ∷ checks) meets (t ∷ tests) (of_valued (demand Err t k v))
-  valued = demanded of_valued Err (λ k. refl)
+  valued : {checks meets : List ℕ} {tests : List Bool} (t : Bool) (k : ℕ) (v : Valued) → (t ≡ true → Situated checks meets tests (of_answer v)) → Situated (k ∷ checks) meets (t ∷ tests) (of_answer (demand Err t k v))
+  valued = demanded of_answer Err (λ k. refl)
 
-  evaluate_answers : (root : ℕ) (values : List Float) → ByTable table.evaluate (is_pool ks ws n ∷ all_below n (root ∷ []) ∷ leb (length values) most_values ∷ []) (of_valued (evaluate_call ks ws n root values))
+  evaluate_answers : (root : ℕ) (values : List Float) → ByTable table.evaluate (is_pool ks ws n ∷ all_below n (root ∷ []) ∷ leb (length values) most_values ∷ []) (of_answer (evaluate_call ks ws n root values))
   unfolding evaluate_call
   evaluate_answers root values =
       let value = evaluate (node_in ks ws) values root in
@@ -106,7 +106,7 @@ module _ (ks ws : List ℕ) (n : ℕ) (fit : (i : ℕ) → get_or ws i 0 < 2 ^ 6
       valued (all_below n (root ∷ [])) unknown_node _ (λ e.
       valued (leb (length values) most_values) wrong_values value (λ f. working ((of_walks P (rules r) root (root_below root [] e)).evaluation values))))
 
-  residue_answers : (root : ℕ) (values : List ℕ) → ByTable table.evaluate_residue (is_pool ks ws n ∷ all_below n (root ∷ []) ∷ are_residues values ∷ []) (of_divided (evaluate_residue_call ks ws n root values))
+  residue_answers : (root : ℕ) (values : List ℕ) → ByTable table.evaluate_residue (is_pool ks ws n ∷ all_below n (root ∷ []) ∷ are_residues values ∷ []) (of_answer (evaluate_residue_call ks ws n root values))
   unfolding evaluate_residue_call
   residue_answers root values =
       let value = evaluate_residue fixed_modulus (node_in ks ws) values root in
@@ -114,14 +114,14 @@ module _ (ks ws : List ℕ) (n : ℕ) (fit : (i : ℕ) → get_or ws i 0 < 2 ^ 6
       divided (all_below n (root ∷ [])) unknown_node _ (λ e.
       divided (are_residues values) wrong_values value (λ f. working ((of_walks P (rules r) root (root_below root [] e)).residues fixed_modulus values))))
     where
-      divided : {checks meets : List ℕ} {tests : List Bool} (t : Bool) (k : ℕ) (v : Divided) → (t ≡ true → Situated checks meets tests (of_divided v)) → Situated (k ∷ checks) meets (t ∷ tests) (of_divided (demand Err t k v))
-      divided = demanded of_divided Err (λ k. refl)
+      divided : {checks meets : List ℕ} {tests : List Bool} (t : Bool) (k : ℕ) (v : Divided) → (t ≡ true → Situated checks meets tests (of_answer v)) → Situated (k ∷ checks) meets (t ∷ tests) (of_answer (demand Err t k v))
+      divided = demanded of_answer Err (λ k. refl)
 
   -- a call that fills an output
-  written_to : {checks meets : List ℕ} {tests : List Bool} (out : List ℕ) (t : Bool) (k : ℕ) (p : Put) → (t ≡ true → Situated checks meets tests (of_written p.answer)) → Situated (k ∷ checks) meets (t ∷ tests) (of_written (demand (unwritten out) t k p).answer)
-  written_to out = demanded (λ p. of_written p.answer) (unwritten out) (λ k. refl)
+  written_to : {checks meets : List ℕ} {tests : List Bool} (out : List ℕ) (t : Bool) (k : ℕ) (p : Put) → (t ≡ true → Situated checks meets tests (of_answer p.answer)) → Situated (k ∷ checks) meets (t ∷ tests) (of_answer (demand (unwritten out) t k p).answer)
+  written_to out = demanded (λ p. of_answer p.answer) (unwritten out) (λ k. refl)
 
-  print_answers : (root : ℕ) (out : List ℕ) → ByTable table.print (is_pool ks ws n ∷ all_below n (root ∷ []) ∷ []) (of_written (print_call ks ws n root out).answer)
+  print_answers : (root : ℕ) (out : List ℕ) → ByTable table.print (is_pool ks ws n ∷ all_below n (root ∷ []) ∷ []) (of_answer (print_call ks ws n root out).answer)
   unfolding print_call
   print_answers root out =
       let text = text_of (node_in ks ws) root in
@@ -129,12 +129,12 @@ module _ (ks ws : List ℕ) (n : ℕ) (fit : (i : ℕ) → get_or ws i 0 < 2 ^ 6
       written_to out (all_below n (root ∷ [])) unknown_node _ (λ e.
       working (work (not (has_max (node_in ks ws) root)) (text_fits text out) text)))
     where
-      work : (max fits : Bool) (bytes : List ℕ) → Among (met table.print) (of_written (demand (unwritten out) max max_reached (demand (unwritten out) fits no_room (writes bytes out))).answer)
+      work : (max fits : Bool) (bytes : List ℕ) → Among (met table.print) (of_answer (demand (unwritten out) max max_reached (demand (unwritten out) fits no_room (writes bytes out))).answer)
       work true true bytes = tt
       work true false bytes = inr (inl refl)
       work false fits bytes = inl refl
 
-  write_answers : (root : ℕ) (out : List ℕ) → ByTable table.write (is_pool ks ws n ∷ all_below n (root ∷ []) ∷ []) (of_written (write_call ks ws n root out).answer)
+  write_answers : (root : ℕ) (out : List ℕ) → ByTable table.write (is_pool ks ws n ∷ all_below n (root ∷ []) ∷ []) (of_answer (write_call ks ws n root out).answer)
   unfolding write_call
   write_answers root out =
       let file = written_file ks ws root in
@@ -142,7 +142,7 @@ module _ (ks ws : List ℕ) (n : ℕ) (fit : (i : ℕ) → get_or ws i 0 < 2 ^ 6
       written_to out (all_below n (root ∷ [])) unknown_node _ (λ e.
       working (work (leb (length file) (length out)) file)))
     where
-      work : (fits : Bool) (bytes : List ℕ) → Among (met table.write) (of_written (demand (unwritten out) fits no_room (writes bytes out)).answer)
+      work : (fits : Bool) (bytes : List ℕ) → Among (met table.write) (of_answer (demand (unwritten out) fits no_room (writes bytes out)).answer)
       work true bytes = tt
       work false bytes = inl refl
 
@@ -157,7 +157,7 @@ module _ (ks ws : List ℕ) (n : ℕ) (fit : (i : ℕ) → get_or ws i 0 < 2 ^ 6
       passed (are_nodes bs) wrong_entry third P (λ f.
       passed (is_in_order bs) wrong_sequence append_all P (λ g. working ((appends (size_of bs) (λ i. rename (λ j. n + j) (entry_of bs i))).refuses P)))))
 
-  strip_answers : (root : ℕ) (out : List ℕ) → ByTable table.strip (is_pool ks ws n ∷ all_below n (root ∷ []) ∷ []) (of_written (strip_call ks ws n root out).answer)
+  strip_answers : (root : ℕ) (out : List ℕ) → ByTable table.strip (is_pool ks ws n ∷ all_below n (root ∷ []) ∷ []) (of_answer (strip_call ks ws n root out).answer)
   unfolding strip_call
   strip_answers root out =
       let at = node_in ks ws in
@@ -165,13 +165,13 @@ module _ (ks ws : List ℕ) (n : ℕ) (fit : (i : ℕ) → get_or ws i 0 < 2 ^ 6
       written_to out (all_below n (root ∷ [])) unknown_node _ (λ e.
       working (work (not (has_exp_or_log at root)) (leb (places_of at root) most_places) (text_fits (strip_of at root) out) (strip_of at root))))
     where
-      work : (codes places fits : Bool) (bytes : List ℕ) → Among (met table.strip) (of_written (demand (unwritten out) codes not_evaluated (demand (unwritten out) places too_many_places (demand (unwritten out) fits no_room (writes bytes out)))).answer)
+      work : (codes places fits : Bool) (bytes : List ℕ) → Among (met table.strip) (of_answer (demand (unwritten out) codes not_evaluated (demand (unwritten out) places too_many_places (demand (unwritten out) fits no_room (writes bytes out)))).answer)
       work true true true bytes = tt
       work true true false bytes = inr (inl refl)
       work true false fits bytes = inr (inr (inl refl))
       work false places fits bytes = inl refl
 
-  run_strip_answers : (bs : List ℕ) (values : List Float) → ByTable table.run_strip (leb (length values) most_values ∷ is_strip bs ∷ []) (of_valued (run_strip_call bs values))
+  run_strip_answers : (bs : List ℕ) (values : List Float) → ByTable table.run_strip (leb (length values) most_values ∷ is_strip bs ∷ []) (of_answer (run_strip_call bs values))
   unfolding run_strip_call
   run_strip_answers bs values =
       valued (leb (length values) most_values) wrong_values _ (λ f.
@@ -180,23 +180,23 @@ module _ (ks ws : List ℕ) (n : ℕ) (fit : (i : ℕ) → get_or ws i 0 < 2 ^ 6
   pub of_calls : OfCalls ks ws n
   of_calls =
       record {
-        lit_call = λ z. leaf_call (is_literal z) not_literal (node.Lit z) ((append_refuses {ks = met table.lit} (inl refl) (node.Lit z)).refuses P);
-        var_call_lem = λ v. leaf_call (leb v greatest_variable) unknown_variable (node.Variable v) ((append_refuses {ks = met table.var} (inl refl) (node.Variable v)).refuses P);
-        add_call_lem = λ a b. constructor_call (a ∷ b ∷ []) ((calls depth).add_at a b) (λ r. (of_constructors_lem P r).add_meets a b);
-        mul_call_lem = λ a b. constructor_call (a ∷ b ∷ []) ((calls depth).mul_at a b) (λ r. (of_constructors_lem P r).mul_meets a b);
-        div_call_lem = λ a b. constructor_call (a ∷ b ∷ []) ((calls depth).div_at a b) (λ r. (of_constructors_lem P r).div_meets a b);
-        max_call_lem = λ a b. constructor_call (a ∷ b ∷ []) ((calls depth).max_at a b) (λ r. (of_constructors_lem P r).max_meets a b);
-        neg_call_lem = λ a. constructor_call (a ∷ []) ((calls depth).neg_at a) (λ r. (of_constructors_lem P r).neg_meets a);
-        exp_call_lem = λ a. constructor_call (a ∷ []) ((calls depth).exp_at a) (λ r. (of_constructors_lem P r).exp_meets a);
-        log_call_lem = λ a. constructor_call (a ∷ []) ((calls depth).log_at a) (λ r. (of_constructors_lem P r).log_meets a);
-        pow_call_lem = λ a e. constructor_call (a ∷ []) ((calls depth).pow_at a e) (λ r. (of_constructors_lem P r).pow_meets a e);
-        substitute_var_call = λ root v value. walk_call (root ∷ value ∷ []) v (substitute_var root v value) (λ r e. (of_walks P r root (root_below root (value ∷ []) e)).substitution v value);
-        derive_call = λ root v. walk_call (root ∷ []) v (derive root v) (λ r e. (of_walks P r root (root_below root [] e)).derivation v);
-        evaluate_call_lem = evaluate_answers;
-        evaluate_residue_call_lem = residue_answers;
-        print_call_lem = print_answers;
-        write_call_lem = write_answers;
-        read_call = read_answers;
-        strip_call_lem = strip_answers;
-        run_strip_call_lem = run_strip_answers;
+        lit_by_table = λ z. leaf_call (is_literal z) not_literal (node.Lit z) ((append_refuses {ks = met table.lit} (inl refl) (node.Lit z)).refuses P);
+        var_by_table = λ v. leaf_call (leb v greatest_variable) unknown_variable (node.Variable v) ((append_refuses {ks = met table.var} (inl refl) (node.Variable v)).refuses P);
+        add_by_table = λ a b. constructor_call (a ∷ b ∷ []) ((calls depth).add_at a b) (λ r. (constructors_refuse P r).add_meets a b);
+        mul_by_table = λ a b. constructor_call (a ∷ b ∷ []) ((calls depth).mul_at a b) (λ r. (constructors_refuse P r).mul_meets a b);
+        div_by_table = λ a b. constructor_call (a ∷ b ∷ []) ((calls depth).div_at a b) (λ r. (constructors_refuse P r).div_meets a b);
+        max_by_table = λ a b. constructor_call (a ∷ b ∷ []) ((calls depth).max_at a b) (λ r. (constructors_refuse P r).max_meets a b);
+        neg_by_table = λ a. constructor_call (a ∷ []) ((calls depth).neg_at a) (λ r. (constructors_refuse P r).neg_meets a);
+        exp_by_table = λ a. constructor_call (a ∷ []) ((calls depth).exp_at a) (λ r. (constructors_refuse P r).exp_meets a);
+        log_by_table = λ a. constructor_call (a ∷ []) ((calls depth).log_at a) (λ r. (constructors_refuse P r).log_meets a);
+        pow_by_table = λ a e. constructor_call (a ∷ []) ((calls depth).pow_at a e) (λ r. (constructors_refuse P r).pow_meets a e);
+        substitute_var_by_table = λ root v value. walk_call (root ∷ value ∷ []) v (substitute_var root v value) (λ r e. (of_walks P r root (root_below root (value ∷ []) e)).substitution v value);
+        derive_by_table = λ root v. walk_call (root ∷ []) v (derive root v) (λ r e. (of_walks P r root (root_below root [] e)).derivation v);
+        evaluate_by_table = evaluate_answers;
+        evaluate_residue_by_table = residue_answers;
+        print_by_table = print_answers;
+        write_by_table = write_answers;
+        read_by_table = read_answers;
+        strip_by_table = strip_answers;
+        run_strip_by_table = run_strip_answers;
       }
