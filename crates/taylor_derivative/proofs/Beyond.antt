@@ -38,7 +38,7 @@ abbrev AlwaysRefusedAfter : {A : Type 0} → ℕ → (ℕ → Work A) → Type 0
 AlwaysRefusedAfter m next = (a : ℕ) (Q : Pool) → Q.end ≡ limit → Q.count ≤ limit → IsRefusedAfter m (next a) Q
 
 -- ---- one literal, and what is done with it then
--- What an append comes to with room and without is said by shape too (`append_done`, `append_full`); of the crates below both only pool knows `append`, and it has no lemmas that it hands on.
+-- What an append comes to with room and without is said by shape too (`append_done`, `append_full`); of the crates below both only pool knows `append`, and it states no lemma of it.
 module _ {A : Type 0} (x m : ℕ) (next : ℕ → Work A) (then : AlwaysRefusedAfter m next) (P : Pool) (whole : P.end ≡ limit) where
   appended_then : IsRefusedAfter (suc m) (λ R. bind (append (Lit (pos x)) R) next) P
   unfolding append
