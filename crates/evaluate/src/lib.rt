@@ -1,11 +1,10 @@
 // Evaluation as doubles: what is done at each node of the walk.
 #![tactic(auto)]
 
-ghost use Rattle.std.specs.Prelude.{◌≡◌, Ok};
+ghost use Rattle.std.specs.Prelude.{◌≡◌};
 ghost use Rattle.refusals.specs.Numbers.{numbered};
 ghost use Rattle.pool.specs.Tables.{nodes};
 ghost use Rattle.walks.specs.Evaluate.{value_of_variable, evaluate_node, evaluate};
-ghost use Rattle.evaluate.specs.Operations.{applied};
 ghost use Rattle.value_walk.proofs.Doubles.{laws};
 
 use pool::{LIMIT, Node, Tables};
@@ -21,26 +20,6 @@ pub fn value_of_variable(values: &[f64], v: u32) -> Result<f64, Refusal>
         return Ok(values[at]);
     }
     Err(Refusal::NoValue)
-}
-
-// What is done with the values of two parts, by name, since a key strip has it as a code: evaluation and the machine of key strips share one contract.
-#[derive(Clone, Copy)]
-pub enum Binary {
-    Add,
-    Mul,
-    Div,
-    Max,
-}
-
-pub fn apply(op: Binary, x: f64, y: f64) -> f64
-    ensures { Ok result ≡ applied op x y }
-{
-    match op {
-        Binary::Add => double::sum(x, y),
-        Binary::Mul => double::product(x, y),
-        Binary::Div => double::quotient(x, y),
-        Binary::Max => double::max(x, y),
-    }
 }
 
 // The values of the variables.

@@ -7,68 +7,77 @@ use mathlib.Core.List.{List, ◌∷◌}
 use Prim.Native.Nat.{ℕ, ◌+◌, ◌-◌, ◌≤◌, ◌<◌}
 use native.Mathlib.Omega.{arith}
 use lib.Dec.{leb, ltb, eqb}
-use lib.Ieee.{Float, nan}
+use lib.Ieee.{Float, nan, binary64, add, mul, div}
 use lib.ListN.{length, get_or, set, drop, length-set, drop_of_length-le}
 use borrow.Author.Tests.{leb-true, leb-false, ltb-true, ltb-false, eqb-true, eqb-false}
 use Rattle.low_bytes.specs.LowBytes.{number_at, AreBytes}
 use Rattle.literal.specs.Literal.{is_literal, signed}
-use Rattle.double.specs.Double.{double_of, pow_of}
+use Rattle.double.specs.Double.{double_of, pow_of, max_of}
 use Rattle.double.specs.Double.{Valued}
 use Rattle.pool.specs.Nodes.{decode, is_node, least_exponent}
 use Rattle.pool.specs.declared.node.Node.{Node}
 use Rattle.pool.specs.declared.node.Node.TheVariants.{Empty, Variable, Lit, Add, Mul, Div, Pow, Max}
 use Rattle.walks.specs.Evaluate.{one, value_of_variable, evaluate_node}
-use Rattle.evaluate.specs.Operations.{applied}
-use Rattle.evaluate.specs.declared.Binary.{Binary}
-use Rattle.evaluate.specs.declared.Binary.TheVariants as binary
 use Rattle.key_strip.specs.Strip.{most_places}
 use Rattle.key_strip.specs.Machine.{following, key_of, keys_within, keys_of, taken, accepts, in_place, run_from, run_strip}
 use Rattle.strip_run.specs.Held.{in_use}
-use Rattle.strip_run.specs.Running.{Running, ran, RanTo}
+use Rattle.strip_run.specs.Running.{machine, Running, ran, RanTo}
 use Rattle.strip_run.specs.declared.running.Machine.{Machine}
 use Rattle.strip_run.proofs.Codes.{literal_key, no_literal_key, power_key, no_power_key}
 use Rattle.strip_run.proofs.Cut.{key_of_code, code_cut, code_alone, variable_first, unknown_first}
 use Rattle.strip_run.proofs.Accepting.{is_a_key, enough_there, place_there, rest_accepted}
 use Rattle.strip_run.proofs.Held.{one_pushed, topmost, below_topmost, two_replaced, one_replaced}
 
--- the key of a code that combines
-abbrev code_of : Binary → ℕ
-code_of binary.Add = 3
-code_of binary.Mul = 4
-code_of binary.Div = 5
-code_of binary.Max = 9
+-- the codes that combine, with the key of each and what it does with two values
+pub data Combining : Type 0 where
+  adds : Combining
+  multiplies : Combining
+  divides : Combining
+  compares : Combining
 
-abbrev pair_of : Binary → Node
-pair_of binary.Add = Add 1 0
-pair_of binary.Mul = Mul 1 0
-pair_of binary.Div = Div 1 0
-pair_of binary.Max = Max 1 0
+abbrev pub applied : Combining → Float → Float → Float
+applied adds x y = add binary64 x y
+applied multiplies x y = mul binary64 x y
+applied divides x y = div binary64 x y
+applied compares x y = max_of x y
 
-nothing_follows : (op : Binary) → following (code_of op) ≡ 0
+abbrev pub code_of : Combining → ℕ
+code_of adds = 3
+code_of multiplies = 4
+code_of divides = 5
+code_of compares = 9
+
+abbrev pair_of : Combining → Node
+pair_of adds = Add 1 0
+pair_of multiplies = Mul 1 0
+pair_of divides = Div 1 0
+pair_of compares = Max 1 0
+
+nothing_follows : (op : Combining) → following (code_of op) ≡ 0
 unfolding following
-nothing_follows binary.Add = refl
-nothing_follows binary.Mul = refl
-nothing_follows binary.Div = refl
-nothing_follows binary.Max = refl
+nothing_follows adds = refl
+nothing_follows multiplies = refl
+nothing_follows divides = refl
+nothing_follows compares = refl
 
-pair_key : (op : Binary) → key_of (code_of op) 0 ≡ pair_of op
+pair_key : (op : Combining) → key_of (code_of op) 0 ≡ pair_of op
 unfolding key_of decode
-pair_key binary.Add = refl
-pair_key binary.Mul = refl
-pair_key binary.Div = refl
-pair_key binary.Max = refl
+pair_key adds = refl
+pair_key multiplies = refl
+pair_key divides = refl
+pair_key compares = refl
 
-pair_takes : (op : Binary) → taken (pair_of op) ≡ 2
-pair_takes binary.Add = refl
-pair_takes binary.Mul = refl
-pair_takes binary.Div = refl
-pair_takes binary.Max = refl
+pair_takes : (op : Combining) → taken (pair_of op) ≡ 2
+pair_takes adds = refl
+pair_takes multiplies = refl
+pair_takes divides = refl
+pair_takes compares = refl
 
-pair_value : (values : List Float) (places : List Float) (op : Binary) → evaluate_node values (in_place places) (pair_of op) ≡ applied op (get_or places 1 nan) (get_or places 0 nan)
-pair_value values places binary.Add = refl
-pair_value values places binary.Mul = refl
-pair_value values places binary.Div = refl
-pair_value values places binary.Max = refl
+pair_value : (values : List Float) (places : List Float) (op : Combining) → evaluate_node values (in_place places) (pair_of op) ≡ Ok (applied op (get_or places 1 nan) (get_or places 0 nan))
+pair_value values places adds = refl
+pair_value values places multiplies = refl
+pair_value values places divides = refl
+pair_value values places compares = refl
 
 module _ {s : List ℕ} {values held : List Float} {at d : ℕ} {top below : Float} (t : Running s values held at d top below) where
   -- a key stands at the place, and the rest of the strip after it
@@ -161,18 +170,18 @@ module _ {s : List ℕ} {values held : List Float} {at d : ℕ} {top below : Flo
       pub literal_ran : {found : Valued} → found ≡ double_of (signed (number_at 8 s (at + 1))) → RanTo s values at (set held d below) (ran (at + 1 + 8) (d + 1) found top)
       literal_ran {found} e = leaf_ran (Lit (signed (number_at 8 s (at + 1)))) (at + 1 + 8) literal_first refl (omega arith) literal_there found e
 
-    module _ (op : Binary) (is : get_or s at 0 ≡ code_of op) where
+    module _ (op : Combining) (is : get_or s at 0 ≡ code_of op) where
       pair_first : keys_of (drop at s) ≡ pair_of op ∷ keys_of (drop (at + 1) s)
       pair_first = code_alone s at l is (nothing_follows op) ∙ ap (λ key. key ∷ keys_of (drop (at + 1) s)) (pair_key op)
 
       pub pair_there : (2 ≤ d) × (d ≤ most_places)
       pair_there = (rw (pair_takes op) at (enough_there d (pair_of op) (keys_of (drop (at + 1) s)) (tested (pair_of op) (at + 1) pair_first)), t.small)
 
-      pub pair_ran : {found : Valued} → found ≡ applied op below top → RanTo s values at held (ran (at + 1) (d - 1) found (get_or held (d - 1) nan))
-      pair_ran {found} e =
+      pub pair_ran : {x : Float} → x ≡ applied op below top → RanTo s values at held (Ok (machine (at + 1) (d - 1) x (get_or held (d - 1) nan)))
+      pair_ran {x} e =
           let two = pair_there.0 in
-          key_ran (pair_of op) (at + 1) pair_first (omega arith) (omega arith) found
-          (e ∙ sym (pair_value values (in_use top below held d) op ∙ ap₂ (applied op) (below_topmost top below held d two) (topmost top below held d (omega arith))))
+          key_ran (pair_of op) (at + 1) pair_first (omega arith) (omega arith) (Ok x)
+          (ap Ok e ∙ sym (pair_value values (in_use top below held d) op ∙ ap Ok (ap₂ (applied op) (below_topmost top below held d two) (topmost top below held d (omega arith)))))
           held (get_or held (d - 1) nan) (d - 1) t.long (omega (arith, pair_takes op))
           (λ x. two_replaced top below held d two x ∙ ap (λ k. x ∷ drop k (in_use top below held d)) (sym (pair_takes op)))
 

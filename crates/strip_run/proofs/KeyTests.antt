@@ -1,6 +1,6 @@
 -- The test of one key in the code decides as the definition does: by the places in use, and by what follows the code.
 -- Assumes nothing.
-use Rattle.std.specs.Prelude.{Option, Some, None}
+use Rattle.std.specs.Prelude.{Option, None}
 use mathlib.Core.Path.{◌≡◌, refl, sym, ap, ◌∙◌}
 use mathlib.Core.Bool.{Bool, true, false, cond}
 use mathlib.Core.List.{List, ◌∷◌}
@@ -28,13 +28,6 @@ testing_starts s = record { within = omega arith; small = omega arith; rest = re
 pub testing_ends : {s : List ℕ} {at d : ℕ} → Testing s at d → length s ≤ at → eqb d 1 ≡ is_strip s
 unfolding accepts keys_within
 testing_ends {s} {at} {d} t l = sym (t.rest ∙ ap (λ bs. accepts d (keys_of bs)) (drop_of_length-le s l))
-
--- the test of a key by the answer that it gave
-pub came_to : (s : List ℕ) (at : ℕ) {r : Option Passed} {p : Passed} → TestedTo s at r → r ≡ Some p → (at < p.next) × Testing s p.next p.depth
-came_to s at h e = rw e at h
-
-pub came_to_no_key : (s : List ℕ) (at : ℕ) {r : Option Passed} → TestedTo s at r → r ≡ None → is_strip s ≡ false
-came_to_no_key s at h e = rw e at h
 
 -- a key stands at the place, and the rest of the strip after it
 module _ {s : List ℕ} {at d : ℕ} (t : Testing s at d) (key : Node) (next : ℕ) (first : keys_of (drop at s) ≡ key ∷ keys_of (drop next s)) where

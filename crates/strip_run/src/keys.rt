@@ -54,6 +54,7 @@ pub struct Key {
 }
 
 // The key at a place of the strip; what is cut off is no key.
+#[tactic(auto, using(crate::proofs::Cut::cut_off, crate::proofs::Codes::few_follow, crate::proofs::Cut::number_small, crate::proofs::Cut::found))]
 pub fn key_at(strip: &[u8], at: usize) -> Key
     requires { at < length strip.now }
     ensures { KeyAt strip.now at result }

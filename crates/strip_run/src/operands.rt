@@ -10,6 +10,7 @@ pub fn two_bytes(strip: &[u8], at: usize) -> u16
     (strip[at] as u16) + 256 * (strip[at + 1] as u16)
 }
 
+#[tactic(auto, using(crate::proofs::Joined::number_joined))]
 pub fn four_bytes(strip: &[u8], at: usize) -> u32
     requires { at + 4 ≤ length strip.now }
     ensures { result ≡ number_at 4 strip.now at }
@@ -17,6 +18,7 @@ pub fn four_bytes(strip: &[u8], at: usize) -> u32
     (two_bytes(strip, at) as u32) + 65_536 * (two_bytes(strip, at + 2) as u32)
 }
 
+#[tactic(auto, using(crate::proofs::Joined::number_joined))]
 pub fn eight_bytes(strip: &[u8], at: usize) -> u64
     requires { at + 8 ≤ length strip.now }
     ensures { result ≡ number_at 8 strip.now at }

@@ -6,13 +6,11 @@ ghost use Rattle.std.specs.Float.{nan};
 ghost use Rattle.refusals.specs.Numbers.{numbered};
 ghost use Rattle.literal.specs.Literal.{is_literal};
 ghost use Rattle.double.specs.Double.{double_of, pow_of};
-ghost use Rattle.evaluate.specs.Operations.{applied};
 ghost use Rattle.key_strip.specs.Strip.{most_places};
 ghost use Rattle.key_strip.specs.Machine.{is_strip, run_strip};
-ghost use Rattle.strip_run.specs.Running.{machine, Running, ran, RanTo};
+ghost use Rattle.strip_run.specs.Running.{machine, Running, RanTo};
 
 use crate::operands::{eight_bytes, four_bytes, two_bytes};
-use evaluate::Binary;
 use key_strip::PLACES;
 use refusals::Refusal;
 
@@ -45,15 +43,17 @@ impl Machine {
     }
 
     // The two topmost values are combined, the lower one being the left.
-    fn combined(self, held: &[f64; HELD], op: Binary, next: usize) -> Machine
-        requires { (2 ≤ self.depth) × (self.depth ≤ most_places) }
-        ensures { ran next (self.depth - 1) (applied op self.below self.top) (get_or held.now (self.depth - 1) nan) ≡ Ok result }
+    fn combined<F: FnOnce(f64, f64) -> f64>(self, held: &[f64; HELD], op: F, next: usize) -> Machine
+        requires places { (2 ≤ self.depth) × (self.depth ≤ most_places) }
+        requires callable { F.IsAlwaysCallable op }
+        ensures value { F.post op self.below self.top result.top }
+        ensures moved { result ≡ machine next (self.depth - 1) result.top (get_or held.now (self.depth - 1) nan) }
     {
         let left = self.depth - 1;
         Machine {
             at: next,
             depth: left,
-            top: evaluate::apply(op, self.below, self.top),
+            top: op(self.below, self.top),
             below: held[left],
         }
     }
@@ -71,6 +71,7 @@ impl Machine {
 }
 
 // A literal as a double. `double::of_literal` would test its range a second time.
+#[tactic(auto, using(double::proofs::Exact::literal_double))]
 fn exact(z: i64) -> f64
     requires { is_literal z ≡ true }
     ensures { Ok result ≡ double_of z }
@@ -102,21 +103,21 @@ fn run_key(
     }
     if code < 6 {
         if code == 4 {
-            return Ok(machine.combined(held, Binary::Mul, from));
+            return Ok(machine.combined(held, double::product, from));
         }
         if code == 3 {
-            return Ok(machine.combined(held, Binary::Add, from));
+            return Ok(machine.combined(held, double::sum, from));
         }
-        return Ok(machine.combined(held, Binary::Div, from));
+        return Ok(machine.combined(held, double::quotient, from));
     }
     if code == 8 {
         let e = four_bytes(strip, from);
         return Ok(machine.raised(e, from + 4));
     }
-    Ok(machine.combined(held, Binary::Max, from))
+    Ok(machine.combined(held, double::max, from))
 }
 
-// A strip that was tested runs. Keys have different lengths, so the loop is a `while` that goes from place to place, here and in the test.
+// A strip that was tested runs, from place to place as in the test: see `tested`.
 pub fn run(strip: &[u8], values: &[f64]) -> Result<f64, Refusal>
     requires { is_strip strip.now ≡ true }
     ensures { numbered result ≡ run_strip values.now strip.now }

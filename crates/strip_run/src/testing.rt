@@ -1,5 +1,5 @@
 // Whether the machine takes a strip: each key is looked at with the number of places that are in use before it.
-ghost use Rattle.std.specs.Prelude.{◌≡◌, ◌<◌, length};
+ghost use Rattle.std.specs.Prelude.{◌≡◌, ◌<◌, false, eqb, length, MatchOption};
 ghost use Rattle.key_strip.specs.Machine.{is_strip};
 ghost use Rattle.strip_run.specs.Testing.{Testing, TestedTo, one_place_more, one_place_less, literal_tested, exponent_tested};
 
@@ -108,18 +108,22 @@ fn test_key(strip: &[u8], at: usize, depth: usize) -> Option<Passed>
     None
 }
 
+// The test of all keys: the places in use after the last one. Keys have different lengths, and only the test of a code tells how many bytes follow it, so the
+// loop goes from place to place: an iterator over keys would look at each code a second time.
+#[tactic(auto, using(crate::proofs::KeyTests::testing_starts, crate::proofs::KeyTests::testing_ends))]
+fn tested(strip: &[u8]) -> Option<Passed>
+    ensures { MatchOption result (is_strip strip.now ≡ false) (λ last. is_strip strip.now ≡ eqb last.depth 1) }
+{
+    let mut passed = Passed { next: 0, depth: 0 };
+    while passed.next < strip.len() {
+        passed = test_key(strip, passed.next, passed.depth)?;
+    }
+    Some(passed)
+}
+
 // Whether the machine takes the strip: 28 where it does not.
 pub fn is_strip(strip: &[u8]) -> bool
     ensures { result ≡ is_strip strip.now }
 {
-    let mut at = 0;
-    let mut depth = 0;
-    while at < strip.len() {
-        let Some(passed) = test_key(strip, at, depth) else {
-            return false;
-        };
-        at = passed.next;
-        depth = passed.depth;
-    }
-    depth == 1
+    tested(strip).is_some_and(|last| last.depth == 1)
 }

@@ -80,9 +80,8 @@ module _ (node : ℕ → Node) where
     pub room_for_all : length (strip_of node root) ≤ length l → 0 + length (strip_below node (root + 1) root) ≤ length l
     room_for_all room = omega (arith, ap length whole)
 
-    pub all_written : {to : ℕ} {l' : List ℕ} → length (strip_of node root) ≤ length l → WrittenFrom 0 l (strip_below node (root + 1) root) to l'
-        → l' ≡ strip_of node root ++ drop (length (strip_of node root)) l
-    all_written room w = rw (← whole) at w.in_place ∙ sets-eq (strip_of node root) l 0 (omega arith) ∙ ap (λ (j : ℕ). strip_of node root ++ drop j l) (none (length (strip_of node root)))
+    pub all_written : {l' : List ℕ} → length (strip_of node root) ≤ length l → l' ≡ sets l 0 (strip_below node (root + 1) root) → l' ≡ strip_of node root ++ drop (length (strip_of node root)) l
+    all_written room in_place = rw (← whole) at in_place ∙ sets-eq (strip_of node root) l 0 (omega arith) ∙ ap (λ (j : ℕ). strip_of node root ++ drop j l) (none (length (strip_of node root)))
       where
         none : (j : ℕ) → 0 + j ≡ j
         none j = omega arith

@@ -43,6 +43,7 @@ struct Needs {
 
 impl Needs {
     // What the tables have of a part of node i; a part that is not smaller has no strip.
+    #[tactic(auto, unfolding(pool::specs::Fold::under))]
     fn of(&self, i: u32, a: u32) -> Need
         requires { i ≤ limit }
         ensures { Kept self.now i a result }

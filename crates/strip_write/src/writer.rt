@@ -53,6 +53,7 @@ fn strip_below(tables: Tables<'_>, out: &mut [u8], at: usize, bound: usize, of: 
 }
 
 // The strip of a root, from the front of an output that has room for it.
+#[tactic(auto, using(crate::proofs::Writing::room_for_all, crate::proofs::Writing::all_written))]
 pub fn strip_into(tables: Tables<'_>, root: u32, out: &mut [u8])
     requires { length (strip_of (nodes tables) root) ≤ length out.old }
     ensures { out.new ≡ strip_of (nodes tables.entry) root ++ drop (length (strip_of (nodes tables.entry) root)) out.old }

@@ -3,13 +3,13 @@
 -- Assumes nothing.
 use Rattle.std.specs.Prelude.{Ok}
 use Rattle.std.proofs.lemmas.Result.{err_from_is_err_and}
-use mathlib.Core.Path.{refl, sym, ap, ◌∙◌}
+use mathlib.Core.Path.{refl, ap, ◌∙◌}
 use native.Mathlib.Omega.{arith}
 use mir.Syntax.{w64}
 use mir.ValLaws.{to_z-of_z}
 use Rattle.literal.specs.Literal.{is_literal, signed}
 use Rattle.double.specs.Double.{double_of}
-use Rattle.evaluate.specs.declared.Binary.TheVariants as binary
+use Rattle.strip_run.proofs.KeyRuns.Combining.{adds, multiplies, divides, compares}
 use Rattle.strip_run.proofs.KeyRuns.{variable_there, variable_room, variable_ran, literal_there, literal_in_range, literal_room, literal_ran, pair_there, pair_ran, exponent_there, power_ran, two_is_left, nine_is_left, ran_as}
 use Rattle.strip_run.proofs.running.run_key.Goals as goal
 
@@ -52,30 +52,30 @@ returns-then-code-lt3 c =
     ran_as _ _ _ (ap Ok c.pushed-then-code-lt3.ensures.moved) c.pushed-then-code-lt3.ensures.held_after
     (literal_ran c.requires.running c.requires.at_in_bounds two (c.exact.ensures ∙ ap double_of same))
 
-pub combined-requires : goal.combined-requires
-combined-requires c =
-    pair_there c.requires.running c.requires.at_in_bounds binary.Mul c.if-code-eq4.true
+pub combined-requires-clause-places : goal.combined-requires-clause-places
+combined-requires-clause-places c =
+    pair_there c.requires.running c.requires.at_in_bounds multiplies c.if-code-eq4.true
 
 pub returns-then-code-eq4 : goal.returns-then-code-eq4
 returns-then-code-eq4 c =
-    ran_as _ _ _ (sym c.combined.ensures) refl (pair_ran c.requires.running c.requires.at_in_bounds binary.Mul c.if-code-eq4.true refl)
+    ran_as _ _ _ (ap Ok c.combined.ensures.moved) refl (pair_ran c.requires.running c.requires.at_in_bounds multiplies c.if-code-eq4.true c.combined.ensures.value)
 
-pub combined-requires-then-code-eq3 : goal.combined-requires-then-code-eq3
-combined-requires-then-code-eq3 c =
-    pair_there c.requires.running c.requires.at_in_bounds binary.Add c.if-code-eq3.true
+pub combined-requires-then-code-eq3-clause-places : goal.combined-requires-then-code-eq3-clause-places
+combined-requires-then-code-eq3-clause-places c =
+    pair_there c.requires.running c.requires.at_in_bounds adds c.if-code-eq3.true
 
 pub returns-then-code-eq3 : goal.returns-then-code-eq3
 returns-then-code-eq3 c =
-    ran_as _ _ _ (sym c.combined-then-code-eq3.ensures) refl (pair_ran c.requires.running c.requires.at_in_bounds binary.Add c.if-code-eq3.true refl)
+    ran_as _ _ _ (ap Ok c.combined-then-code-eq3.ensures.moved) refl (pair_ran c.requires.running c.requires.at_in_bounds adds c.if-code-eq3.true c.combined-then-code-eq3.ensures.value)
 
-pub combined-requires-then-code-lt6 : goal.combined-requires-then-code-lt6
-combined-requires-then-code-lt6 c =
-    pair_there c.requires.running c.requires.at_in_bounds binary.Div (omega (arith, c.if-code-lt3.false, c.if-code-lt6.true, c.if-code-eq4.false, c.if-code-eq3.false))
+pub combined-requires-then-code-lt6-clause-places : goal.combined-requires-then-code-lt6-clause-places
+combined-requires-then-code-lt6-clause-places c =
+    pair_there c.requires.running c.requires.at_in_bounds divides (omega (arith, c.if-code-lt3.false, c.if-code-lt6.true, c.if-code-eq4.false, c.if-code-eq3.false))
 
 pub returns-then-code-lt6 : goal.returns-then-code-lt6
 returns-then-code-lt6 c =
-    ran_as _ _ _ (sym c.combined-then-code-lt6.ensures) refl
-    (pair_ran c.requires.running c.requires.at_in_bounds binary.Div (omega (arith, c.if-code-lt3.false, c.if-code-lt6.true, c.if-code-eq4.false, c.if-code-eq3.false)) refl)
+    ran_as _ _ _ (ap Ok c.combined-then-code-lt6.ensures.moved) refl
+    (pair_ran c.requires.running c.requires.at_in_bounds divides (omega (arith, c.if-code-lt3.false, c.if-code-lt6.true, c.if-code-eq4.false, c.if-code-eq3.false)) c.combined-then-code-lt6.ensures.value)
 
 pub four_bytes-e-requires : goal.four_bytes-e-requires
 four_bytes-e-requires c =
@@ -85,11 +85,11 @@ pub returns-then-code-eq8 : goal.returns-then-code-eq8
 returns-then-code-eq8 c =
     ran_as _ _ _ (ap Ok c.raised.ensures) refl (power_ran c.requires.running c.requires.at_in_bounds c.if-code-eq8.true c.four_bytes-e.ensures refl)
 
-pub combined-requires-2 : goal.combined-requires-2
-combined-requires-2 c =
-    pair_there c.requires.running c.requires.at_in_bounds binary.Max (nine_is_left c.requires.running c.requires.at_in_bounds c.if-code-lt6.false c.if-code-eq8.false)
+pub combined-requires-2-clause-places : goal.combined-requires-2-clause-places
+combined-requires-2-clause-places c =
+    pair_there c.requires.running c.requires.at_in_bounds compares (nine_is_left c.requires.running c.requires.at_in_bounds c.if-code-lt6.false c.if-code-eq8.false)
 
 pub returns : goal.returns
 returns c =
-    ran_as _ _ _ (sym c.combined-2.ensures) refl
-    (pair_ran c.requires.running c.requires.at_in_bounds binary.Max (nine_is_left c.requires.running c.requires.at_in_bounds c.if-code-lt6.false c.if-code-eq8.false) refl)
+    ran_as _ _ _ (ap Ok c.combined-2.ensures.moved) refl
+    (pair_ran c.requires.running c.requires.at_in_bounds compares (nine_is_left c.requires.running c.requires.at_in_bounds c.if-code-lt6.false c.if-code-eq8.false) c.combined-2.ensures.value)
