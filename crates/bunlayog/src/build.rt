@@ -6,6 +6,7 @@ ghost use Rattle.engine.specs.Build.{lit_work, var_work};
 ghost use Rattle.c_answers.specs.Interface.{returned_in_c, in_c};
 
 use c_answers::answered;
+use lent::Lent;
 
 #[unsafe(no_mangle)]
 pub extern "C" fn bunlayog_lit(
@@ -17,7 +18,8 @@ pub extern "C" fn bunlayog_lit(
 ) -> u32
     ensures { returned_in_c result kinds.new words.new count.new node.new ≡ in_c node.old (on_pool (lit_work value) kinds.old words.old count.old) }
 {
-    answered(engine::lit(kinds, words, count, value), node)
+    let mut lent = Lent::new(kinds, words, count);
+    answered(engine::lit(&mut lent, value), node)
 }
 
 #[unsafe(no_mangle)]
@@ -30,7 +32,8 @@ pub extern "C" fn bunlayog_var(
 ) -> u32
     ensures { returned_in_c result kinds.new words.new count.new node.new ≡ in_c node.old (on_pool (var_work number) kinds.old words.old count.old) }
 {
-    answered(engine::var(kinds, words, count, number), node)
+    let mut lent = Lent::new(kinds, words, count);
+    answered(engine::var(&mut lent, number), node)
 }
 
 #[unsafe(no_mangle)]
@@ -44,7 +47,8 @@ pub extern "C" fn bunlayog_add(
 ) -> u32
     ensures { returned_in_c result kinds.new words.new count.new node.new ≡ in_c node.old (on_pool (given_nodes (lhs ∷ rhs ∷ []) ((calls depth).add_at lhs rhs)) kinds.old words.old count.old) }
 {
-    answered(engine::add(kinds, words, count, lhs, rhs), node)
+    let mut lent = Lent::new(kinds, words, count);
+    answered(engine::add(&mut lent, lhs, rhs), node)
 }
 
 #[unsafe(no_mangle)]
@@ -58,7 +62,8 @@ pub extern "C" fn bunlayog_mul(
 ) -> u32
     ensures { returned_in_c result kinds.new words.new count.new node.new ≡ in_c node.old (on_pool (given_nodes (lhs ∷ rhs ∷ []) ((calls depth).mul_at lhs rhs)) kinds.old words.old count.old) }
 {
-    answered(engine::mul(kinds, words, count, lhs, rhs), node)
+    let mut lent = Lent::new(kinds, words, count);
+    answered(engine::mul(&mut lent, lhs, rhs), node)
 }
 
 #[unsafe(no_mangle)]
@@ -72,7 +77,8 @@ pub extern "C" fn bunlayog_div(
 ) -> u32
     ensures { returned_in_c result kinds.new words.new count.new node.new ≡ in_c node.old (on_pool (given_nodes (lhs ∷ rhs ∷ []) ((calls depth).div_at lhs rhs)) kinds.old words.old count.old) }
 {
-    answered(engine::div(kinds, words, count, lhs, rhs), node)
+    let mut lent = Lent::new(kinds, words, count);
+    answered(engine::div(&mut lent, lhs, rhs), node)
 }
 
 #[unsafe(no_mangle)]
@@ -86,7 +92,8 @@ pub extern "C" fn bunlayog_max(
 ) -> u32
     ensures { returned_in_c result kinds.new words.new count.new node.new ≡ in_c node.old (on_pool (given_nodes (lhs ∷ rhs ∷ []) ((calls depth).max_at lhs rhs)) kinds.old words.old count.old) }
 {
-    answered(engine::max(kinds, words, count, lhs, rhs), node)
+    let mut lent = Lent::new(kinds, words, count);
+    answered(engine::max(&mut lent, lhs, rhs), node)
 }
 
 #[unsafe(no_mangle)]
@@ -99,7 +106,8 @@ pub extern "C" fn bunlayog_neg(
 ) -> u32
     ensures { returned_in_c result kinds.new words.new count.new node.new ≡ in_c node.old (on_pool (given_nodes (arg ∷ []) ((calls depth).neg_at arg)) kinds.old words.old count.old) }
 {
-    answered(engine::neg(kinds, words, count, arg), node)
+    let mut lent = Lent::new(kinds, words, count);
+    answered(engine::neg(&mut lent, arg), node)
 }
 
 #[unsafe(no_mangle)]
@@ -112,7 +120,8 @@ pub extern "C" fn bunlayog_exp(
 ) -> u32
     ensures { returned_in_c result kinds.new words.new count.new node.new ≡ in_c node.old (on_pool (given_nodes (arg ∷ []) ((calls depth).exp_at arg)) kinds.old words.old count.old) }
 {
-    answered(engine::exp(kinds, words, count, arg), node)
+    let mut lent = Lent::new(kinds, words, count);
+    answered(engine::exp(&mut lent, arg), node)
 }
 
 #[unsafe(no_mangle)]
@@ -125,7 +134,8 @@ pub extern "C" fn bunlayog_log(
 ) -> u32
     ensures { returned_in_c result kinds.new words.new count.new node.new ≡ in_c node.old (on_pool (given_nodes (arg ∷ []) ((calls depth).log_at arg)) kinds.old words.old count.old) }
 {
-    answered(engine::log(kinds, words, count, arg), node)
+    let mut lent = Lent::new(kinds, words, count);
+    answered(engine::log(&mut lent, arg), node)
 }
 
 #[unsafe(no_mangle)]
@@ -139,5 +149,6 @@ pub extern "C" fn bunlayog_pow(
 ) -> u32
     ensures { returned_in_c result kinds.new words.new count.new node.new ≡ in_c node.old (on_pool (given_nodes (base ∷ []) ((calls depth).pow_at base exp)) kinds.old words.old count.old) }
 {
-    answered(engine::pow(kinds, words, count, base, exp), node)
+    let mut lent = Lent::new(kinds, words, count);
+    answered(engine::pow(&mut lent, base, exp), node)
 }

@@ -7,6 +7,7 @@ ghost use Rattle.c_answers.specs.Interface.{returned_in_c, in_c, value_in_c};
 ghost use Rattle.c_answers.specs.Expansions.{series, count_in_c, outcome_returned_in_c, outcome_in_c};
 
 use c_answers::{answered, outcome_answered};
+use lent::Lent;
 use lent_series::Series;
 use taylor::TERMS;
 
@@ -23,11 +24,12 @@ pub extern "C" fn bunlayog_taylor_coeff(
 ) -> u32
     ensures { returned_in_c result kinds.new words.new count.new node.new ≡ in_c node.old (on_pool (coeff_call (series order coeffs.now) index) kinds.old words.old count.old) }
 {
+    let mut lent = Lent::new(kinds, words, count);
     let s = Series {
         order,
         coeffs: *coeffs,
     };
-    answered(engine_index::coeff(kinds, words, count, s, index), node)
+    answered(engine_index::coeff(&mut lent, s, index), node)
 }
 
 // The derivative of order `index`.
@@ -43,14 +45,12 @@ pub extern "C" fn bunlayog_taylor_derivative(
 ) -> u32
     ensures { returned_in_c result kinds.new words.new count.new node.new ≡ in_c node.old (on_pool (derivative_call (series order coeffs.now) index) kinds.old words.old count.old) }
 {
+    let mut lent = Lent::new(kinds, words, count);
     let s = Series {
         order,
         coeffs: *coeffs,
     };
-    answered(
-        engine_index::derivative(kinds, words, count, s, index),
-        node,
-    )
+    answered(engine_index::derivative(&mut lent, s, index), node)
 }
 
 // How many coefficients there are.

@@ -6,6 +6,7 @@ ghost use Rattle.engine_given.specs.Variable.{var_call};
 ghost use Rattle.c_answers.specs.Expansions.{series, series_returned_in_c, series_in_c};
 
 use c_answers::outcome_answered;
+use lent::Lent;
 use lent_series::Series;
 use taylor::TERMS;
 
@@ -22,15 +23,12 @@ pub extern "C" fn bunlayog_taylor_neg(
 ) -> u32
     ensures { series_returned_in_c result kinds.new words.new count.new order_out.new coeffs_out.new ≡ series_in_c order_out.old coeffs_out.old (series_on_pool (neg_call (series order coeffs.now)) kinds.old words.old count.old) }
 {
+    let mut lent = Lent::new(kinds, words, count);
     let s = Series {
         order,
         coeffs: *coeffs,
     };
-    outcome_answered(
-        engine_series::neg(kinds, words, count, s),
-        order_out,
-        coeffs_out,
-    )
+    outcome_answered(engine_series::neg(&mut lent, s), order_out, coeffs_out)
 }
 
 // exp e
@@ -46,15 +44,12 @@ pub extern "C" fn bunlayog_taylor_exp(
 ) -> u32
     ensures { series_returned_in_c result kinds.new words.new count.new order_out.new coeffs_out.new ≡ series_in_c order_out.old coeffs_out.old (series_on_pool (exp_call (series order coeffs.now)) kinds.old words.old count.old) }
 {
+    let mut lent = Lent::new(kinds, words, count);
     let s = Series {
         order,
         coeffs: *coeffs,
     };
-    outcome_answered(
-        engine_series::exp(kinds, words, count, s),
-        order_out,
-        coeffs_out,
-    )
+    outcome_answered(engine_series::exp(&mut lent, s), order_out, coeffs_out)
 }
 
 // log e
@@ -70,15 +65,12 @@ pub extern "C" fn bunlayog_taylor_log(
 ) -> u32
     ensures { series_returned_in_c result kinds.new words.new count.new order_out.new coeffs_out.new ≡ series_in_c order_out.old coeffs_out.old (series_on_pool (log_call (series order coeffs.now)) kinds.old words.old count.old) }
 {
+    let mut lent = Lent::new(kinds, words, count);
     let s = Series {
         order,
         coeffs: *coeffs,
     };
-    outcome_answered(
-        engine_series::log(kinds, words, count, s),
-        order_out,
-        coeffs_out,
-    )
+    outcome_answered(engine_series::log(&mut lent, s), order_out, coeffs_out)
 }
 
 // e to a power
@@ -95,15 +87,12 @@ pub extern "C" fn bunlayog_taylor_pow(
 ) -> u32
     ensures { series_returned_in_c result kinds.new words.new count.new order_out.new coeffs_out.new ≡ series_in_c order_out.old coeffs_out.old (series_on_pool (pow_call (series order coeffs.now) exp) kinds.old words.old count.old) }
 {
+    let mut lent = Lent::new(kinds, words, count);
     let s = Series {
         order,
         coeffs: *coeffs,
     };
-    outcome_answered(
-        engine_series::pow(kinds, words, count, s, exp),
-        order_out,
-        coeffs_out,
-    )
+    outcome_answered(engine_series::pow(&mut lent, s, exp), order_out, coeffs_out)
 }
 
 // The expansion of a variable at a node.
@@ -119,8 +108,9 @@ pub extern "C" fn bunlayog_taylor_var(
 ) -> u32
     ensures { series_returned_in_c result kinds.new words.new count.new order_out.new coeffs_out.new ≡ series_in_c order_out.old coeffs_out.old (series_on_pool (var_call x order) kinds.old words.old count.old) }
 {
+    let mut lent = Lent::new(kinds, words, count);
     outcome_answered(
-        engine_given::var(kinds, words, count, x, order),
+        engine_given::var(&mut lent, x, order),
         order_out,
         coeffs_out,
     )

@@ -5,6 +5,7 @@ ghost use Rattle.engine_pairs.specs.Pairs.{add_call, sub_call, mul_call, div_cal
 ghost use Rattle.c_answers.specs.Expansions.{series, series_returned_in_c, series_in_c};
 
 use c_answers::outcome_answered;
+use lent::Lent;
 use lent_series::Series;
 use taylor::TERMS;
 
@@ -23,6 +24,7 @@ pub extern "C" fn bunlayog_taylor_add(
 ) -> u32
     ensures { series_returned_in_c result kinds.new words.new count.new order_out.new coeffs_out.new ≡ series_in_c order_out.old coeffs_out.old (series_on_pool (add_call (series lhs_order lhs.now) (series rhs_order rhs.now)) kinds.old words.old count.old) }
 {
+    let mut lent = Lent::new(kinds, words, count);
     let s = Series {
         order: lhs_order,
         coeffs: *lhs,
@@ -31,11 +33,7 @@ pub extern "C" fn bunlayog_taylor_add(
         order: rhs_order,
         coeffs: *rhs,
     };
-    outcome_answered(
-        engine_pairs::add(kinds, words, count, s, t),
-        order_out,
-        coeffs_out,
-    )
+    outcome_answered(engine_pairs::add(&mut lent, s, t), order_out, coeffs_out)
 }
 
 // lhs - rhs
@@ -53,6 +51,7 @@ pub extern "C" fn bunlayog_taylor_sub(
 ) -> u32
     ensures { series_returned_in_c result kinds.new words.new count.new order_out.new coeffs_out.new ≡ series_in_c order_out.old coeffs_out.old (series_on_pool (sub_call (series lhs_order lhs.now) (series rhs_order rhs.now)) kinds.old words.old count.old) }
 {
+    let mut lent = Lent::new(kinds, words, count);
     let s = Series {
         order: lhs_order,
         coeffs: *lhs,
@@ -61,11 +60,7 @@ pub extern "C" fn bunlayog_taylor_sub(
         order: rhs_order,
         coeffs: *rhs,
     };
-    outcome_answered(
-        engine_pairs::sub(kinds, words, count, s, t),
-        order_out,
-        coeffs_out,
-    )
+    outcome_answered(engine_pairs::sub(&mut lent, s, t), order_out, coeffs_out)
 }
 
 // lhs * rhs
@@ -83,6 +78,7 @@ pub extern "C" fn bunlayog_taylor_mul(
 ) -> u32
     ensures { series_returned_in_c result kinds.new words.new count.new order_out.new coeffs_out.new ≡ series_in_c order_out.old coeffs_out.old (series_on_pool (mul_call (series lhs_order lhs.now) (series rhs_order rhs.now)) kinds.old words.old count.old) }
 {
+    let mut lent = Lent::new(kinds, words, count);
     let s = Series {
         order: lhs_order,
         coeffs: *lhs,
@@ -91,11 +87,7 @@ pub extern "C" fn bunlayog_taylor_mul(
         order: rhs_order,
         coeffs: *rhs,
     };
-    outcome_answered(
-        engine_pairs::mul(kinds, words, count, s, t),
-        order_out,
-        coeffs_out,
-    )
+    outcome_answered(engine_pairs::mul(&mut lent, s, t), order_out, coeffs_out)
 }
 
 // lhs / rhs
@@ -113,6 +105,7 @@ pub extern "C" fn bunlayog_taylor_div(
 ) -> u32
     ensures { series_returned_in_c result kinds.new words.new count.new order_out.new coeffs_out.new ≡ series_in_c order_out.old coeffs_out.old (series_on_pool (div_call (series lhs_order lhs.now) (series rhs_order rhs.now)) kinds.old words.old count.old) }
 {
+    let mut lent = Lent::new(kinds, words, count);
     let s = Series {
         order: lhs_order,
         coeffs: *lhs,
@@ -121,11 +114,7 @@ pub extern "C" fn bunlayog_taylor_div(
         order: rhs_order,
         coeffs: *rhs,
     };
-    outcome_answered(
-        engine_pairs::div(kinds, words, count, s, t),
-        order_out,
-        coeffs_out,
-    )
+    outcome_answered(engine_pairs::div(&mut lent, s, t), order_out, coeffs_out)
 }
 
 // What `max` makes of two constants; 10 of any list.
@@ -143,6 +132,7 @@ pub extern "C" fn bunlayog_taylor_max(
 ) -> u32
     ensures { series_returned_in_c result kinds.new words.new count.new order_out.new coeffs_out.new ≡ series_in_c order_out.old coeffs_out.old (series_on_pool (max_call (series lhs_order lhs.now) (series rhs_order rhs.now)) kinds.old words.old count.old) }
 {
+    let mut lent = Lent::new(kinds, words, count);
     let s = Series {
         order: lhs_order,
         coeffs: *lhs,
@@ -151,11 +141,7 @@ pub extern "C" fn bunlayog_taylor_max(
         order: rhs_order,
         coeffs: *rhs,
     };
-    outcome_answered(
-        engine_pairs::max(kinds, words, count, s, t),
-        order_out,
-        coeffs_out,
-    )
+    outcome_answered(engine_pairs::max(&mut lent, s, t), order_out, coeffs_out)
 }
 
 // rhs put for the variable of lhs: 5 where two lists differ in length.
@@ -173,6 +159,7 @@ pub extern "C" fn bunlayog_taylor_subst(
 ) -> u32
     ensures { series_returned_in_c result kinds.new words.new count.new order_out.new coeffs_out.new ≡ series_in_c order_out.old coeffs_out.old (series_on_pool (subst_call (series lhs_order lhs.now) (series rhs_order rhs.now)) kinds.old words.old count.old) }
 {
+    let mut lent = Lent::new(kinds, words, count);
     let s = Series {
         order: lhs_order,
         coeffs: *lhs,
@@ -181,9 +168,5 @@ pub extern "C" fn bunlayog_taylor_subst(
         order: rhs_order,
         coeffs: *rhs,
     };
-    outcome_answered(
-        engine_pairs::subst(kinds, words, count, s, t),
-        order_out,
-        coeffs_out,
-    )
+    outcome_answered(engine_pairs::subst(&mut lent, s, t), order_out, coeffs_out)
 }

@@ -5,6 +5,7 @@ ghost use Rattle.engine_expand.specs.Expressions.{expand_work};
 ghost use Rattle.c_answers.specs.Expansions.{series_returned_in_c, series_in_c};
 
 use c_answers::outcome_answered;
+use lent::Lent;
 use taylor::TERMS;
 
 // At the variable itself.
@@ -21,8 +22,9 @@ pub extern "C" fn bunlayog_taylor_coeffs(
 ) -> u32
     ensures { series_returned_in_c result kinds.new words.new count.new order_out.new coeffs_out.new ≡ series_in_c order_out.old coeffs_out.old (series_on_pool (expand_work root var None order) kinds.old words.old count.old) }
 {
+    let mut lent = Lent::new(kinds, words, count);
     outcome_answered(
-        engine_expand::coeffs(kinds, words, count, root, var, order),
+        engine_expand::coeffs(&mut lent, root, var, order),
         order_out,
         coeffs_out,
     )
@@ -43,8 +45,9 @@ pub extern "C" fn bunlayog_taylor_coeffs_at(
 ) -> u32
     ensures { series_returned_in_c result kinds.new words.new count.new order_out.new coeffs_out.new ≡ series_in_c order_out.old coeffs_out.old (series_on_pool (expand_work root var (Some x) order) kinds.old words.old count.old) }
 {
+    let mut lent = Lent::new(kinds, words, count);
     outcome_answered(
-        engine_expand::coeffs_at(kinds, words, count, root, var, x, order),
+        engine_expand::coeffs_at(&mut lent, root, var, x, order),
         order_out,
         coeffs_out,
     )

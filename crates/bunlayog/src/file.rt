@@ -6,6 +6,7 @@ ghost use Rattle.engine_file.specs.Write.{write_call};
 ghost use Rattle.c_answers.specs.Interface.{returned_in_c, in_c, output_in_c, written_in_c};
 
 use c_answers::answered;
+use lent::Lent;
 
 #[unsafe(no_mangle)]
 pub extern "C" fn bunlayog_write(
@@ -31,5 +32,6 @@ pub extern "C" fn bunlayog_read(
 ) -> u32
     ensures { returned_in_c result kinds.new words.new count.new root.new ≡ in_c root.old (on_pool (read_file file.now) kinds.old words.old count.old) }
 {
-    answered(engine_file::read(kinds, words, count, file), root)
+    let mut lent = Lent::new(kinds, words, count);
+    answered(engine_file::read(&mut lent, file), root)
 }

@@ -6,6 +6,7 @@ ghost use Rattle.engine_walk.specs.Walks.{substitute_work, derive_work};
 ghost use Rattle.c_answers.specs.Interface.{returned_in_c, in_c, check_number};
 
 use c_answers::answered;
+use lent::Lent;
 use refusals::Refusal;
 
 #[unsafe(no_mangle)]
@@ -30,8 +31,9 @@ pub extern "C" fn bunlayog_substitute_var(
 ) -> u32
     ensures { returned_in_c result kinds.new words.new count.new node.new ≡ in_c node.old (on_pool (substitute_work root var value) kinds.old words.old count.old) }
 {
+    let mut lent = Lent::new(kinds, words, count);
     answered(
-        engine_walk::substitute_var(kinds, words, count, root, var, value),
+        engine_walk::substitute_var(&mut lent, root, var, value),
         node,
     )
 }
@@ -47,5 +49,6 @@ pub extern "C" fn bunlayog_derive(
 ) -> u32
     ensures { returned_in_c result kinds.new words.new count.new node.new ≡ in_c node.old (on_pool (derive_work root var) kinds.old words.old count.old) }
 {
-    answered(engine_walk::derive(kinds, words, count, root, var), node)
+    let mut lent = Lent::new(kinds, words, count);
+    answered(engine_walk::derive(&mut lent, root, var), node)
 }

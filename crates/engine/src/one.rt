@@ -2,61 +2,52 @@
 ghost use Rattle.std.specs.Prelude.{◌≡◌, [], ◌∷◌};
 ghost use Rattle.refusals.specs.Numbers.{numbered};
 ghost use Rattle.constructors.specs.Build.{calls, depth};
-ghost use Rattle.lent.specs.Call.{returned, on_pool, given_nodes};
+ghost use Rattle.lent.specs.Call.{Called, on_pool, given_nodes};
 ghost use Rattle.engine.specs.Build.{on_one};
 
 use constructor_calls::{One, one_in};
+use lent::Lent;
 use pool::Pool;
 use refusals::Refusal;
 
-// 1 and 2, then the work. This and `on_two` are not one function that is passed the work: each of the eight calls would have to say what its closure makes, and
-// that it only appends, which the enum of operations says once.
-fn on_one(
-    kinds: &mut [u8],
-    words: &mut [u64],
-    count: &mut u64,
-    op: One,
-    arg: u64,
-) -> Result<u64, Refusal>
-    ensures { returned (numbered result) kinds.new words.new count.new ≡ on_pool (on_one op arg) kinds.old words.old count.old }
+// 1 and 2, then the work. A function that is passed the work was tried in place of these five lines, here and in the other calls. As a closure: no definition can be
+// picked from what it has captured, so each call proves by hand that whatever it returns is the definition's and only appends. As a trait: each operation is
+// then a type with an impl, which is longer.
+#[tactic(auto, using(crate::proofs::Growing::one_appended))]
+fn on_one(lent: &mut Lent<'_>, op: One, arg: u64) -> Result<u64, Refusal>
+    ensures { Called (on_pool (on_one op arg)) lent.old (numbered result) lent.new }
 {
     let mut pool = Pool::empty();
-    lent::take_in(kinds, words, *count, &mut pool)?;
-    lent::one_given(*count, arg)?;
+    lent.take_in(&mut pool)?;
+    lent::one_given(pool.count as u64, arg)?;
     let made = one_in(&mut pool, op, arg as u32);
-    lent::finish(kinds, words, count, &pool, made)
+    lent.finish(&pool, made)
 }
 
 // `SymGenFunKind::neg`.
-pub fn neg(kinds: &mut [u8], words: &mut [u64], count: &mut u64, arg: u64) -> Result<u64, Refusal>
-    ensures { returned (numbered result) kinds.new words.new count.new ≡ on_pool (given_nodes (arg ∷ []) ((calls depth).neg_at arg)) kinds.old words.old count.old }
+pub fn neg(lent: &mut Lent<'_>, arg: u64) -> Result<u64, Refusal>
+    ensures { Called (on_pool (given_nodes (arg ∷ []) ((calls depth).neg_at arg))) lent.old (numbered result) lent.new }
 {
-    on_one(kinds, words, count, One::Neg, arg)
+    on_one(lent, One::Neg, arg)
 }
 
 // `SymGenFunKind::exp`.
-pub fn exp(kinds: &mut [u8], words: &mut [u64], count: &mut u64, arg: u64) -> Result<u64, Refusal>
-    ensures { returned (numbered result) kinds.new words.new count.new ≡ on_pool (given_nodes (arg ∷ []) ((calls depth).exp_at arg)) kinds.old words.old count.old }
+pub fn exp(lent: &mut Lent<'_>, arg: u64) -> Result<u64, Refusal>
+    ensures { Called (on_pool (given_nodes (arg ∷ []) ((calls depth).exp_at arg))) lent.old (numbered result) lent.new }
 {
-    on_one(kinds, words, count, One::Exp, arg)
+    on_one(lent, One::Exp, arg)
 }
 
 // `SymGenFunKind::log`.
-pub fn log(kinds: &mut [u8], words: &mut [u64], count: &mut u64, arg: u64) -> Result<u64, Refusal>
-    ensures { returned (numbered result) kinds.new words.new count.new ≡ on_pool (given_nodes (arg ∷ []) ((calls depth).log_at arg)) kinds.old words.old count.old }
+pub fn log(lent: &mut Lent<'_>, arg: u64) -> Result<u64, Refusal>
+    ensures { Called (on_pool (given_nodes (arg ∷ []) ((calls depth).log_at arg))) lent.old (numbered result) lent.new }
 {
-    on_one(kinds, words, count, One::Log, arg)
+    on_one(lent, One::Log, arg)
 }
 
 // `SymGenFunKind::pow`.
-pub fn pow(
-    kinds: &mut [u8],
-    words: &mut [u64],
-    count: &mut u64,
-    base: u64,
-    exp: u32,
-) -> Result<u64, Refusal>
-    ensures { returned (numbered result) kinds.new words.new count.new ≡ on_pool (given_nodes (base ∷ []) ((calls depth).pow_at base exp)) kinds.old words.old count.old }
+pub fn pow(lent: &mut Lent<'_>, base: u64, exp: u32) -> Result<u64, Refusal>
+    ensures { Called (on_pool (given_nodes (base ∷ []) ((calls depth).pow_at base exp))) lent.old (numbered result) lent.new }
 {
-    on_one(kinds, words, count, One::Pow(exp), base)
+    on_one(lent, One::Pow(exp), base)
 }

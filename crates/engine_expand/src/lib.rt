@@ -6,10 +6,11 @@ ghost use Rattle.refusals.specs.Refusals.{not_literal};
 ghost use Rattle.refusals.specs.Numbers.{numbered};
 ghost use Rattle.taylor.specs.Expand.{is_point};
 ghost use Rattle.lent.specs.Lent.{demanded};
-ghost use Rattle.lent.specs.Call.{returned};
+ghost use Rattle.lent.specs.Call.{Called};
 ghost use Rattle.lent_series.specs.Call.{series_on_pool};
 ghost use Rattle.engine_expand.specs.Expressions.{expand_work};
 
+use lent::Lent;
 use lent_series::Series;
 use pool::Pool;
 use refusals::Refusal;
@@ -26,52 +27,42 @@ fn point_given(point: Option<i64>) -> Result<(), Refusal>
 }
 
 // 1 to 5, then the walk.
+#[tactic(auto, using(crate::proofs::Growing::expand_appended))]
 fn on_expression(
-    kinds: &mut [u8],
-    words: &mut [u64],
-    count: &mut u64,
+    lent: &mut Lent<'_>,
     root: u64,
     var: u64,
     point: Option<i64>,
     order: u64,
 ) -> Result<Series, Refusal>
-    ensures { returned (numbered result) kinds.new words.new count.new ≡ series_on_pool (expand_work root var point order) kinds.old words.old count.old }
+    ensures { Called (series_on_pool (expand_work root var point order)) lent.old (numbered result) lent.new }
 {
     let mut pool = Pool::empty();
-    lent::take_in(kinds, words, *count, &mut pool)?;
-    lent::one_given(*count, root)?;
+    lent.take_in(&mut pool)?;
+    lent::one_given(pool.count as u64, root)?;
     lent::variable_given(var)?;
     point_given(point)?;
     lent_series::order_given(order < TERMS as u64)?;
     let result = expand::expand_in(&mut pool, root as u32, var as u32, point, order as u32);
-    lent_series::finish(kinds, words, count, &pool, result)
+    lent_series::finish(lent, &pool, result)
 }
 
 // The expansion of an expression at the variable itself.
-pub fn coeffs(
-    kinds: &mut [u8],
-    words: &mut [u64],
-    count: &mut u64,
-    root: u64,
-    var: u64,
-    order: u64,
-) -> Result<Series, Refusal>
-    ensures { returned (numbered result) kinds.new words.new count.new ≡ series_on_pool (expand_work root var None order) kinds.old words.old count.old }
+pub fn coeffs(lent: &mut Lent<'_>, root: u64, var: u64, order: u64) -> Result<Series, Refusal>
+    ensures { Called (series_on_pool (expand_work root var None order)) lent.old (numbered result) lent.new }
 {
-    on_expression(kinds, words, count, root, var, None, order)
+    on_expression(lent, root, var, None, order)
 }
 
 // The expansion of an expression at a point.
 pub fn coeffs_at(
-    kinds: &mut [u8],
-    words: &mut [u64],
-    count: &mut u64,
+    lent: &mut Lent<'_>,
     root: u64,
     var: u64,
     z: i64,
     order: u64,
 ) -> Result<Series, Refusal>
-    ensures { returned (numbered result) kinds.new words.new count.new ≡ series_on_pool (expand_work root var (Some z) order) kinds.old words.old count.old }
+    ensures { Called (series_on_pool (expand_work root var (Some z) order)) lent.old (numbered result) lent.new }
 {
-    on_expression(kinds, words, count, root, var, Some(z), order)
+    on_expression(lent, root, var, Some(z), order)
 }

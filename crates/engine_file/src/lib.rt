@@ -4,10 +4,11 @@
 ghost use Rattle.std.specs.Prelude.{◌≡◌};
 ghost use Rattle.refusals.specs.Numbers.{numbered};
 ghost use Rattle.shape.specs.File.{read_file};
-ghost use Rattle.lent.specs.Call.{returned, on_pool};
+ghost use Rattle.lent.specs.Call.{Called, on_pool};
 ghost use Rattle.engine_file.specs.Write.{write_call};
 ghost use Rattle.lent.specs.Writing.{put};
 
+use lent::Lent;
 use pool::Pool;
 use refusals::Refusal;
 
@@ -28,17 +29,12 @@ pub fn write(
 }
 
 // A node file, read into the pool: its root.
-#[tactic(auto, unfolding(pool::specs::Pool::is_pool))]
-pub fn read(
-    kinds: &mut [u8],
-    words: &mut [u64],
-    count: &mut u64,
-    file: &[u8],
-) -> Result<u64, Refusal>
-    ensures { returned (numbered result) kinds.new words.new count.new ≡ on_pool (read_file file.now) kinds.old words.old count.old }
+#[tactic(auto, using(lent::proofs::Calling::taken_small, crate::proofs::Growing::read_appended))]
+pub fn read(lent: &mut Lent<'_>, file: &[u8]) -> Result<u64, Refusal>
+    ensures { Called (on_pool (read_file file.now)) lent.old (numbered result) lent.new }
 {
     let mut pool = Pool::empty();
-    lent::take_in(kinds, words, *count, &mut pool)?;
+    lent.take_in(&mut pool)?;
     let made = node_read::read_file(file, &mut pool);
-    lent::finish(kinds, words, count, &pool, made)
+    lent.finish(&pool, made)
 }

@@ -5,10 +5,11 @@ ghost use Rattle.std.specs.Prelude.{◌≡◌, ◌||◌, nat_lt};
 ghost use Rattle.refusals.specs.Numbers.{numbered};
 ghost use Rattle.pool.specs.Made.{made};
 ghost use Rattle.taylor_base.specs.Entries.{HasIndex};
-ghost use Rattle.lent.specs.Call.{returned, on_pool};
+ghost use Rattle.lent.specs.Call.{Called, on_pool};
 ghost use Rattle.lent_series.specs.Series.{is_constant};
 ghost use Rattle.engine_index.specs.Indices.{indexed_work, on_index, coeff_call, derivative_call};
 
+use lent::Lent;
 use lent_series::{ENDLESS, Series};
 use pool::Pool;
 use refusals::Refusal;
@@ -39,47 +40,29 @@ fn index_fits(s: &Series, index: u64) -> bool
 }
 
 // 1, 2 and 5, then the work.
-fn on_index(
-    kinds: &mut [u8],
-    words: &mut [u64],
-    count: &mut u64,
-    op: Indexed,
-    s: Series,
-    index: u64,
-) -> Result<u64, Refusal>
-    ensures { returned (numbered result) kinds.new words.new count.new ≡ on_pool (on_index op s index) kinds.old words.old count.old }
+#[tactic(auto, using(lent_series::proofs::Numbers::nodes_fit, crate::proofs::Growing::indexed_appended))]
+fn on_index(lent: &mut Lent<'_>, op: Indexed, s: Series, index: u64) -> Result<u64, Refusal>
+    ensures { Called (on_pool (on_index op s index)) lent.old (numbered result) lent.new }
 {
     let mut pool = Pool::empty();
-    lent::take_in(kinds, words, *count, &mut pool)?;
-    s.nodes_given(*count)?;
+    lent.take_in(&mut pool)?;
+    s.nodes_given(pool.count as u64)?;
     let e = s.expansion()?;
     lent_series::order_given(index_fits(&s, index))?;
     let node = indexed_in(&mut pool, op, &e, index);
-    lent::finish(kinds, words, count, &pool, node)
+    lent.finish(&pool, node)
 }
 
 // Coefficient `index`.
-pub fn coeff(
-    kinds: &mut [u8],
-    words: &mut [u64],
-    count: &mut u64,
-    e: Series,
-    index: u64,
-) -> Result<u64, Refusal>
-    ensures { returned (numbered result) kinds.new words.new count.new ≡ on_pool (coeff_call e index) kinds.old words.old count.old }
+pub fn coeff(lent: &mut Lent<'_>, e: Series, index: u64) -> Result<u64, Refusal>
+    ensures { Called (on_pool (coeff_call e index)) lent.old (numbered result) lent.new }
 {
-    on_index(kinds, words, count, Indexed::Coeff, e, index)
+    on_index(lent, Indexed::Coeff, e, index)
 }
 
 // The derivative of that order.
-pub fn derivative(
-    kinds: &mut [u8],
-    words: &mut [u64],
-    count: &mut u64,
-    e: Series,
-    index: u64,
-) -> Result<u64, Refusal>
-    ensures { returned (numbered result) kinds.new words.new count.new ≡ on_pool (derivative_call e index) kinds.old words.old count.old }
+pub fn derivative(lent: &mut Lent<'_>, e: Series, index: u64) -> Result<u64, Refusal>
+    ensures { Called (on_pool (derivative_call e index)) lent.old (numbered result) lent.new }
 {
-    on_index(kinds, words, count, Indexed::Derivative, e, index)
+    on_index(lent, Indexed::Derivative, e, index)
 }

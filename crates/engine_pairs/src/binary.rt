@@ -7,11 +7,12 @@ ghost use Rattle.pool.specs.Nodes.{all_below};
 ghost use Rattle.lent.specs.Lent.{demanded};
 ghost use Rattle.refusals.specs.Numbers.{numbered};
 ghost use Rattle.pool.specs.Made.{made};
-ghost use Rattle.lent.specs.Call.{returned};
+ghost use Rattle.lent.specs.Call.{Called};
 ghost use Rattle.lent_series.specs.Series.{nodes_of, length_ok, given};
 ghost use Rattle.lent_series.specs.Call.{series_on_pool};
 ghost use Rattle.engine_pairs.specs.Pairs.{binary_work, agree, lengths_ok, on_expansions, add_call, sub_call, mul_call, div_call, max_call, subst_call};
 
+use lent::Lent;
 use lent_series::{ENDLESS, Series};
 use pool::Pool;
 use refusals::Refusal;
@@ -90,98 +91,56 @@ fn expansions(op: Binary, s: &Series, t: &Series) -> Result<(Expansion, Expansio
 }
 
 // 1, 2 and 5, then the work.
-fn on_two(
-    kinds: &mut [u8],
-    words: &mut [u64],
-    count: &mut u64,
-    op: Binary,
-    s: Series,
-    t: Series,
-) -> Result<Series, Refusal>
-    ensures { returned (numbered result) kinds.new words.new count.new ≡ series_on_pool (on_expansions op s t) kinds.old words.old count.old }
+#[tactic(auto, using(crate::proofs::Lengths::left_fits, crate::proofs::Lengths::right_fits, crate::proofs::Growing::binary_appended))]
+fn on_two(lent: &mut Lent<'_>, op: Binary, s: Series, t: Series) -> Result<Series, Refusal>
+    ensures { Called (series_on_pool (on_expansions op s t)) lent.old (numbered result) lent.new }
 {
     let mut pool = Pool::empty();
-    lent::take_in(kinds, words, *count, &mut pool)?;
-    nodes_given(*count, &s, &t)?;
+    lent.take_in(&mut pool)?;
+    nodes_given(pool.count as u64, &s, &t)?;
     let (lhs, rhs) = expansions(op, &s, &t)?;
     let result = binary_in(&mut pool, op, &lhs, &rhs);
-    lent_series::finish(kinds, words, count, &pool, result)
+    lent_series::finish(lent, &pool, result)
 }
 
 // lhs + rhs
-pub fn add(
-    kinds: &mut [u8],
-    words: &mut [u64],
-    count: &mut u64,
-    lhs: Series,
-    rhs: Series,
-) -> Result<Series, Refusal>
-    ensures { returned (numbered result) kinds.new words.new count.new ≡ series_on_pool (add_call lhs rhs) kinds.old words.old count.old }
+pub fn add(lent: &mut Lent<'_>, lhs: Series, rhs: Series) -> Result<Series, Refusal>
+    ensures { Called (series_on_pool (add_call lhs rhs)) lent.old (numbered result) lent.new }
 {
-    on_two(kinds, words, count, Binary::Add, lhs, rhs)
+    on_two(lent, Binary::Add, lhs, rhs)
 }
 
 // lhs - rhs
-pub fn sub(
-    kinds: &mut [u8],
-    words: &mut [u64],
-    count: &mut u64,
-    lhs: Series,
-    rhs: Series,
-) -> Result<Series, Refusal>
-    ensures { returned (numbered result) kinds.new words.new count.new ≡ series_on_pool (sub_call lhs rhs) kinds.old words.old count.old }
+pub fn sub(lent: &mut Lent<'_>, lhs: Series, rhs: Series) -> Result<Series, Refusal>
+    ensures { Called (series_on_pool (sub_call lhs rhs)) lent.old (numbered result) lent.new }
 {
-    on_two(kinds, words, count, Binary::Sub, lhs, rhs)
+    on_two(lent, Binary::Sub, lhs, rhs)
 }
 
 // lhs * rhs
-pub fn mul(
-    kinds: &mut [u8],
-    words: &mut [u64],
-    count: &mut u64,
-    lhs: Series,
-    rhs: Series,
-) -> Result<Series, Refusal>
-    ensures { returned (numbered result) kinds.new words.new count.new ≡ series_on_pool (mul_call lhs rhs) kinds.old words.old count.old }
+pub fn mul(lent: &mut Lent<'_>, lhs: Series, rhs: Series) -> Result<Series, Refusal>
+    ensures { Called (series_on_pool (mul_call lhs rhs)) lent.old (numbered result) lent.new }
 {
-    on_two(kinds, words, count, Binary::Mul, lhs, rhs)
+    on_two(lent, Binary::Mul, lhs, rhs)
 }
 
 // lhs / rhs
-pub fn div(
-    kinds: &mut [u8],
-    words: &mut [u64],
-    count: &mut u64,
-    lhs: Series,
-    rhs: Series,
-) -> Result<Series, Refusal>
-    ensures { returned (numbered result) kinds.new words.new count.new ≡ series_on_pool (div_call lhs rhs) kinds.old words.old count.old }
+pub fn div(lent: &mut Lent<'_>, lhs: Series, rhs: Series) -> Result<Series, Refusal>
+    ensures { Called (series_on_pool (div_call lhs rhs)) lent.old (numbered result) lent.new }
 {
-    on_two(kinds, words, count, Binary::Div, lhs, rhs)
+    on_two(lent, Binary::Div, lhs, rhs)
 }
 
 // What `max` makes of two constants; 10 of any list.
-pub fn max(
-    kinds: &mut [u8],
-    words: &mut [u64],
-    count: &mut u64,
-    lhs: Series,
-    rhs: Series,
-) -> Result<Series, Refusal>
-    ensures { returned (numbered result) kinds.new words.new count.new ≡ series_on_pool (max_call lhs rhs) kinds.old words.old count.old }
+pub fn max(lent: &mut Lent<'_>, lhs: Series, rhs: Series) -> Result<Series, Refusal>
+    ensures { Called (series_on_pool (max_call lhs rhs)) lent.old (numbered result) lent.new }
 {
-    on_two(kinds, words, count, Binary::Max, lhs, rhs)
+    on_two(lent, Binary::Max, lhs, rhs)
 }
 
 // outer with inner for its variable
-pub fn subst(
-    kinds: &mut [u8],
-    words: &mut [u64],
-    count: &mut u64,
-    outer: Series,
-    inner: Series,
-) -> Result<Series, Refusal>
-    ensures { returned (numbered result) kinds.new words.new count.new ≡ series_on_pool (subst_call outer inner) kinds.old words.old count.old }
+pub fn subst(lent: &mut Lent<'_>, outer: Series, inner: Series) -> Result<Series, Refusal>
+    ensures { Called (series_on_pool (subst_call outer inner)) lent.old (numbered result) lent.new }
 {
-    on_two(kinds, words, count, Binary::Subst, outer, inner)
+    on_two(lent, Binary::Subst, outer, inner)
 }

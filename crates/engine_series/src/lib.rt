@@ -4,10 +4,11 @@
 ghost use Rattle.std.specs.Prelude.{◌≡◌};
 ghost use Rattle.refusals.specs.Numbers.{numbered};
 ghost use Rattle.pool.specs.Made.{made};
-ghost use Rattle.lent.specs.Call.{returned};
+ghost use Rattle.lent.specs.Call.{Called};
 ghost use Rattle.lent_series.specs.Call.{series_on_pool};
 ghost use Rattle.engine_series.specs.Operations.{unary_work, on_expansion, neg_call, exp_call, log_call, pow_call};
 
+use lent::Lent;
 use lent_series::Series;
 use pool::Pool;
 use refusals::Refusal;
@@ -34,68 +35,42 @@ fn unary_in(pool: &mut Pool, op: Unary, e: &Expansion) -> Result<Expansion, Refu
 }
 
 // 1, 2 and 5, then the work.
-fn on_one(
-    kinds: &mut [u8],
-    words: &mut [u64],
-    count: &mut u64,
-    op: Unary,
-    s: Series,
-) -> Result<Series, Refusal>
-    ensures { returned (numbered result) kinds.new words.new count.new ≡ series_on_pool (on_expansion op s) kinds.old words.old count.old }
+#[tactic(auto, using(lent_series::proofs::Numbers::nodes_fit, crate::proofs::Growing::unary_appended))]
+fn on_one(lent: &mut Lent<'_>, op: Unary, s: Series) -> Result<Series, Refusal>
+    ensures { Called (series_on_pool (on_expansion op s)) lent.old (numbered result) lent.new }
 {
     let mut pool = Pool::empty();
-    lent::take_in(kinds, words, *count, &mut pool)?;
-    s.nodes_given(*count)?;
+    lent.take_in(&mut pool)?;
+    s.nodes_given(pool.count as u64)?;
     let e = s.expansion()?;
     let result = unary_in(&mut pool, op, &e);
-    lent_series::finish(kinds, words, count, &pool, result)
+    lent_series::finish(lent, &pool, result)
 }
 
 // -e
-pub fn neg(
-    kinds: &mut [u8],
-    words: &mut [u64],
-    count: &mut u64,
-    e: Series,
-) -> Result<Series, Refusal>
-    ensures { returned (numbered result) kinds.new words.new count.new ≡ series_on_pool (neg_call e) kinds.old words.old count.old }
+pub fn neg(lent: &mut Lent<'_>, e: Series) -> Result<Series, Refusal>
+    ensures { Called (series_on_pool (neg_call e)) lent.old (numbered result) lent.new }
 {
-    on_one(kinds, words, count, Unary::Neg, e)
+    on_one(lent, Unary::Neg, e)
 }
 
 // exp e
-pub fn exp(
-    kinds: &mut [u8],
-    words: &mut [u64],
-    count: &mut u64,
-    e: Series,
-) -> Result<Series, Refusal>
-    ensures { returned (numbered result) kinds.new words.new count.new ≡ series_on_pool (exp_call e) kinds.old words.old count.old }
+pub fn exp(lent: &mut Lent<'_>, e: Series) -> Result<Series, Refusal>
+    ensures { Called (series_on_pool (exp_call e)) lent.old (numbered result) lent.new }
 {
-    on_one(kinds, words, count, Unary::Exp, e)
+    on_one(lent, Unary::Exp, e)
 }
 
 // log e
-pub fn log(
-    kinds: &mut [u8],
-    words: &mut [u64],
-    count: &mut u64,
-    e: Series,
-) -> Result<Series, Refusal>
-    ensures { returned (numbered result) kinds.new words.new count.new ≡ series_on_pool (log_call e) kinds.old words.old count.old }
+pub fn log(lent: &mut Lent<'_>, e: Series) -> Result<Series, Refusal>
+    ensures { Called (series_on_pool (log_call e)) lent.old (numbered result) lent.new }
 {
-    on_one(kinds, words, count, Unary::Log, e)
+    on_one(lent, Unary::Log, e)
 }
 
 // e to a power
-pub fn pow(
-    kinds: &mut [u8],
-    words: &mut [u64],
-    count: &mut u64,
-    e: Series,
-    exponent: u32,
-) -> Result<Series, Refusal>
-    ensures { returned (numbered result) kinds.new words.new count.new ≡ series_on_pool (pow_call e exponent) kinds.old words.old count.old }
+pub fn pow(lent: &mut Lent<'_>, e: Series, exponent: u32) -> Result<Series, Refusal>
+    ensures { Called (series_on_pool (pow_call e exponent)) lent.old (numbered result) lent.new }
 {
-    on_one(kinds, words, count, Unary::Pow(exponent), e)
+    on_one(lent, Unary::Pow(exponent), e)
 }

@@ -1,5 +1,4 @@
-// What a caller lends: both tables of the pool are tested and taken in, and after an accepted call the new entries are put back. The tables and the count
-// stay three parameters in every call, since the C interface lends them so.
+// What a caller lends: both tables of the pool are tested and taken in, and after an accepted call the new entries are put back.
 #![tactic(auto)]
 
 ghost use Rattle.std.specs.Prelude.{◌≡◌, true, [], ◌∷◌, leb, length, ◌↔◌, OnOk, IfOk, IsSome, IfSome, Ok, Err};
@@ -10,7 +9,7 @@ ghost use Rattle.pool.specs.Made.{made};
 ghost use Rattle.pool.specs.Nodes.{all_below, greatest_variable};
 ghost use Rattle.constructor_laws.specs.Grown.{Grown};
 ghost use Rattle.lent.specs.Lent.{demanded, as_demanded};
-ghost use Rattle.lent.specs.Call.{returned, leaves, lent_pool, lent_pool_to, Appended};
+ghost use Rattle.lent.specs.Call.{lent_pool, lent_pool_to, leaves_of, on_lent, Appended, Called, SameLent};
 
 mod rules;
 
@@ -65,39 +64,67 @@ pub fn is_pool(kinds: &[u8], words: &[u64], count: u64) -> bool
     tables(kinds, words, count).is_ok()
 }
 
-// The entries that work has appended and the new count, put back where the rest is the same already. Entry by entry: as copies of slices they would need memmove of
-// the C library, which the archive does without.
-pub fn put_back(kinds: &mut [u8], words: &mut [u64], count: &mut u64, pool: &Pool)
-    requires count_value { is_pool kinds.old words.old count.old ≡ true }
-    requires grown { Grown (lent_pool_to pool.now.end kinds.old words.old count.old) pool.now }
-    ensures kinds_after { kinds.new ≡ pool.now.kinds }
-    ensures words_after { words.new ≡ pool.now.words }
-    ensures count_after { count.new ≡ pool.now.count }
-{
-    let from = *count as usize;
-    let to = pool.count as usize;
-    for i in from..to {
-        kinds[i] = pool.kinds[i];
-        words[i] = pool.words[i];
-    }
-    *count = pool.count as u64;
+// Both tables and the count, lent for a call that appends. It is passed by reference: of one that is passed on by value, a proof knows too little
+// afterwards.
+#[derive(Drop)]
+pub struct Lent<'a> {
+    pub kinds: &'a mut [u8],
+    pub words: &'a mut [u64],
+    pub count: &'a mut u64,
 }
 
-// After the work: what an accepted call has appended is put back, a refusal leaves all as it was.
-pub fn finish(
-    kinds: &mut [u8],
-    words: &mut [u64],
-    count: &mut u64,
-    pool: &Pool,
-    res: Result<u32, Refusal>,
-) -> Result<u64, Refusal>
-    requires count_value { is_pool kinds.old words.old count.old ≡ true }
-    requires appended { Appended kinds.old words.old count.old (made res pool.now) }
-    ensures { returned (numbered result) kinds.new words.new count.new ≡ leaves Ok Err kinds.old words.old count.old (made res pool.now) }
-{
-    let node = res?;
-    put_back(kinds, words, count, pool);
-    Ok(node as u64)
+impl<'a> Lent<'a> {
+    // What the C interface and the programs lend one by one.
+    pub fn new(kinds: &'a mut [u8], words: &'a mut [u64], count: &'a mut u64) -> Lent<'a>
+        ensures kinds_lent { result.kinds ≡ kinds.entry }
+        ensures words_lent { result.words ≡ words.entry }
+        ensures count_lent { result.count ≡ count.entry }
+    {
+        Lent {
+            kinds,
+            words,
+            count,
+        }
+    }
+
+    // 1, or what is lent as a pool.
+    pub fn take_in(&self, pool: &mut Pool) -> Result<(), Refusal>
+        requires pool_value { pool.old ≡ empty }
+        ensures tested { numbered result ≡ demanded (on_lent is_pool self.now) broken_pool }
+        ensures taken { OnOk result (pool.new ≡ on_lent lent_pool self.now) }
+    {
+        take_in(self.kinds, self.words, *self.count, pool)
+    }
+
+    // The entries that work has appended and the new count, put back where the rest is the same already. Entry by entry: as copies of slices they would need memmove of
+    // the C library, which the archive does without.
+    pub fn put_back(&mut self, pool: &Pool)
+        requires count_value { on_lent is_pool self.old ≡ true }
+        requires grown { Grown (on_lent (lent_pool_to pool.now.end) self.old) pool.now }
+        ensures same { SameLent self.old self.new }
+        ensures kinds_after { self.new.kinds.now ≡ pool.now.kinds }
+        ensures words_after { self.new.words.now ≡ pool.now.words }
+        ensures count_after { self.new.count.now ≡ pool.now.count }
+    {
+        let from = *self.count as usize;
+        let to = pool.count as usize;
+        for i in from..to {
+            self.kinds[i] = pool.kinds[i];
+            self.words[i] = pool.words[i];
+        }
+        *self.count = pool.count as u64;
+    }
+
+    // After the work: what an accepted call has appended is put back, a refusal leaves all as it was.
+    pub fn finish(&mut self, pool: &Pool, res: Result<u32, Refusal>) -> Result<u64, Refusal>
+        requires count_value { on_lent is_pool self.old ≡ true }
+        requires appended { Appended self.old.kinds.now self.old.words.now self.old.count.now (made res pool.now) }
+        ensures { Called (leaves_of Ok Err (made res pool.now)) self.old (numbered result) self.new }
+    {
+        let node = res?;
+        self.put_back(pool);
+        Ok(node as u64)
+    }
 }
 
 // 2, where a given node number is not below the count.

@@ -16,11 +16,12 @@ use lib.Seq.{length-take-le}
 use borrow.Author.Tests.{lt-ltb, ltb-true, ne_eqb}
 use Rattle.refusals.specs.Refusals.{broken_pool, unknown_node}
 use Rattle.pool.specs.Nodes.{all_below}
-use Rattle.pool.specs.Pool.{limit, is_pool}
+use Rattle.pool.specs.Pool.{Pool, limit, is_pool}
 use Rattle.taylor.specs.Coefficients.{terms}
 use Rattle.taylor.specs.Expansion.{endless}
+use Rattle.lent.specs.Call.{lent_pool}
 use Rattle.lent.specs.Lent.{demanded}
-use Rattle.lent.proofs.Calling.{is_met, sizes}
+use Rattle.lent.proofs.Calling.{is_met, taken_small}
 use Rattle.lent_series.specs.Series.{entries, nodes_of}
 use Rattle.lent_series.specs.declared.series.Series.{Series}
 
@@ -58,8 +59,9 @@ nodes n cs small h = all_are_below limit cs (λ i k. more i (each_is_below n cs 
     more : (i : ℕ) → get_or cs i 0 < n → get_or cs i 0 < limit
     more i h = omega arith
 
-pub nodes_fit : (ks ws : List ℕ) (n : ℕ) (cs : List ℕ) → Ok tt ≡ demanded (is_pool ks ws n) broken_pool → Ok tt ≡ demanded (all_below n cs) unknown_node → all_below limit cs ≡ true
-nodes_fit ks ws n cs taken given = nodes n cs (sizes ks ws n taken).small (is_met (all_below n cs) unknown_node given)
+-- numbers below the count of what was taken in are nodes
+pub nodes_fit : (ks ws : List ℕ) (n : ℕ) (P : Pool) (cs : List ℕ) → P ≡ lent_pool ks ws n → Ok tt ≡ demanded (is_pool ks ws n) broken_pool → Ok tt ≡ demanded (all_below P.count cs) unknown_node → all_below limit cs ≡ true
+nodes_fit ks ws n P cs taken tested given = nodes P.count cs (taken_small ks ws n P taken tested) (is_met (all_below P.count cs) unknown_node given)
 
 -- a node number that is given is a node's
 module _ (s : Series) (long : length s.coeffs ≡ terms) (h : all_below limit (nodes_of s) ≡ true) where

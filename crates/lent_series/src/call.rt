@@ -5,10 +5,11 @@ ghost use Rattle.refusals.specs.Numbers.{numbered};
 ghost use Rattle.pool.specs.Pool.{is_pool};
 ghost use Rattle.pool.specs.Made.{made};
 ghost use Rattle.lent.specs.Lent.{demanded};
-ghost use Rattle.lent.specs.Call.{returned, leaves, Appended};
+ghost use Rattle.lent.specs.Call.{leaves_of, on_lent, Appended, Called};
 ghost use Rattle.lent_series.specs.Call.{accepted, refused_outcome};
 
 use crate::series::Series;
+use lent::Lent;
 use pool::Pool;
 use refusals::Refusal;
 use taylor::Expansion;
@@ -25,17 +26,15 @@ pub fn order_given(fits: bool) -> Result<(), Refusal>
 
 // After the work: what an accepted call has appended is put back, a refusal leaves all as it was.
 pub fn finish(
-    kinds: &mut [u8],
-    words: &mut [u64],
-    count: &mut u64,
+    lent: &mut Lent<'_>,
     pool: &Pool,
     res: Result<Expansion, Refusal>,
 ) -> Result<Series, Refusal>
-    requires count_value { is_pool kinds.old words.old count.old ≡ true }
-    requires appended { Appended kinds.old words.old count.old (made res pool.now) }
-    ensures { returned (numbered result) kinds.new words.new count.new ≡ leaves accepted refused_outcome kinds.old words.old count.old (made res pool.now) }
+    requires count_value { on_lent is_pool lent.old ≡ true }
+    requires appended { Appended lent.old.kinds.now lent.old.words.now lent.old.count.now (made res pool.now) }
+    ensures { Called (leaves_of accepted refused_outcome (made res pool.now)) lent.old (numbered result) lent.new }
 {
     let e = res?;
-    lent::put_back(kinds, words, count, pool);
+    lent.put_back(pool);
     Ok(Series::from(e))
 }

@@ -1,6 +1,7 @@
 // Calls by what they answer.
+use lent::Lent;
 use number_list::Numbers;
-use replay_calls::{Got, Lent, expected, grow, of_answer};
+use replay_calls::{Got, expected, grow, of_answer};
 
 const FIRST_WALK: u64 = 20;
 

@@ -1,8 +1,9 @@
 // One call of the list, by the number of its operation.
 use crate::answers::{node_is_right, value_is_right};
+use lent::Lent;
 use number_list::Numbers;
 use pool::LIMIT;
-use replay_calls::{Lent, same_pools};
+use replay_calls::same_pools;
 
 pub const EVALUATE: u64 = 22;
 

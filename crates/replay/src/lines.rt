@@ -3,8 +3,8 @@ ghost use Rattle.std.specs.Io.{ReadsAtMost};
 
 use crate::calls::call_is_right;
 use crate::raw::{TABLE, set_both};
+use lent::Lent;
 use number_list::Numbers;
-use replay_calls::Lent;
 use std::io;
 use std::io::{Print, Read};
 use std::num::wrapping_add_u64;

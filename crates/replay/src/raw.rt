@@ -1,8 +1,9 @@
 // The operations of the list that are no calls: they put entries and counts as they are, into the engine's tables and into those beside them, or say what
 // the next call appends; and words for the reader.
+use lent::Lent;
 use number_list::Numbers;
 use pool::LIMIT;
-use replay_calls::{Lent, grow, set};
+use replay_calls::{grow, set};
 use std::num::wrapping_add_u64;
 
 pub const CLEAR: u64 = 0;

@@ -1,5 +1,5 @@
 // The constructors, by the numbers that the list has for them.
-use crate::pools::Lent;
+use lent::Lent;
 use number_list::{Numbers, half_of};
 use refusals::Refusal;
 
@@ -26,17 +26,16 @@ pub const POW: u64 = 19;
 // One constructor, with its arguments from the list.
 pub fn build(op: u64, list: &mut Numbers, lent: &mut Lent) -> Result<u64, Refusal> {
     let a = list.next();
-    let (k, w, count) = (&mut *lent.kinds, &mut *lent.words, &mut *lent.count);
     match op {
-        LIT => engine::lit(k, w, count, literal::from_word(a)),
-        VAR => engine::var(k, w, count, a),
-        ADD => engine::add(k, w, count, a, list.next()),
-        MUL => engine::mul(k, w, count, a, list.next()),
-        DIV => engine::div(k, w, count, a, list.next()),
-        MAX => engine::max(k, w, count, a, list.next()),
-        NEG => engine::neg(k, w, count, a),
-        EXP => engine::exp(k, w, count, a),
-        LOG => engine::log(k, w, count, a),
-        _ => engine::pow(k, w, count, a, half_of(list.next())),
+        LIT => engine::lit(lent, literal::from_word(a)),
+        VAR => engine::var(lent, a),
+        ADD => engine::add(lent, a, list.next()),
+        MUL => engine::mul(lent, a, list.next()),
+        DIV => engine::div(lent, a, list.next()),
+        MAX => engine::max(lent, a, list.next()),
+        NEG => engine::neg(lent, a),
+        EXP => engine::exp(lent, a),
+        LOG => engine::log(lent, a),
+        _ => engine::pow(lent, a, half_of(list.next())),
     }
 }

@@ -1,5 +1,5 @@
 // The rules of the pool as a call.
-use crate::pools::Lent;
+use lent::Lent;
 use number_list::Numbers;
 use pool::Pool;
 use refusals::Refusal;
@@ -7,7 +7,7 @@ use refusals::Refusal;
 // Whether the tables and the count keep the rules.
 fn checked(lent: &Lent) -> Result<(), Refusal> {
     let mut pool = Pool::empty();
-    lent::take_in(lent.kinds, lent.words, *lent.count, &mut pool)
+    lent.take_in(&mut pool)
 }
 
 // The refusal number against the list's.

@@ -13,7 +13,7 @@ mod walked;
 pub use builds::build;
 pub use checks::check_is_right;
 pub use got::{Got, expected, of_answer};
-pub use pools::{Lent, grow, same_pools, set};
+pub use pools::{grow, same_pools, set};
 pub use strips::run;
 pub use texts::text_is_right;
 pub use values::value;

@@ -1,17 +1,10 @@
 // The pool as it should be: beside the engine's tables stand two of our own, in which the list's entries are put.
 ghost use Rattle.std.specs.Prelude.{◌≡◌, ◌↔◌, IsTrue};
 
+use lent::Lent;
 use number_list::{Numbers, byte_of};
 use pool::LIMIT;
 use std::num::wrapping_add_u64;
-
-// Both tables and the count, as they are lent.
-#[derive(Drop)]
-pub struct Lent<'a> {
-    pub kinds: &'a mut [u8],
-    pub words: &'a mut [u64],
-    pub count: &'a mut u64,
-}
 
 // An entry as it is, by no constructor. What finds no place is passed over.
 pub fn set(lent: &mut Lent, i: u64, kind: u64, word: u64) {

@@ -1,6 +1,6 @@
 // Printing, writing and making strips, into an output whose every byte is compared: past the result, and after a refusal, it is as it was.
 use crate::got::{Got, UNLISTED, expected, of_answer};
-use crate::pools::Lent;
+use lent::Lent;
 use number_list::{Numbers, byte_of, length_of};
 use std::num::wrapping_sub_usize;
 

@@ -1,6 +1,6 @@
 // Evaluation, with a table of values from the list.
 use crate::got::{Got, UNLISTED, of_answer};
-use crate::pools::Lent;
+use lent::Lent;
 use number_list::{Numbers, half_of};
 use refusals::Refusal;
 

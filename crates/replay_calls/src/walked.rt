@@ -1,6 +1,6 @@
 // The calls that work on the pool and are no constructors: substitution, derivation, and reading a file.
 use crate::got::{Got, UNLISTED, of_answer};
-use crate::pools::Lent;
+use lent::Lent;
 use number_list::{Numbers, byte_of};
 use refusals::Refusal;
 
@@ -15,13 +15,13 @@ fn substitute(list: &mut Numbers, lent: &mut Lent) -> Result<u64, Refusal> {
     let root = list.next();
     let var = list.next();
     let value = list.next();
-    engine_walk::substitute_var(lent.kinds, lent.words, lent.count, root, var, value)
+    engine_walk::substitute_var(lent, root, var, value)
 }
 
 fn derive(list: &mut Numbers, lent: &mut Lent) -> Result<u64, Refusal> {
     let root = list.next();
     let var = list.next();
-    engine_walk::derive(lent.kinds, lent.words, lent.count, root, var)
+    engine_walk::derive(lent, root, var)
 }
 
 // The first bytes of a table as a file.
@@ -30,7 +30,7 @@ fn read(list: &mut Numbers, lent: &mut Lent) -> Got {
     let mut file = [0u8; FILE_MAX];
     list.next_into(length, &mut file, byte_of);
     match file.get(..length) {
-        Some(bytes) => of_answer(engine_file::read(lent.kinds, lent.words, lent.count, bytes)),
+        Some(bytes) => of_answer(engine_file::read(lent, bytes)),
         None => Err(UNLISTED),
     }
 }

@@ -1,10 +1,11 @@
 // The answers that are expansions, against the list's.
 use crate::given::{next_series, same_series};
 use crate::operations::expanded;
+use lent::Lent;
 use lent_series::Series;
 use number_list::Numbers;
 use refusals::Refusal;
-use replay_calls::{Lent, grow};
+use replay_calls::grow;
 
 // Whether an answer is the list's: the refusal number, or behind a 0 the expansion.
 fn is_right(got: Result<Series, Refusal>, number: u64, list: &mut Numbers) -> bool {

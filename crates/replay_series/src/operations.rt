@@ -1,9 +1,9 @@
 // The operations that give an expansion, by the numbers that the list has for them.
 use crate::given::next_series;
+use lent::Lent;
 use lent_series::Series;
 use number_list::{Numbers, half_of};
 use refusals::Refusal;
-use replay_calls::Lent;
 
 pub const VAR: u64 = 30;
 
@@ -31,40 +31,38 @@ pub const COEFFS: u64 = 45;
 
 fn of_one(op: u64, list: &mut Numbers, lent: &mut Lent) -> Result<Series, Refusal> {
     let s = next_series(list);
-    let (k, w, count) = (&mut *lent.kinds, &mut *lent.words, &mut *lent.count);
     match op {
-        EXP => engine_series::exp(k, w, count, s),
-        LOG => engine_series::log(k, w, count, s),
-        NEG => engine_series::neg(k, w, count, s),
-        _ => engine_series::pow(k, w, count, s, half_of(list.next())),
+        EXP => engine_series::exp(lent, s),
+        LOG => engine_series::log(lent, s),
+        NEG => engine_series::neg(lent, s),
+        _ => engine_series::pow(lent, s, half_of(list.next())),
     }
 }
 
 fn of_two(op: u64, list: &mut Numbers, lent: &mut Lent) -> Result<Series, Refusal> {
     let s = next_series(list);
     let t = next_series(list);
-    let (k, w, count) = (&mut *lent.kinds, &mut *lent.words, &mut *lent.count);
     match op {
-        ADD => engine_pairs::add(k, w, count, s, t),
-        SUB => engine_pairs::sub(k, w, count, s, t),
-        MUL => engine_pairs::mul(k, w, count, s, t),
-        DIV => engine_pairs::div(k, w, count, s, t),
-        MAX => engine_pairs::max(k, w, count, s, t),
-        _ => engine_pairs::subst(k, w, count, s, t),
+        ADD => engine_pairs::add(lent, s, t),
+        SUB => engine_pairs::sub(lent, s, t),
+        MUL => engine_pairs::mul(lent, s, t),
+        DIV => engine_pairs::div(lent, s, t),
+        MAX => engine_pairs::max(lent, s, t),
+        _ => engine_pairs::subst(lent, s, t),
     }
 }
 
 fn of_node(list: &mut Numbers, lent: &mut Lent) -> Result<Series, Refusal> {
     let x = list.next();
     let order = list.next();
-    engine_given::var(lent.kinds, lent.words, lent.count, x, order)
+    engine_given::var(lent, x, order)
 }
 
 fn coeffs(list: &mut Numbers, lent: &mut Lent) -> Result<Series, Refusal> {
     let root = list.next();
     let var = list.next();
     let order = list.next();
-    engine_expand::coeffs(lent.kinds, lent.words, lent.count, root, var, order)
+    engine_expand::coeffs(lent, root, var, order)
 }
 
 fn coeffs_at(list: &mut Numbers, lent: &mut Lent) -> Result<Series, Refusal> {
@@ -72,7 +70,7 @@ fn coeffs_at(list: &mut Numbers, lent: &mut Lent) -> Result<Series, Refusal> {
     let var = list.next();
     let point = literal::from_word(list.next());
     let order = list.next();
-    engine_expand::coeffs_at(lent.kinds, lent.words, lent.count, root, var, point, order)
+    engine_expand::coeffs_at(lent, root, var, point, order)
 }
 
 // One operation, with its arguments from the list.

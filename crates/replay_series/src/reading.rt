@@ -1,8 +1,9 @@
 // What is read of an expansion: a coefficient, a derivative, the order.
 use crate::given::next_series;
+use lent::Lent;
 use number_list::Numbers;
 use refusals::Refusal;
-use replay_calls::{Got, Lent, of_answer};
+use replay_calls::{Got, of_answer};
 
 pub const COEFF: u64 = 32;
 
@@ -11,9 +12,9 @@ pub fn indexed(op: u64, list: &mut Numbers, lent: &mut Lent) -> Result<u64, Refu
     let s = next_series(list);
     let index = list.next();
     if op == COEFF {
-        return engine_index::coeff(lent.kinds, lent.words, lent.count, s, index);
+        return engine_index::coeff(lent, s, index);
     }
-    engine_index::derivative(lent.kinds, lent.words, lent.count, s, index)
+    engine_index::derivative(lent, s, index)
 }
 
 // `order`, which leaves the pool alone.

@@ -2,6 +2,7 @@
 #![tactic(auto)]
 
 use inputs::FILE_ROOM;
+use lent::Lent;
 use outputs::Failed;
 use pool::LIMIT;
 use refusals::Refusal;
@@ -12,7 +13,7 @@ fn text_of(file: &[u8], text: &mut [u8]) -> Result<u64, Refusal> {
     let mut kinds = [0u8; LIMIT];
     let mut words = [0u64; LIMIT];
     let mut count = 0;
-    let root = engine_file::read(&mut kinds, &mut words, &mut count, file)?;
+    let root = engine_file::read(&mut Lent::new(&mut kinds, &mut words, &mut count), file)?;
     engine_print::print(&kinds, &words, count, root, text)
 }
 
