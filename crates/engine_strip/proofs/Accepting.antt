@@ -40,7 +40,7 @@ module _ (P : Pool) (r : ℕ) (old : List ℕ) where
   pub record Strips : Type 0 where
     pub rules : is_pool P.kinds P.words P.count ≡ true
     pub given : r < P.count
-    pub no_exp_or_log_lem : has_exp_or_log (node_at P) r ≡ false
+    pub reaches_no_exp_or_log : has_exp_or_log (node_at P) r ≡ false
     pub few_places : places_of (node_at P) r ≤ most_places
     pub fits : StripFits P r old
     pub is : strip_from P r old ≡ writes bytes old
@@ -62,7 +62,7 @@ module _ (P : Pool) (r : ℕ) (old : List ℕ) where
       record {
         rules = rules;
         given = one_is_below P.count r below;
-        no_exp_or_log_lem = none_reached (has_exp_or_log at r) none;
+        reaches_no_exp_or_log = none_reached (has_exp_or_log at r) none;
         few_places = leb-true (places_of at r) most_places few;
         fits = (leb-true (length bytes) longest_text short, leb-true (length bytes) (length old) long);
         is = e₁ ∙ e₂ ∙ e₃ ∙ e₄ ∙ e₅;
@@ -87,6 +87,6 @@ module _ (P : Pool) (r : ℕ) (old : List ℕ) where
 
     pub strip_accepted_exactly : Accepted (strip_from P r old) ↔ ((ReachesExpOrLog (node_at P) r → ⊥) × (places_of (node_at P) r ≤ most_places) × StripFits P r old)
     strip_accepted_exactly = (
-      λ a. let s = accepted_strips a in (none_there s.no_exp_or_log_lem, s.few_places, s.fits),
+      λ a. let s = accepted_strips a in (none_there s.reaches_no_exp_or_log, s.few_places, s.fits),
       λ (none, few, fits). allowed_accepted (no_search none) few fits,
     )

@@ -50,7 +50,7 @@ module _ (P : Pool) (fit : (i : ℕ) → get_or P.words i 0 < 2 ^ 64) (r : ℕ) 
   pub made_is_accepted : is_strip (bytes_written (strip_from P r old)) ≡ true
   made_is_accepted =
       ap is_strip (strip_is_there P r old a)
-      ∙ strip_is_tested P keeps r made.given made.no_exp_or_log_lem
+      ∙ strip_is_tested P keeps r made.given made.reaches_no_exp_or_log
       ∙ le-leb (places_of (node_at P) r) most_places made.few_places
 
   -- evaluation's call on the same root
@@ -62,7 +62,7 @@ module _ (P : Pool) (fit : (i : ℕ) → get_or P.words i 0 < 2 ^ 64) (r : ℕ) 
   pub strip_runs_as_evaluated : (values : List Float) → run_strip_call (bytes_written (strip_from P r old)) values ≡ evaluate_call P.kinds P.words P.count r values
   strip_runs_as_evaluated values =
       run_is (bytes_written (strip_from P r old)) values made_is_accepted
-      ∙ ap (demand Err (leb (length values) most_values) wrong_values) (ap (run_strip values) (strip_is_there P r old a) ∙ strip_runs P keeps r made.given made.no_exp_or_log_lem values)
+      ∙ ap (demand Err (leb (length values) most_values) wrong_values) (ap (run_strip values) (strip_is_there P r old a) ∙ strip_runs P keeps r made.given made.reaches_no_exp_or_log values)
       ∙ sym (evaluation_is values)
 
 -- two roots of one shape, in one pool or in two: one answer, refusals included

@@ -16,7 +16,7 @@ module _ (at : ℕ → Node) where
   pub record Long (i n p : ℕ) : Type 0 where
     pub bytes : length (strip_of at i) ≡ n
     pub places : places_of at i ≡ p
-    pub no_exp_or_log_lem : has_exp_or_log at i ≡ false
+    pub reaches_no_exp_or_log : has_exp_or_log at i ≡ false
 
   -- the product of two nodes
   module _ {i a b n m p q : ℕ} (is : at i ≡ Mul a b) (left : a < i) (right : b < i) (x : Long a n p) (y : Long b m q) where
@@ -33,7 +33,7 @@ module _ (at : ℕ → Node) where
           places =
               visits 0 node_places at i
               ∙ rw (is, ← below 0 (places_of at) i a left, ← below 0 (places_of at) i b right, x.places, y.places);
-          no_exp_or_log_lem =
+          reaches_no_exp_or_log =
               visits false (reaches_at is_exp_or_log) at i
-              ∙ rw (is, ← below false (reaches is_exp_or_log at) i a left, ← below false (reaches is_exp_or_log at) i b right, x.no_exp_or_log_lem, y.no_exp_or_log_lem);
+              ∙ rw (is, ← below false (reaches is_exp_or_log at) i a left, ← below false (reaches is_exp_or_log at) i b right, x.reaches_no_exp_or_log, y.reaches_no_exp_or_log);
         }

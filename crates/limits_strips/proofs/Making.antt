@@ -50,7 +50,7 @@ module _ (room : ℕ) (at : ℕ → Node) (root : ℕ) where
 
   goes_by_length : {p : ℕ} (n : ℕ) → Long at root n p → leb p most_places ≡ true → answered ≡ cond (leb n longest_text && leb n room) (gives n) (refuses no_room)
   unfolding answered
-  goes_by_length n x few = rw (x.no_exp_or_log_lem, x.places, few, x.bytes, length-replicate {A = ℕ} room 0) (chosen (leb n longest_text && leb n room))
+  goes_by_length n x few = rw (x.reaches_no_exp_or_log, x.places, few, x.bytes, length-replicate {A = ℕ} room 0) (chosen (leb n longest_text && leb n room))
     where
       chosen : (t : Bool) → length_written (demand (unwritten (output room)) t no_room (put (Ok n) (strip_of at root ++ drop n (output room)))).answer ≡ cond t (gives n) (refuses no_room)
       chosen true = refl
@@ -65,7 +65,7 @@ twice is x = product_long at65535 is (omega arith) (omega arith) x x
 
 leaf65535 : Long at65535 0 3 1
 unfolding node_in decode fold_nodes fold_nodes_within under
-leaf65535 = record { bytes = refl; places = refl; no_exp_or_log_lem = refl }
+leaf65535 = record { bytes = refl; places = refl; reaches_no_exp_or_log = refl }
 
 long_65535 : Long at65535 14 65535 15
 unfolding node_in decode
@@ -87,11 +87,11 @@ square is x = product_long at65536 is (omega arith) (omega arith) x x
 
 leaf65536 : Long at65536 0 3 1
 unfolding node_in decode fold_nodes fold_nodes_within under
-leaf65536 = record { bytes = refl; places = refl; no_exp_or_log_lem = refl }
+leaf65536 = record { bytes = refl; places = refl; reaches_no_exp_or_log = refl }
 
 power65536 : Long at65536 14 8 1
 unfolding node_in decode fold_nodes fold_nodes_within under
-power65536 = record { bytes = refl; places = refl; no_exp_or_log_lem = refl }
+power65536 = record { bytes = refl; places = refl; reaches_no_exp_or_log = refl }
 
 long_65536 : Long at65536 27 65536 14
 unfolding node_in decode
