@@ -1,4 +1,4 @@
--- Nodes of two parts and of one are derived alike; the rule of each kind stands here.
+-- The rule of each kind, as the definition of derivation has it within its clauses.
 -- Assumes nothing.
 use Rattle.std.specs.Prelude.{ℕ, ◌-◌, pos}
 use Rattle.walks.specs.Walk.{Walk, ◌>>=◌}
@@ -34,16 +34,3 @@ abbrev pub rule_one : One → ℕ → ℕ → ℕ → Walk
 rule_one one.Exp term a da = mul da term
 rule_one one.Log term a da = div da a
 rule_one (one.Pow e) term a da = power_rule a e da
-
--- a node of two parts
-abbrev pub derive_two : (ℕ → Walk) → Two → ℕ → ℕ → Walk
-derive_two down op a b = do
-  da ← down a
-  db ← down b
-  rule_two op a b da db
-
--- a node of one part
-abbrev pub derive_one : (ℕ → Walk) → ℕ → One → ℕ → Walk
-derive_one down term op a = do
-  da ← down a
-  rule_one op term a da

@@ -1,2 +1,1 @@
 pub mod Rebuild
-pub mod Work

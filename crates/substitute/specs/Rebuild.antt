@@ -1,7 +1,7 @@
 -- Nodes of two parts and of one are rebuilt alike.
 -- Assumes nothing.
 use Rattle.std.specs.Prelude.{◌&&◌, ℕ, eqb}
-use Rattle.walks.specs.Walk.{Walk, ◌>>=◌, lift}
+use Rattle.walks.specs.Walk.{Walk, lift}
 use Rattle.walks.specs.Substitute.{unless}
 use Rattle.constructor_calls.specs.declared.two.Two.{Two}
 use Rattle.constructor_calls.specs.declared.one.One.{One}
@@ -14,16 +14,3 @@ rebuild_two term op a b a2 b2 = unless (eqb a a2 && eqb b b2) term (lift (two_wo
 -- if same_ref(a, a2) { term } else { .. }
 abbrev pub rebuild_one : ℕ → One → ℕ → ℕ → Walk
 rebuild_one term op a a2 = unless (eqb a a2) term (lift (one_work op a2))
-
--- a node of two parts
-abbrev pub substitute_two : (ℕ → Walk) → ℕ → Two → ℕ → ℕ → Walk
-substitute_two down term op a b = do
-  a2 ← down a
-  b2 ← down b
-  rebuild_two term op a b a2 b2
-
--- a node of one part
-abbrev pub substitute_one : (ℕ → Walk) → ℕ → One → ℕ → Walk
-substitute_one down term op a = do
-  a2 ← down a
-  rebuild_one term op a a2

@@ -3,7 +3,3 @@ pub mod Walking
 pub mod Keeping
 pub mod Substitution
 pub mod Derivation
-pub mod Steps
-pub mod Bounds
-pub mod Results
-pub mod Turns

@@ -8,7 +8,7 @@ use native.Mathlib.Omega.{arith}
 use lib.ListN.{length, get_or, set, replicate, length-set, length-replicate, replicate-append-replicate, get_or-append}
 use lib.Seq.{set-append_left}
 use Rattle.pool.specs.Pool.{limit}
-use Rattle.walk_laws.specs.Walked.{results_of}
+use Rattle.rewrite_walk.specs.Walked.{results_of}
 
 pub result_read : (kept : List (Option ℕ)) (i : ℕ) → i < length kept → get_or (results_of kept) i None ≡ get_or kept i None
 unfolding results_of
