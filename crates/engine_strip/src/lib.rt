@@ -1,4 +1,4 @@
-// Key strips as calls from outside.
+// Key strips as calls from outside. The tables and the count stay three parameters, since the C interface lends them so.
 #![tactic(auto)]
 
 ghost use Rattle.std.specs.Prelude.{◌≡◌};
