@@ -1,12 +1,12 @@
 // The answer of a run: the bits of a double in hexadecimal digits, and whether it is a number.
 ghost use Rattle.std.specs.Prelude.{◌≡◌, ◌<◌, ◌≤◌, cond, length};
 ghost use Rattle.std.specs.Float.Ieee.{is_nan};
-ghost use Rattle.low_bytes.specs.Output.{Wrote, past_longest};
+ghost use Rattle.low_bytes.specs.Output.{Wrote};
 ghost use Rattle.text.specs.Text.{bytes};
 ghost use Rattle.key_texts.specs.Answers.{hex_digit, hex_text, answer_line};
 ghost use Rattle.key_texts.specs.Lines.{line_room, AtFront};
 
-use low_bytes::{put, write};
+use low_bytes::{Place, put, write};
 
 // How many hexadecimal digits 64 bits have.
 const BITS_DIGITS: u32 = 16;
@@ -24,8 +24,7 @@ fn hex_digit(digit: u8) -> u8
 
 // So many digits of a number, the highest first: those of its sixteenth, then its lowest.
 #[tactic(auto, using(low_bytes::proofs::Writing::none_written, low_bytes::proofs::Writing::written_as, low_bytes::proofs::Writing::stays_countable, crate::proofs::HexTexts::no_digits))]
-fn put_hex(out: &mut [u8], at: usize, digits: u32, n: u64) -> usize
-    requires { at ≤ past_longest }
+fn put_hex(out: &mut [u8], at: Place, digits: u32, n: u64) -> Place
     ensures { Wrote at out.old (hex_text digits n) result out.new }
 {
     if digits == 0 {
@@ -43,10 +42,10 @@ fn kind_of(x: f64) -> &'static [u8]
 }
 
 // The line of a double.
-fn put_double(out: &mut [u8], x: f64) -> usize
+fn put_double(out: &mut [u8], x: f64) -> Place
     ensures { Wrote 0 out.old (answer_line x) result out.new }
 {
-    let end = put_hex(out, 0, BITS_DIGITS, double::bits(x));
+    let end = put_hex(out, Place::front(), BITS_DIGITS, double::bits(x));
     write(out, end, kind_of(x))
 }
 
@@ -56,5 +55,5 @@ pub fn put_answer(out: &mut [u8], x: f64) -> usize
     requires { line_room ≤ length out.old }
     ensures { AtFront (answer_line x) result out.new }
 {
-    put_double(out, x)
+    put_double(out, x).number()
 }

@@ -5,7 +5,7 @@ ghost use Rattle.text.specs.Text.{bytes, decimal, signed_decimal, display};
 ghost use Rattle.key_texts.specs.Texts.{key_line};
 ghost use Rattle.key_texts.specs.Lines.{line_room, LineAt};
 
-use low_bytes::write;
+use low_bytes::{Place, write};
 use pool::Node;
 
 // Room for every line: `push `, `x_`, 20 digits and a line end would be 28 bytes.
@@ -19,48 +19,48 @@ pub struct KeyLine {
 }
 
 // A variable is pushed. Each of these three lines has another value between the same two writes: a closure for it would be as long as the line.
-fn push_variable(out: &mut [u8], v: u32) -> usize
+fn push_variable(out: &mut [u8], v: u32) -> Place
     ensures { Wrote 0 out.old (bytes "push " ++ display v ++ bytes "\n") result out.new }
 {
-    let a = write(out, 0, b"push ");
+    let a = write(out, Place::front(), b"push ");
     let b = print::write_variable(out, a, v);
     write(out, b, b"\n")
 }
 
 // A literal is pushed.
-fn push_literal(out: &mut [u8], z: i64) -> usize
+fn push_literal(out: &mut [u8], z: i64) -> Place
     ensures { Wrote 0 out.old (bytes "push " ++ signed_decimal z ++ bytes "\n") result out.new }
 {
-    let a = write(out, 0, b"push ");
+    let a = write(out, Place::front(), b"push ");
     let b = print::write_literal(out, a, z);
     write(out, b, b"\n")
 }
 
 // The topmost value is raised.
-fn power(out: &mut [u8], e: u32) -> usize
+fn power(out: &mut [u8], e: u32) -> Place
     ensures { Wrote 0 out.old (bytes "power " ++ decimal e ++ bytes "\n") result out.new }
 {
-    let a = write(out, 0, b"power ");
+    let a = write(out, Place::front(), b"power ");
     let b = print::write_exponent(out, a, e);
     write(out, b, b"\n")
 }
 
 // The line of a key.
 #[tactic(auto, using(low_bytes::proofs::Writing::written_as))]
-fn put_key(out: &mut [u8], key: Node) -> usize
+fn put_key(out: &mut [u8], key: Node) -> Place
     ensures { Wrote 0 out.old (key_line key) result out.new }
 {
     match key {
-        Node::Empty => write(out, 0, b"\n"),
+        Node::Empty => write(out, Place::front(), b"\n"),
         Node::Variable(v) => push_variable(out, v),
         Node::Lit(z) => push_literal(out, z),
-        Node::Add(_, _) => write(out, 0, b"plus\n"),
-        Node::Mul(_, _) => write(out, 0, b"times\n"),
-        Node::Div(_, _) => write(out, 0, b"over\n"),
-        Node::Exp(_) => write(out, 0, b"\n"),
-        Node::Log(_) => write(out, 0, b"\n"),
+        Node::Add(_, _) => write(out, Place::front(), b"plus\n"),
+        Node::Mul(_, _) => write(out, Place::front(), b"times\n"),
+        Node::Div(_, _) => write(out, Place::front(), b"over\n"),
+        Node::Exp(_) => write(out, Place::front(), b"\n"),
+        Node::Log(_) => write(out, Place::front(), b"\n"),
         Node::Pow(_, e) => power(out, e),
-        Node::Max(_, _) => write(out, 0, b"max\n"),
+        Node::Max(_, _) => write(out, Place::front(), b"max\n"),
     }
 }
 
@@ -71,7 +71,7 @@ pub fn line_at(strip: &[u8], at: usize, out: &mut [u8]) -> KeyLine
     ensures { LineAt strip.now at result out.new }
 {
     let key = strip_run::key_at(strip, at);
-    let end = put_key(out, key.node);
+    let end = put_key(out, key.node).number();
     KeyLine {
         end,
         next: key.next,

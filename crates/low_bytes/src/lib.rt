@@ -5,4 +5,4 @@ mod number;
 mod output;
 
 pub use number::{number_at, put_bytes};
-pub use output::{TEXT_MAX, put, write};
+pub use output::{Place, TEXT_MAX, put, write};

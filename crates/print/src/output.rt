@@ -1,14 +1,12 @@
 // Numbers, names of variables and exponents written to an output.
-ghost use Rattle.std.specs.Prelude.{◌≤◌};
 ghost use Rattle.text.specs.Text.{decimal, signed_decimal, display};
-ghost use Rattle.low_bytes.specs.Output.{Wrote, past_longest};
+ghost use Rattle.low_bytes.specs.Output.{Wrote};
 
-use low_bytes::{put, write};
+use low_bytes::{Place, put, write};
 
 // The digits of a number. One or two, as most numbers have, are put byte by byte: they take no text of their own.
 #[tactic(auto, using(low_bytes::proofs::Writing::written_after, crate::proofs::ShortNumbers::of_one_digit, crate::proofs::ShortNumbers::of_two_digits))]
-fn write_decimal(out: &mut [u8], at: usize, n: u64) -> usize
-    requires { at ≤ past_longest }
+fn write_decimal(out: &mut [u8], at: Place, n: u64) -> Place
     ensures { Wrote at out.old (decimal n) result out.new }
 {
     if n < 10 {
@@ -23,8 +21,7 @@ fn write_decimal(out: &mut [u8], at: usize, n: u64) -> usize
 
 // A variable's name. Most variables are a letter, which takes no text of its own.
 #[tactic(auto, using(text::proofs::Forms::a_letter))]
-pub fn write_variable(out: &mut [u8], at: usize, v: u32) -> usize
-    requires { at ≤ past_longest }
+pub fn write_variable(out: &mut [u8], at: Place, v: u32) -> Place
     ensures { Wrote at out.old (display v) result out.new }
 {
     let number = v as u64;
@@ -36,8 +33,7 @@ pub fn write_variable(out: &mut [u8], at: usize, v: u32) -> usize
 
 // A literal: its sign where it is below 0, and its size.
 #[tactic(auto, using(low_bytes::proofs::Writing::written_after, text::proofs::Forms::signed_below, text::proofs::Forms::signed_else))]
-pub fn write_literal(out: &mut [u8], at: usize, z: i64) -> usize
-    requires { at ≤ past_longest }
+pub fn write_literal(out: &mut [u8], at: Place, z: i64) -> Place
     ensures { Wrote at out.old (signed_decimal z) result out.new }
 {
     if z < 0 {
@@ -48,8 +44,7 @@ pub fn write_literal(out: &mut [u8], at: usize, z: i64) -> usize
 }
 
 // The exponent of a power.
-pub fn write_exponent(out: &mut [u8], at: usize, e: u32) -> usize
-    requires { at ≤ past_longest }
+pub fn write_exponent(out: &mut [u8], at: Place, e: u32) -> Place
     ensures { Wrote at out.old (decimal e) result out.new }
 {
     write_decimal(out, at, e as u64)

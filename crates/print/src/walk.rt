@@ -1,12 +1,12 @@
 // `node_fmt` of src/symbolic.rs: a node's own signs, and its parts by calls on smaller numbers. A text that is only counted is written to an empty output.
-ghost use Rattle.std.specs.Prelude.{◌≡◌, ◌++◌, ◌≤◌};
-ghost use Rattle.low_bytes.specs.Output.{Wrote, past_longest};
+ghost use Rattle.std.specs.Prelude.{◌≡◌, ◌++◌};
+ghost use Rattle.low_bytes.specs.Output.{Wrote};
 ghost use Rattle.pool.specs.Tables.{nodes};
 ghost use Rattle.text.specs.Text.{decimal};
 ghost use Rattle.walks.specs.Print.{precedence, node_text, text_below, text_of, hat, closing};
 
 use crate::output::{write_exponent, write_literal, write_variable};
-use low_bytes::{TEXT_MAX, put, write};
+use low_bytes::{Place, put, write};
 use pool::{Node, Tables};
 
 // `precedence` of src/symbolic.rs.
@@ -31,15 +31,14 @@ fn precedence(node: Node) -> u32
 // numbers of their own: a struct of two numbers is handed on through memory, stored one by one and then read as one, and takes a processor longer.
 #[cycle(fmt)]
 #[tactic(auto, using(low_bytes::proofs::Writing::sets_joined, crate::proofs::Bounded::none_from_the_bound, crate::proofs::Bounded::in_brackets, crate::proofs::Bounded::without_brackets))]
-fn node_fmt(tables: Tables, out: &mut [u8], at: usize, bound: usize, of: u32, under: u32) -> usize
-    requires { at ≤ past_longest }
+fn node_fmt(tables: Tables, out: &mut [u8], at: Place, bound: usize, of: u32, under: u32) -> Place
     ensures { Wrote at out.old (text_below (nodes tables.entry) bound under of) result out.new }
 {
     let i = of as usize;
     if bound <= i {
         return at;
     }
-    if TEXT_MAX < at {
+    if at.is_past() {
         return at;
     }
     if precedence(tables.node(of)) < under {
@@ -54,8 +53,7 @@ fn node_fmt(tables: Tables, out: &mut [u8], at: usize, bound: usize, of: u32, un
 // numbers of a node that has two are read from its word: a node made by value is stored in pieces and read back whole, which a processor waits for.
 #[cycle(fmt)]
 #[tactic(auto, using(pool::proofs::WordHalves::by_halves), unfolding(pool::specs::Pool::node_in, pool::specs::Nodes::decode))]
-fn inside(tables: Tables, out: &mut [u8], at: usize, i: usize, of: u32) -> usize
-    requires { at ≤ past_longest }
+fn inside(tables: Tables, out: &mut [u8], at: Place, i: usize, of: u32) -> Place
     ensures { Wrote at out.old (node_text (text_below (nodes tables.entry) i) (nodes tables.entry of)) result out.new }
 {
     let left = tables.left(of);
@@ -80,15 +78,14 @@ fn inside(tables: Tables, out: &mut [u8], at: usize, i: usize, of: u32) -> usize
 fn joined(
     tables: Tables,
     out: &mut [u8],
-    at: usize,
+    at: Place,
     i: usize,
     left: u32,
     first: u32,
     sign: &[u8],
     right: u32,
     second: u32,
-) -> usize
-    requires { at ≤ past_longest }
+) -> Place
     ensures { Wrote at out.old (text_below (nodes tables.entry) i first left ++ sign.now ++ text_below (nodes tables.entry) i second right) result out.new }
 {
     let before = node_fmt(tables, out, at, i, left, first);
@@ -99,8 +96,7 @@ fn joined(
 // One part between an opening and its closing bracket.
 #[cycle(fmt)]
 #[tactic(auto, using(low_bytes::proofs::Writing::sets_joined))]
-fn wrapped(tables: Tables, out: &mut [u8], at: usize, i: usize, opening: &[u8], a: u32) -> usize
-    requires { at ≤ past_longest }
+fn wrapped(tables: Tables, out: &mut [u8], at: Place, i: usize, opening: &[u8], a: u32) -> Place
     ensures { Wrote at out.old (opening.now ++ text_below (nodes tables.entry) i 0 a ++ closing) result out.new }
 {
     let opened = write(out, at, opening);
@@ -111,8 +107,7 @@ fn wrapped(tables: Tables, out: &mut [u8], at: usize, i: usize, opening: &[u8], 
 // A base and its exponent.
 #[cycle(fmt)]
 #[tactic(auto, using(low_bytes::proofs::Writing::sets_joined))]
-fn power(tables: Tables, out: &mut [u8], at: usize, i: usize, a: u32, e: u32) -> usize
-    requires { at ≤ past_longest }
+fn power(tables: Tables, out: &mut [u8], at: Place, i: usize, a: u32, e: u32) -> Place
     ensures { Wrote at out.old (text_below (nodes tables.entry) i 3 a ++ hat ++ decimal e) result out.new }
 {
     let base = node_fmt(tables, out, at, i, a, 3);
@@ -125,5 +120,5 @@ fn power(tables: Tables, out: &mut [u8], at: usize, i: usize, a: u32, e: u32) ->
 pub fn text_in(tables: Tables, root: u32, out: &mut [u8]) -> usize
     ensures { Wrote 0 out.old (text_of (nodes tables.entry) root) result out.new }
 {
-    node_fmt(tables, out, 0, root as usize + 1, root, 0)
+    node_fmt(tables, out, Place::front(), root as usize + 1, root, 0).number()
 }

@@ -1,11 +1,12 @@
 // The first line of a sheet.
-ghost use Rattle.std.specs.Prelude.{◌≡◌, ◌++◌, ◌≤◌};
-ghost use Rattle.low_bytes.specs.Output.{Wrote, past_longest};
+ghost use Rattle.std.specs.Prelude.{◌≡◌, ◌++◌};
+ghost use Rattle.low_bytes.specs.Output.{Wrote};
 ghost use Rattle.text.specs.Text.{decimal};
 ghost use Rattle.sheet_text.specs.Sheet.{point_text, colon};
 ghost use Rattle.sheet_page.specs.Pages.{refused_line, first_line, head_of};
 ghost use Rattle.sheet_page.specs.declared.first.Message.TheVariants.{Refused};
 
+use low_bytes::{Place, write};
 use refusals::Refusal;
 use taylor::Coefficients;
 
@@ -34,53 +35,52 @@ pub struct Page {
 }
 
 // `refused`, a space and the number.
-fn refused_line(out: &mut [u8], number: u32) -> usize
+fn refused_line(out: &mut [u8], number: u32) -> Place
     ensures { Wrote 0 out.old (refused_line number) result out.new }
 {
-    let a = low_bytes::write(out, 0, b"refused ");
+    let a = write(out, Place::front(), b"refused ");
     let b = print::write_exponent(out, a, number);
-    low_bytes::write(out, b, b"\n")
+    write(out, b, b"\n")
 }
 
 // The point, or `none`.
 #[tactic(auto, using(low_bytes::proofs::Writing::written_as))]
-fn point_text(out: &mut [u8], at: usize, point: Option<i64>) -> usize
-    requires { at ≤ past_longest }
+fn point_text(out: &mut [u8], at: Place, point: Option<i64>) -> Place
     ensures { Wrote at out.old (point_text point) result out.new }
 {
     match point {
-        None => low_bytes::write(out, at, b"none"),
+        None => write(out, at, b"none"),
         Some(z) => print::write_literal(out, at, z),
     }
 }
 
 // Variable, order, and point or `none`.
-fn first_line(out: &mut [u8], var: u32, order: u32, point: Option<i64>) -> usize
+fn first_line(out: &mut [u8], var: u32, order: u32, point: Option<i64>) -> Place
     ensures { Wrote 0 out.old (first_line var order point) result out.new }
 {
-    let a = print::write_exponent(out, 0, var);
-    let b = low_bytes::write(out, a, b" ");
+    let a = print::write_exponent(out, Place::front(), var);
+    let b = write(out, a, b" ");
     let c = print::write_exponent(out, b, order);
-    let d = low_bytes::write(out, c, b" ");
+    let d = write(out, c, b" ");
     let e = point_text(out, d, point);
-    low_bytes::write(out, e, b"\n")
+    write(out, e, b"\n")
 }
 
 // The first line, or the only one.
-pub fn head(out: &mut [u8], sheet: &Result<Page, Message>) -> usize
+pub fn head(out: &mut [u8], sheet: &Result<Page, Message>) -> Place
     ensures { Wrote 0 out.old (head_of sheet.now) result out.new }
 {
     match sheet {
         Ok(page) => first_line(out, page.var, page.order, page.point),
-        Err(Message::Usage) => low_bytes::write(out, 0, b"usage\n"),
+        Err(Message::Usage) => write(out, Place::front(), b"usage\n"),
         Err(Message::Refused(refusal)) => refused_line(out, refusal.number()),
     }
 }
 
 // An index, a colon and a space.
-pub fn label(out: &mut [u8], index: u32) -> usize
+pub fn label(out: &mut [u8], index: u32) -> Place
     ensures { Wrote 0 out.old (decimal index ++ colon) result out.new }
 {
-    let a = print::write_exponent(out, 0, index);
-    low_bytes::write(out, a, b": ")
+    let a = print::write_exponent(out, Place::front(), index);
+    write(out, a, b": ")
 }

@@ -7,6 +7,7 @@ ghost use Rattle.taylor.specs.Coefficients.{at};
 ghost use Rattle.sheet_page.specs.Pages.{piece_of_line, piece_of, short, put_of, AtFront};
 
 use crate::first::{Message, Page, head, label};
+use low_bytes::Place;
 use pool::Tables;
 
 // How many pieces a line has at most. A piece goes by a number, as its line does, since the program counts through both.
@@ -32,9 +33,9 @@ fn piece_of_line(page: &Page, tables: Tables, index: u32, part: u32, out: &mut [
     ensures { AtFront (short (piece_of_line (text_of (nodes tables.entry) (at page.now.nodes index)) index part)) out.old result out.new }
 {
     match part {
-        0 => label(out, index),
+        0 => label(out, index).number(),
         1 => text_of(tables, page.nodes.at(index), out),
-        2 => low_bytes::write(out, 0, b"\n"),
+        2 => low_bytes::write(out, Place::front(), b"\n").number(),
         _ => 0,
     }
 }
@@ -52,7 +53,11 @@ fn piece_of(
     ensures { AtFront (short (piece_of sheet.now tables.entry.kinds.now tables.entry.words.now line part)) out.old result out.new }
 {
     if line == 0 {
-        return if part == 0 { head(out, sheet) } else { 0 };
+        return if part == 0 {
+            head(out, sheet).number()
+        } else {
+            0
+        };
     }
     match sheet {
         Ok(page) => {

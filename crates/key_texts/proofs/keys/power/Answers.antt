@@ -5,4 +5,4 @@ use Rattle.key_texts.proofs.keys.power.Goals as goal
 
 pub returns : goal.returns
 returns c =
-    three_written c.write-a.ensures c.write_exponent-b.ensures c.write.ensures
+    three_written (rw c.front.ensures at c.write-a.ensures) c.write_exponent-b.ensures c.write.ensures

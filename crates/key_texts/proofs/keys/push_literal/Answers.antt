@@ -8,4 +8,4 @@ use Rattle.key_texts.proofs.keys.push_literal.Goals as goal
 pub returns : goal.returns
 returns c =
     let same = to_z-of_z w64 c.args.z c.ranges.z in
-    three_written c.write-a.ensures (rw same at c.write_literal-b.ensures) c.write.ensures
+    three_written (rw c.front.ensures at c.write-a.ensures) (rw same at c.write_literal-b.ensures) c.write.ensures

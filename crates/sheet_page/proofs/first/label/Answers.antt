@@ -5,4 +5,4 @@ use Rattle.sheet_page.proofs.first.label.Goals as goal
 
 pub returns : goal.returns
 returns c =
-    written_after c.write_exponent-a.ensures c.write.ensures
+    written_after (rw c.front.ensures at c.write_exponent-a.ensures) c.write.ensures

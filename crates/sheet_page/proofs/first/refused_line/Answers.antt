@@ -5,4 +5,4 @@ use Rattle.sheet_page.proofs.first.refused_line.Goals as goal
 
 pub returns : goal.returns
 returns c =
-    written_after (written_after c.write-a.ensures c.write_exponent-b.ensures) c.write.ensures
+    written_after (written_after (rw c.front.ensures at c.write-a.ensures) c.write_exponent-b.ensures) c.write.ensures

@@ -8,5 +8,6 @@ use Rattle.sheet_page.proofs.pieces.piece_of.Goals as goal
 pub returns-then-part-eq0 : goal.returns-then-part-eq0
 returns-then-part-eq0 c =
     let a = c.args in
-    put_as (ap short (first_piece a.sheet.now a.tables.kinds.now a.tables.words.now c.if-line-eq0.true c.if-part-eq0.true))
-    (put_short (head_short a.sheet.now) (wrote_put (head_of a.sheet.now) c.head.ensures (head_short a.sheet.now) c.requires))
+    rw c.number.ensures.value
+    (put_as (ap short (first_piece a.sheet.now a.tables.kinds.now a.tables.words.now c.if-line-eq0.true c.if-part-eq0.true))
+    (put_short (head_short a.sheet.now) (wrote_put (head_of a.sheet.now) c.head.ensures (head_short a.sheet.now) c.requires)))
