@@ -36,7 +36,8 @@ fn joined(left: u32, right: u32) -> u64
 }
 
 impl Node {
-    // The node of a kind and a word.
+    // The node of a kind and a word. Guards at the arms would be shorter, but were tried: the compiler makes a chain of comparisons of them, and a product took a
+    // twelfth more instructions.
     #[tactic(auto, unfolding(crate::specs::Nodes::decode))]
     pub fn decode(kind: u8, word: u64) -> Node
         ensures { result ≡ decode kind word }
@@ -45,14 +46,34 @@ impl Node {
         let high = (word / HALF) as u32;
         let z = literal::from_word(word);
         match kind {
-            1 if word <= VARIABLE_MAX => Node::Variable(word as u32),
-            2 if literal::is_literal(z) => Node::Lit(z),
+            1 => if word <= VARIABLE_MAX {
+                Node::Variable(word as u32)
+            } else {
+                Node::Empty
+            },
+            2 => if literal::is_literal(z) {
+                Node::Lit(z)
+            } else {
+                Node::Empty
+            },
             3 => Node::Add(low, high),
             4 => Node::Mul(low, high),
             5 => Node::Div(low, high),
-            6 if word < HALF => Node::Exp(word as u32),
-            7 if word < HALF => Node::Log(word as u32),
-            8 if EXPONENT_MIN <= high => Node::Pow(low, high),
+            6 => if word < HALF {
+                Node::Exp(word as u32)
+            } else {
+                Node::Empty
+            },
+            7 => if word < HALF {
+                Node::Log(word as u32)
+            } else {
+                Node::Empty
+            },
+            8 => if EXPONENT_MIN <= high {
+                Node::Pow(low, high)
+            } else {
+                Node::Empty
+            },
             9 => Node::Max(low, high),
             _ => Node::Empty,
         }
