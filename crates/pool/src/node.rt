@@ -1,7 +1,7 @@
 // A node by value, and its kind and word in the pool: the table of kinds of document 01.
-ghost use Rattle.std.specs.Prelude.{◌≡◌};
+ghost use Rattle.std.specs.Prelude.{◌≡◌, ℕ};
 ghost use Rattle.pool.specs.Nodes.{decode, kind_of, word_of, parts, pair};
-ghost use Rattle.pool.specs.Parts.{parts_in, Counted, with_parts};
+ghost use Rattle.pool.specs.Parts.{parts_in, Counted, with_parts, map_parts, EachPart};
 
 use crate::parts::{CountedParts, Parts};
 
@@ -103,13 +103,12 @@ impl Node {
             Node::Empty => 0,
             Node::Variable(v) => v as u64,
             Node::Lit(z) => literal::to_word(z),
-            Node::Add(a, b) => joined(a, b),
-            Node::Mul(a, b) => joined(a, b),
-            Node::Div(a, b) => joined(a, b),
-            Node::Exp(a) => a as u64,
-            Node::Log(a) => a as u64,
-            Node::Pow(a, n) => joined(a, n),
-            Node::Max(a, b) => joined(a, b),
+            Node::Exp(a) | Node::Log(a) => a as u64,
+            Node::Add(a, b)
+            | Node::Mul(a, b)
+            | Node::Div(a, b)
+            | Node::Pow(a, b)
+            | Node::Max(a, b) => joined(a, b),
         }
     }
 
@@ -118,20 +117,15 @@ impl Node {
         ensures { parts_in result ≡ parts self }
     {
         match self {
-            Node::Empty => Parts::None,
-            Node::Variable(_) => Parts::None,
-            Node::Lit(_) => Parts::None,
-            Node::Add(a, b) => Parts::Two(a, b),
-            Node::Mul(a, b) => Parts::Two(a, b),
-            Node::Div(a, b) => Parts::Two(a, b),
-            Node::Exp(a) => Parts::One(a),
-            Node::Log(a) => Parts::One(a),
-            Node::Pow(a, _) => Parts::One(a),
-            Node::Max(a, b) => Parts::Two(a, b),
+            Node::Empty | Node::Variable(_) | Node::Lit(_) => Parts::None,
+            Node::Exp(a) | Node::Log(a) | Node::Pow(a, _) => Parts::One(a),
+            Node::Add(a, b) | Node::Mul(a, b) | Node::Div(a, b) | Node::Max(a, b) => Parts::Two(
+                a, b,
+            ),
         }
     }
 
-    // Its parts and how many they are: a loop goes over them, with one call for all. A part that a node does not have is 0.
+    // Its parts and how many they are: see CountedParts. A part that a node does not have is 0.
     pub fn counted_parts(self) -> CountedParts
         ensures { Counted (parts self) result }
     {
@@ -159,9 +153,7 @@ impl Node {
         ensures { result ≡ with_parts self left right }
     {
         match self {
-            Node::Empty => self,
-            Node::Variable(_) => self,
-            Node::Lit(_) => self,
+            Node::Empty | Node::Variable(_) | Node::Lit(_) => self,
             Node::Add(_, _) => Node::Add(left, right),
             Node::Mul(_, _) => Node::Mul(left, right),
             Node::Div(_, _) => Node::Div(left, right),
@@ -169,6 +161,23 @@ impl Node {
             Node::Log(_) => Node::Log(left),
             Node::Pow(_, n) => Node::Pow(left, n),
             Node::Max(_, _) => Node::Max(left, right),
+        }
+    }
+
+    // The node with each part as the closure makes it of what stands there.
+    pub fn map_parts<F: Fn(u32) -> u32>(self, make: F) -> Node
+        requires { EachPart (F.pre make) self }
+        ensures { (f : ℕ → ℕ) → ((a b : ℕ) → F.post make a b → b ≡ f a) → result ≡ map_parts f self }
+    {
+        match self {
+            Node::Empty | Node::Variable(_) | Node::Lit(_) => self,
+            Node::Add(a, b) => Node::Add(make(a), make(b)),
+            Node::Mul(a, b) => Node::Mul(make(a), make(b)),
+            Node::Div(a, b) => Node::Div(make(a), make(b)),
+            Node::Exp(a) => Node::Exp(make(a)),
+            Node::Log(a) => Node::Log(make(a)),
+            Node::Pow(a, n) => Node::Pow(make(a), n),
+            Node::Max(a, b) => Node::Max(make(a), make(b)),
         }
     }
 }

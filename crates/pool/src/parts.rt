@@ -8,7 +8,8 @@ pub enum Parts {
     Two(u32, u32),
 }
 
-// The parts of a node and how many they are. No array with a length: its two places are read by name, and a loop takes the right one second.
+// The parts of a node and how many they are, for a walk that calls itself. With `Parts` it would call itself in two arms; by a count it does so at one place, in
+// a loop, and a level of the walk then takes the least of the stack.
 #[derive(Clone, Copy)]
 pub struct CountedParts {
     pub count: u32,

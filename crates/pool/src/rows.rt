@@ -12,7 +12,7 @@ pub const KINDS: usize = 10;
 
 pub const ROWS: usize = 4 * KINDS;
 
-const WORD_MAX: u64 = 0xffff_ffff_ffff_ffff;
+const WORD_MAX: u64 = u64::MAX;
 
 // What the exponents that are too small come to in a word.
 const SMALL_POWERS: u64 = HALF * EXPONENT_MIN as u64;

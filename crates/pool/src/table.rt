@@ -25,10 +25,11 @@ impl<'a> Tables<'a> {
         ensures { result ≡ nodes self.entry i }
     {
         let at = i as usize;
-        if at < LIMIT {
-            return Node::decode(self.kinds[at], self.words[at]);
+        let (kinds, words) = (self.kinds, self.words);
+        match (kinds.get(at), words.get(at)) {
+            (Some(kind), Some(word)) => Node::decode(*kind, *word),
+            _ => Node::Empty,
         }
-        Node::Empty
     }
 
     // The low half of the word at a number: the left of two parts, or the base of a Pow. Read from the table, since a node made by value is stored in pieces and
@@ -36,26 +37,21 @@ impl<'a> Tables<'a> {
     pub fn left(self, i: u32) -> u32
         ensures { result ≡ left_in self.entry.words.now i }
     {
-        let at = i as usize;
-        if at < LIMIT {
-            return (self.words[at] % HALF) as u32;
-        }
-        0
+        let words = self.words;
+        words.get(i as usize).map_or(0, |word| (word % HALF) as u32)
     }
 
     // The high half: the right of two parts, or the exponent of a Pow.
     pub fn right(self, i: u32) -> u32
         ensures { result ≡ right_in self.entry.words.now i }
     {
-        let at = i as usize;
-        if at < LIMIT {
-            return (self.words[at] / HALF) as u32;
-        }
-        0
+        let words = self.words;
+        words.get(i as usize).map_or(0, |word| (word / HALF) as u32)
     }
 }
 
-// Both tables, the number of the next node, and the number at which there is no room.
+// Both tables, the number of the next node, and the number at which there is no room. Two tables and node numbers, not a list of nodes or boxes: the C interface lends
+// the pool in this form, and there is no heap.
 #[derive(Drop)]
 pub struct Pool {
     pub kinds: [u8; LIMIT],
