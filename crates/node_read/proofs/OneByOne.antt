@@ -8,7 +8,6 @@ use native.Mathlib.Nat.{not-suc-le-zero}
 use native.Mathlib.Omega.{arith}
 use Rattle.pool.specs.Pool.{Pool, Out, done, refused, append, bind}
 use Rattle.pool.specs.declared.node.Node.{Node}
-use Rattle.shape.specs.Shape.{rename}
 use Rattle.shape.specs.File.{append_first}
 use Rattle.shape.proofs.Lists.{same_or_not}
 
@@ -20,10 +19,6 @@ pub record Appended (q : ℕ → Node) (P : Pool) (n i last : ℕ) (Q : Pool) : 
 pub none_appended : (q : ℕ → Node) (P : Pool) (n : ℕ) {last : ℕ} → last ≡ P.count → Appended q P n 0 last P
 unfolding append_first
 none_appended q P n e = record { few = omega arith; is = rw e }
-
--- an entry with its parts shifted
-pub shifted_by : (p : ℕ → Node) (i by : ℕ) {x y : Node} → y ≡ p i → x ≡ rename (λ j. by + j) y → x ≡ rename (λ j. by + j) (p i)
-shifted_by p i by e h = rw e at h
 
 stays_refused : (q : ℕ → Node) (P : Pool) (k m n : ℕ) → suc m ≤ n → append_first (suc m) q P ≡ refused k → append_first n q P ≡ refused k
 unfolding append_first

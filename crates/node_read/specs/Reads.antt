@@ -1,12 +1,10 @@
--- What the parts of the reader promise: the file's size, its entries in two tables, the test of the whole file, and what a shift asks.
+-- What the parts of the reader promise: the file's size, its entries in two tables, and the test of the whole file.
 -- Assumes nothing.
-use Rattle.std.specs.Prelude.{◌≡◌, Bool, true, List, ℕ, ◌+◌, ◌*◌, ◌<◌, ◌≤◌, length, Result, Ok, Err}
+use Rattle.std.specs.Prelude.{◌≡◌, Bool, true, List, ℕ, ◌+◌, ◌*◌, ◌≤◌, length, Result, Ok, Err}
 use Rattle.refusals.specs.Demand.{demand}
 use Rattle.refusals.specs.Refusals.{wrong_length, wrong_entry, wrong_sequence}
-use Rattle.pool.specs.Nodes.{parts, may_stand_at}
+use Rattle.pool.specs.Nodes.{may_stand_at}
 use Rattle.pool.specs.Pool.{limit, Pool, node_at, each}
-use Rattle.pool.specs.declared.node.Node.{Node}
-use Rattle.shape.specs.Shape.{has}
 use Rattle.shape.specs.File.{size_of, entry_in, entry_of, is_sized, are_nodes, is_in_order}
 use Rattle.shape.specs.Walked.{Falls}
 
@@ -34,7 +32,3 @@ pub record FileTested (r : Result ℕ ℕ) (bs : List ℕ) (E : Pool) : Type 0 w
   pub tested : r ≡ test_file bs
   pub copied : (n : ℕ) → r ≡ Ok n → node_at E ≡ entry_of bs
   pub falls : (n : ℕ) → r ≡ Ok n → Falls (node_at E)
-
--- each part of a node is below a number
-abbrev pub PartsBelow : ℕ → Node → Type 0
-PartsBelow m e = (j : ℕ) → has (parts e) j ≡ true → j < m

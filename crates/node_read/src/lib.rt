@@ -10,10 +10,10 @@ ghost use Rattle.shape.specs.Shape.{rename};
 ghost use Rattle.shape.specs.File.{are_in_order, append_shifted, read_file};
 ghost use Rattle.shape.specs.Demand.{Below};
 ghost use Rattle.shape.specs.Walked.{Falls};
-ghost use Rattle.node_read.specs.Reads.{size_tested, HasEntries, Entered, FileTested, PartsBelow};
+ghost use Rattle.node_read.specs.Reads.{size_tested, HasEntries, Entered, FileTested};
 
 use node_walk::Numbering;
-use pool::{LIMIT, Node, Parts, Pool, ROWS};
+use pool::{LIMIT, Node, Pool, ROWS};
 use refusals::Refusal;
 
 // A file's n, or 7.
@@ -96,17 +96,13 @@ pub fn test_file(file: &[u8], entries: &mut Pool) -> Result<usize, Refusal>
     Ok(n)
 }
 
-// The node with its parts shifted.
-#[tactic(auto, using(node_walk::proofs::Renamed::renamed_none, node_walk::proofs::Renamed::renamed_one, node_walk::proofs::Renamed::renamed_two))]
-fn shifted(node: Node, by: u32) -> Node
-    requires { (by ≤ limit) × PartsBelow limit node }
-    ensures { result ≡ rename (λ j. by + j) node }
+// Entry i with its parts shifted.
+fn shifted(entries: &Pool, i: u32, by: u32) -> Node
+    requires small { (i ≤ limit) × (by ≤ limit) }
+    requires falls { Falls (node_at entries.now) }
+    ensures { result ≡ rename (λ j. by + j) (node_at entries.now i) }
 {
-    match node.parts() {
-        Parts::None => node,
-        Parts::One(a) => node.with_parts(by + a, 0),
-        Parts::Two(a, b) => node.with_parts(by + a, by + b),
-    }
+    node_walk::renamed(entries.node(i), |part| by + part)
 }
 
 // The n entries appended one after the other, their parts shifted by the count; the last is the root.
@@ -118,7 +114,7 @@ fn append_entries(entries: &Pool, n: usize, pool: &mut Pool) -> Result<u32, Refu
     let by = pool.count;
     let mut last = by;
     for i in 0..n {
-        last = pool.append(shifted(entries.node(i as u32), by))?;
+        last = pool.append(shifted(entries, i as u32, by))?;
     }
     Ok(last)
 }

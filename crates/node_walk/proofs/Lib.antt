@@ -1,3 +1,3 @@
 pub mod EachPart
 pub mod Visiting
-pub mod Renamed
+pub mod NewParts

@@ -13,46 +13,18 @@ ghost use Rattle.node_write.specs.Entries.{number_in, Marked, AllMarked, entry_b
 ghost use Rattle.node_write.specs.Output.{HasRoots, file_output, file_into};
 
 use node_walk::Numbering;
-use pool::{LIMIT, Node, Parts, Tables};
+use pool::{Node, Tables};
 use refusals::Refusal;
 
-// A part's number in the file; a mark is that number + 1.
-fn number_of(number: &[u32; LIMIT], part: u32) -> u32
-    requires { Marked number.now part }
-    ensures { result ≡ number_in number.now part }
-{
-    let mark = number[part as usize];
-    mark - 1
-}
-
-// The node with its parts given by their numbers.
-#[tactic(auto, using(node_walk::proofs::Renamed::renamed_none, node_walk::proofs::Renamed::renamed_one, node_walk::proofs::Renamed::renamed_two))]
-fn renumbered(number: &[u32; LIMIT], node: Node) -> Node
-    requires { AllMarked number.now (parts node) }
-    ensures { result ≡ rename (number_in number.now) node }
-{
-    match node.parts() {
-        Parts::None => node,
-        Parts::One(a) => {
-            let only = number_of(number, a);
-            node.with_parts(only, 0)
-        }
-        Parts::Two(a, b) => {
-            let left = number_of(number, a);
-            let right = number_of(number, b);
-            node.with_parts(left, right)
-        }
-    }
-}
-
-// Entry m of the file: the node with number m.
+// Entry m of the file: the node with number m, its parts given by their numbers. A part's mark is its number + 1.
 fn entry(tables: Tables, numbering: &Numbering, m: usize) -> Node
     requires m_lt_limit { m < limit }
     requires all_marked { AllMarked numbering.now.number (parts (nodes tables (get_or numbering.now.order m 0))) }
     ensures { result ≡ entry_by (nodes tables.entry) numbering.now m }
 {
-    let node = tables.node(numbering.order[m]);
-    renumbered(&numbering.number, node)
+    node_walk::renamed(tables.node(numbering.order[m]), |part| {
+        numbering.number[part as usize] - 1
+    })
 }
 
 // The entries from the place `first` on: the kinds of all, a byte each, and behind them the words. Each entry is made once, so both are put in one loop.

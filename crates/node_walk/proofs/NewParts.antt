@@ -1,4 +1,4 @@
--- A node with its parts renamed is the node with other parts: what code that renames by `parts_of` and `with_parts` has made.
+-- A node with its parts renamed is the node with other parts: what code that renames by `parts` and `with_parts` has made.
 -- Assumes nothing.
 use mathlib.Core.Path.{◌≡◌, refl, sym, ap, ◌∙◌, subst⁻¹}
 use mathlib.Core.List.{[], ◌∷◌, map}
