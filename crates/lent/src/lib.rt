@@ -17,24 +17,6 @@ use pool::{Pool, Tables};
 use refusals::Refusal;
 use rules::keeps_rules;
 
-// 1, or both tables and the count as a pool. The entries below the count are copied over an empty pool, since a pool is 0 from the count on. A test
-// that copies on its way is slower: it stops at the first entry that breaks a rule, and so goes entry by entry through all the zeros.
-#[tactic(auto, using(crate::proofs::Finishing::pool_sized))]
-pub fn take_in(kinds: &[u8], words: &[u64], count: u64, pool: &mut Pool) -> Result<(), Refusal>
-    requires pool_value { pool.old ≡ empty }
-    ensures tested { numbered result ≡ demanded (is_pool kinds.now words.now count) broken_pool }
-    ensures taken { OnOk result (pool.new ≡ lent_pool kinds.now words.now count) }
-{
-    if !is_pool(kinds, words, count) {
-        return Err(Refusal::BrokenPool);
-    }
-    let n = count as usize;
-    pool.kinds[..n].copy_from_slice(&kinds[..n]);
-    pool.words[..n].copy_from_slice(&words[..n]);
-    pool.count = count as u32;
-    Ok(())
-}
-
 // Tables of the right lengths.
 fn sized<'a>(kinds: &'a [u8], words: &'a [u64]) -> Option<Tables<'a>>
     ensures lengths { IsSome result ↔ (length kinds.now ≡ limit) × (length words.now ≡ limit) }
@@ -87,17 +69,27 @@ impl<'a> Lent<'a> {
         }
     }
 
-    // 1, or what is lent as a pool.
+    // 1, or what is lent as a pool. The entries below the count are copied over an empty pool, since a pool is 0 from the count on. A test that copies on its way
+    // is slower: it stops at the first entry that breaks a rule, and so goes entry by entry through all the zeros.
+    #[tactic(auto, using(crate::proofs::Finishing::pool_sized, crate::proofs::Taken::as_many_kinds, crate::proofs::Taken::as_many_words))]
     pub fn take_in(&self, pool: &mut Pool) -> Result<(), Refusal>
         requires pool_value { pool.old ≡ empty }
         ensures tested { numbered result ≡ demanded (on_lent is_pool self.now) broken_pool }
         ensures taken { OnOk result (pool.new ≡ on_lent lent_pool self.now) }
     {
-        take_in(self.kinds, self.words, *self.count, pool)
+        if !is_pool(self.kinds, self.words, *self.count) {
+            return Err(Refusal::BrokenPool);
+        }
+        let n = *self.count as usize;
+        pool.kinds[..n].copy_from_slice(&self.kinds[..n]);
+        pool.words[..n].copy_from_slice(&self.words[..n]);
+        pool.count = *self.count as u32;
+        Ok(())
     }
 
     // The entries that work has appended and the new count, put back where the rest is the same already. Entry by entry: as copies of slices they would need memmove of
     // the C library, which the archive does without.
+    #[tactic(auto, using(crate::proofs::Finishing::fits_back, crate::proofs::Overwrite::as_long))]
     pub fn put_back(&mut self, pool: &Pool)
         requires count_value { on_lent is_pool self.old ≡ true }
         requires grown { Grown (on_lent (lent_pool_to pool.now.end) self.old) pool.now }

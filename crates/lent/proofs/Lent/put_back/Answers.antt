@@ -3,33 +3,11 @@
 use mathlib.Core.Path.{refl}
 use native.Mathlib.Omega.{arith}
 use Rattle.lent.proofs.Finishing.{fits_back}
-use Rattle.lent.proofs.Overwrite.{starts_at, one_more, as_long}
+use Rattle.lent.proofs.Overwrite.{starts_at, one_more}
 use Rattle.lent.proofs.Lent.put_back.Goals as goal
 
 pub loop-i-init : goal.loop-i-init
 loop-i-init c = ((refl, refl, refl), starts_at c.requires.grown.kinds, starts_at c.requires.grown.words)
-
-pub bounds-pool-i : goal.bounds-pool-i
-bounds-pool-i c =
-    let s = fits_back c.args.self.now.kinds.now c.args.self.now.words.now c.args.self.now.count.now c.args.pool.now c.requires.count_value c.requires.grown in
-    omega (arith, s.ends, c.loop-i-test.true)
-
-pub bounds-self-i : goal.bounds-self-i
-bounds-self-i c =
-    let s = fits_back c.args.self.now.kinds.now c.args.self.now.words.now c.args.self.now.count.now c.args.pool.now c.requires.count_value c.requires.grown in
-    let o = c.loop-i.invariant.1 in
-    omega (arith, as_long o (omega (arith, s.ends, s.kinds_long, o.same, c.loop-i-test.true)), s.ends, s.kinds_long, c.loop-i-test.true)
-
-pub bounds-pool-i-in-loop-i : goal.bounds-pool-i-in-loop-i
-bounds-pool-i-in-loop-i c =
-    let s = fits_back c.args.self.now.kinds.now c.args.self.now.words.now c.args.self.now.count.now c.args.pool.now c.requires.count_value c.requires.grown in
-    omega (arith, s.ends, c.loop-i-test.true)
-
-pub bounds-self-i-in-loop-i : goal.bounds-self-i-in-loop-i
-bounds-self-i-in-loop-i c =
-    let s = fits_back c.args.self.now.kinds.now c.args.self.now.words.now c.args.self.now.count.now c.args.pool.now c.requires.count_value c.requires.grown in
-    let o = c.loop-i.invariant.2 in
-    omega (arith, as_long o (omega (arith, s.ends, s.words_long, o.same, c.loop-i-test.true)), s.ends, s.words_long, c.loop-i-test.true)
 
 pub loop-i-preserved : goal.loop-i-preserved
 loop-i-preserved c =

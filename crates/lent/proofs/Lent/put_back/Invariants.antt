@@ -1,6 +1,5 @@
 -- `lent::Lent::put_back` meets its contract: after each turn the tables are the new ones up to the entry and the old ones from there.
 -- Assumes nothing.
-use mathlib.Core.Path.{◌≡◌}
 use Rattle.lent.specs.Call.{SameLent}
 use Rattle.lent.proofs.Overwrite.{Overwritten}
 use Rattle.lent.proofs.Lent.put_back.Given as goal
