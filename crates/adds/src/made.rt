@@ -1,4 +1,5 @@
-// `add` as a function of depth: a rule is found, and what it says is built one deeper.
+// `add` as a function of depth: a rule is found, and what it says is built one deeper. The pool and the depth are two parameters: the depth falls at each call, and a
+// struct of both would be made anew at each.
 ghost use Rattle.std.specs.Prelude.{◌≡◌, ◌+ℤ◌};
 ghost use Rattle.refusals.specs.Numbers.{numbered};
 ghost use Rattle.constructors.specs.Terms.{#, lit, add};
@@ -22,17 +23,14 @@ pub fn lit_in(pool: &mut Pool, folded: Result<i64, Refusal>) -> Result<u32, Refu
 pub fn add_in(pool: &mut Pool, left: u32, lhs: u32, rhs: u32) -> Result<u32, Refusal>
     ensures { made result pool.new ≡ (calls left).add_at lhs rhs pool.old }
 {
-    if left == 0 {
-        return Err(Refusal::TooDeep);
-    }
-    let rule = crate::rule::add_rule(pool, lhs, rhs);
-    match rule {
+    let deep = left.checked_sub(1).ok_or(Refusal::TooDeep)?;
+    match crate::rule::add_rule(pool, lhs, rhs) {
         AddRule::Same(a) => Ok(a),
         AddRule::Sum(x, y) => lit_in(pool, literal::sum(x, y)),
-        AddRule::Onto(b, x, y) => add_onto(pool, left - 1, b, x, y),
+        AddRule::Onto(b, x, y) => add_onto(pool, deep, b, x, y),
         AddRule::Plain(a, b) => pool.append(Node::Add(a, b)),
-        AddRule::Sums(a, c, x, y) => add_sums(pool, left - 1, a, c, x, y),
-        AddRule::Chain(a, b, c) => add_chain(pool, left - 1, a, b, c),
+        AddRule::Sums(a, c, x, y) => add_sums(pool, deep, a, c, x, y),
+        AddRule::Chain(a, b, c) => add_chain(pool, deep, a, b, c),
     }
 }
 

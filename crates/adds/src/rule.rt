@@ -9,7 +9,7 @@ ghost use Rattle.adds.specs.Rule.{add_term};
 
 use pool::{Node, Pool};
 
-// What is to be built; numbers of nodes are u32, literals i64.
+// What is to be built, a term of the definition's table. It is found first and then built, since the pool is only read while the rule is sought. Numbers of nodes are u32, literals i64.
 #[derive(Clone, Copy)]
 pub enum AddRule {
     // the node itself
@@ -32,7 +32,7 @@ pub fn add_rule(pool: &Pool, lhs: u32, rhs: u32) -> AddRule
 {
     match pool.node(lhs) {
         Node::Lit(a) => lit_rule(pool, lhs, rhs, a),
-        Node::Add(a, b) => sum_rule(pool, lhs, rhs, a, b),
+        Node::Add(a, b) => Sum { pool, lhs, a, b }.beside(rhs),
         _ => other_rule(pool, lhs, rhs),
     }
 }
@@ -57,51 +57,60 @@ fn lit_rule(pool: &Pool, lhs: u32, rhs: u32, a: i64) -> AddRule
     }
 }
 
-// On the left is Add(a, b). This function and the next two say so each: a struct that held the node with its parts would say it as its invariant, and be made for these calls alone.
-#[tactic(auto, using(views::proofs::Missed::lit_missed, views::proofs::Missed::add_missed, crate::proofs::Rules::sum_beside))]
-fn sum_rule(pool: &Pool, lhs: u32, rhs: u32, a: u32, b: u32) -> AddRule
-    requires left { node_at pool.now lhs ≡ Add a b }
-    ensures { add_term result ≡ add_table (node_at pool.now) lhs rhs }
-{
-    match pool.node(rhs) {
-        Node::Lit(l) => sum_lit_rule(pool, lhs, rhs, a, b, l),
-        Node::Add(c, d) => sums_rule(pool, lhs, rhs, a, b, c, d),
-        _ => AddRule::Plain(lhs, rhs),
-    }
+// The node on the left, where it is the sum of a and b.
+#[derive(Clone, Copy)]
+struct Sum<'a> {
+    pool: &'a Pool,
+    lhs: u32,
+    a: u32,
+    b: u32,
+    ghost is_sum: { node_at pool.now lhs ≡ Add a b },
 }
 
-// On the left is Add(a, b), on the right Lit(l).
-#[tactic(auto, using(crate::proofs::Rules::zero_on_sum, crate::proofs::Rules::sum_onto_lit, crate::proofs::Rules::sum_beside_lit))]
-fn sum_lit_rule(pool: &Pool, lhs: u32, rhs: u32, a: u32, b: u32, l: i64) -> AddRule
-    requires left { node_at pool.now lhs ≡ Add a b }
-    requires right { node_at pool.now rhs ≡ Lit l }
-    ensures { add_term result ≡ add_table (node_at pool.now) lhs rhs }
-{
-    if literal::is_zero(l) {
-        return AddRule::Same(lhs);
+impl<'a> Sum<'a> {
+    // On the right is any node.
+    #[tactic(auto, using(views::proofs::Missed::lit_missed, views::proofs::Missed::add_missed, crate::proofs::Rules::sum_beside))]
+    fn beside(self, rhs: u32) -> AddRule
+        ensures { add_term result ≡ add_table (node_at self.entry.pool.now) self.entry.lhs rhs }
+    {
+        match self.pool.node(rhs) {
+            Node::Lit(l) => self.beside_lit(rhs, l),
+            Node::Add(c, d) => self.beside_sum(rhs, c, d),
+            _ => AddRule::Plain(self.lhs, rhs),
+        }
     }
-    match views::literal_at(pool, a) {
-        Some(x) => AddRule::Onto(b, l, x),
-        None => AddRule::Plain(lhs, rhs),
-    }
-}
 
-// On the left is Add(a, b), on the right Add(c, d).
-#[tactic(auto, using(crate::proofs::Rules::lits_of_sums, crate::proofs::Rules::lit_of_left, crate::proofs::Rules::lit_of_right, crate::proofs::Rules::no_lits))]
-fn sums_rule(pool: &Pool, lhs: u32, rhs: u32, a: u32, b: u32, c: u32, d: u32) -> AddRule
-    requires left { node_at pool.now lhs ≡ Add a b }
-    requires right { node_at pool.now rhs ≡ Add c d }
-    ensures { add_term result ≡ add_table (node_at pool.now) lhs rhs }
-{
-    match views::literal_at(pool, b) {
-        Some(x) => match views::literal_at(pool, d) {
-            Some(y) => AddRule::Sums(a, c, x, y),
-            None => AddRule::Chain(a, rhs, b),
-        },
-        None => match views::literal_at(pool, d) {
-            Some(_) => AddRule::Chain(lhs, c, d),
-            None => AddRule::Plain(lhs, rhs),
-        },
+    // On the right is Lit(l).
+    #[tactic(auto, using(crate::proofs::Rules::zero_on_sum, crate::proofs::Rules::sum_onto_lit, crate::proofs::Rules::sum_beside_lit))]
+    fn beside_lit(self, rhs: u32, l: i64) -> AddRule
+        requires { node_at self.pool.now rhs ≡ Lit l }
+        ensures { add_term result ≡ add_table (node_at self.entry.pool.now) self.entry.lhs rhs }
+    {
+        if literal::is_zero(l) {
+            return AddRule::Same(self.lhs);
+        }
+        match views::literal_at(self.pool, self.a) {
+            Some(x) => AddRule::Onto(self.b, l, x),
+            None => AddRule::Plain(self.lhs, rhs),
+        }
+    }
+
+    // On the right is Add(c, d).
+    #[tactic(auto, using(crate::proofs::Rules::lits_of_sums, crate::proofs::Rules::lit_of_left, crate::proofs::Rules::lit_of_right, crate::proofs::Rules::no_lits))]
+    fn beside_sum(self, rhs: u32, c: u32, d: u32) -> AddRule
+        requires { node_at self.pool.now rhs ≡ Add c d }
+        ensures { add_term result ≡ add_table (node_at self.entry.pool.now) self.entry.lhs rhs }
+    {
+        match views::literal_at(self.pool, self.b) {
+            Some(x) => match views::literal_at(self.pool, d) {
+                Some(y) => AddRule::Sums(self.a, c, x, y),
+                None => AddRule::Chain(self.a, rhs, self.b),
+            },
+            None => match views::literal_at(self.pool, d) {
+                Some(_) => AddRule::Chain(self.lhs, c, d),
+                None => AddRule::Plain(self.lhs, rhs),
+            },
+        }
     }
 }
 

@@ -14,14 +14,11 @@ use refusals::Refusal;
 pub fn log_in(pool: &mut Pool, left: u32, arg: u32) -> Result<u32, Refusal>
     ensures { made result pool.new ≡ (calls left).log_at arg pool.old }
 {
-    if left == 0 {
-        return Err(Refusal::TooDeep);
-    }
-    let rule = crate::rule::log_rule(pool, arg);
-    match rule {
+    let deep = left.checked_sub(1).ok_or(Refusal::TooDeep)?;
+    match crate::rule::log_rule(pool, arg) {
         LogRule::Zero => adds::lit_in(pool, literal::fold(0)),
         LogRule::Literal(a) => adds::lit_in(pool, literal::log_literal(a)),
-        LogRule::Product(a, b) => log_product(pool, left - 1, a, b),
+        LogRule::Product(a, b) => log_product(pool, deep, a, b),
         LogRule::Plain(a) => pool.append(Node::Log(a)),
     }
 }
@@ -37,7 +34,7 @@ fn log_product(pool: &mut Pool, left: u32, a: i64, b: u32) -> Result<u32, Refusa
     adds::add_in(pool, left, s, t)
 }
 
-// The quotient of two nodes, with `left` constructors left to run inside one another.
+// The quotient of two nodes, with `left` constructors left to run inside one another. No constructor runs inside it, so `left` is only tested.
 #[tactic(auto, using(views::proofs::Steps::runs_deeper, views::proofs::Steps::none_left), unfolding(constructors::specs::Build::build))]
 pub fn div_in(pool: &mut Pool, left: u32, lhs: u32, rhs: u32) -> Result<u32, Refusal>
     ensures { made result pool.new ≡ (calls left).div_at lhs rhs pool.old }
@@ -45,15 +42,14 @@ pub fn div_in(pool: &mut Pool, left: u32, lhs: u32, rhs: u32) -> Result<u32, Ref
     if left == 0 {
         return Err(Refusal::TooDeep);
     }
-    let rule = crate::rule::div_rule(pool, lhs, rhs);
-    match rule {
+    match crate::rule::div_rule(pool, lhs, rhs) {
         DivRule::Zero => adds::lit_in(pool, literal::fold(0)),
         DivRule::Same(a) => Ok(a),
         DivRule::Plain(a, b) => pool.append(Node::Div(a, b)),
     }
 }
 
-// The greater of two nodes, with `left` constructors left to run inside one another.
+// The greater of two nodes, with `left` constructors left to run inside one another: only tested, as in div_in.
 #[tactic(auto, using(views::proofs::Steps::runs_deeper, views::proofs::Steps::none_left), unfolding(constructors::specs::Build::build))]
 pub fn max_in(pool: &mut Pool, left: u32, lhs: u32, rhs: u32) -> Result<u32, Refusal>
     ensures { made result pool.new ≡ (calls left).max_at lhs rhs pool.old }

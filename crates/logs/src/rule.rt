@@ -6,7 +6,7 @@ ghost use Rattle.logs.specs.Rule.{log_term, div_term};
 
 use pool::{Node, Pool};
 
-// What `log` has to build.
+// What `log` has to build, a term of the definition's table. It is found first and then built, since the pool is only read while the rule is sought.
 #[derive(Clone, Copy)]
 pub enum LogRule {
     // lit(0)
@@ -19,7 +19,7 @@ pub enum LogRule {
     Plain(u32),
 }
 
-// What `div` has to build.
+// What `div` has to build, as `LogRule`.
 #[derive(Clone, Copy)]
 pub enum DivRule {
     // lit(0)

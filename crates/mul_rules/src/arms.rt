@@ -52,13 +52,9 @@ pub fn one_lit(pool: &Pool, a: i64, other: u32) -> Option<MulRule>
 pub fn one_exp(pool: &Pool, a1: u32, a2: u32, b: u32) -> Option<MulRule>
     ensures { arm_of result ≡ inside (one_exp (node_at pool.now) a1 a2 b) }
 {
-    if let Some(x) = views::exp_at(pool, a2) {
-        return Some(MulRule::OverExp(a1, x, b));
-    }
-    if let Some(x) = views::exp_at(pool, a1) {
-        return Some(MulRule::OverExp(a2, x, b));
-    }
-    None
+    views::exp_at(pool, a2)
+        .map(|x| MulRule::OverExp(a1, x, b))
+        .or_else(|| views::exp_at(pool, a1).map(|x| MulRule::OverExp(a2, x, b)))
 }
 
 // A product of a1 and a2, and one of b1 and b2: each may have an Exp.

@@ -41,25 +41,18 @@ impl<'a> Factors<'a> {
     pub fn lits(self) -> Option<MulRule>
         ensures { arm_of result ≡ inside (mul_lits (node_at self.entry.pool.now) self.entry.lhs self.entry.rhs) }
     {
-        let Factors {
-            pool,
-            lhs,
-            rhs,
-            left,
-            right,
-        } = self;
-        match left {
-            Node::Lit(a) => match right {
-                Node::Lit(b) => Some(arms::two_lits(a, b, lhs, rhs)),
-                _ => arms::one_lit(pool, a, rhs),
+        match self.left {
+            Node::Lit(a) => match self.right {
+                Node::Lit(b) => Some(arms::two_lits(a, b, self.lhs, self.rhs)),
+                _ => arms::one_lit(self.pool, a, self.rhs),
             },
-            Node::Exp(a) => match right {
-                Node::Lit(b) => arms::one_lit(pool, b, lhs),
+            Node::Exp(a) => match self.right {
+                Node::Lit(b) => arms::one_lit(self.pool, b, self.lhs),
                 Node::Exp(b) => Some(MulRule::ExpSum(a, b)),
                 _ => None,
             },
-            _ => match right {
-                Node::Lit(b) => arms::one_lit(pool, b, lhs),
+            _ => match self.right {
+                Node::Lit(b) => arms::one_lit(self.pool, b, self.lhs),
                 _ => None,
             },
         }
@@ -70,21 +63,14 @@ impl<'a> Factors<'a> {
     pub fn exps(self) -> Option<MulRule>
         ensures { arm_of result ≡ inside (mul_exps (node_at self.entry.pool.now) self.entry.lhs self.entry.rhs) }
     {
-        let Factors {
-            pool,
-            lhs,
-            rhs,
-            left,
-            right,
-        } = self;
-        match left {
-            Node::Mul(a1, a2) => match right {
-                Node::Exp(b) => arms::one_exp(pool, a1, a2, b),
-                Node::Mul(b1, b2) => arms::two_exps(pool, a1, a2, b1, b2),
+        match self.left {
+            Node::Mul(a1, a2) => match self.right {
+                Node::Exp(b) => arms::one_exp(self.pool, a1, a2, b),
+                Node::Mul(b1, b2) => arms::two_exps(self.pool, a1, a2, b1, b2),
                 _ => None,
             },
-            Node::Exp(b) => match right {
-                Node::Mul(a1, a2) => arms::one_exp(pool, a1, a2, b),
+            Node::Exp(b) => match self.right {
+                Node::Mul(a1, a2) => arms::one_exp(self.pool, a1, a2, b),
                 _ => None,
             },
             _ => None,
@@ -96,20 +82,13 @@ impl<'a> Factors<'a> {
     pub fn ahead(self) -> Option<MulRule>
         ensures { arm_of result ≡ inside (mul_left (node_at self.entry.pool.now) self.entry.lhs self.entry.rhs) }
     {
-        let Factors {
-            pool,
-            lhs,
-            rhs,
-            left,
-            right,
-        } = self;
-        match left {
-            Node::Mul(a1, a2) => match right {
-                Node::Mul(b1, b2) => arms::lits_ahead(pool, a1, a2, b1, b2),
-                _ => arms::lit_ahead(pool, a1, a2, rhs),
+        match self.left {
+            Node::Mul(a1, a2) => match self.right {
+                Node::Mul(b1, b2) => arms::lits_ahead(self.pool, a1, a2, b1, b2),
+                _ => arms::lit_ahead(self.pool, a1, a2, self.rhs),
             },
-            _ => match right {
-                Node::Mul(b1, b2) => arms::lit_ahead(pool, b1, b2, lhs),
+            _ => match self.right {
+                Node::Mul(b1, b2) => arms::lit_ahead(self.pool, b1, b2, self.lhs),
                 _ => None,
             },
         }
@@ -120,20 +99,13 @@ impl<'a> Factors<'a> {
     pub fn pows(self) -> Option<MulRule>
         ensures { arm_of result ≡ inside (mul_pows (node_at self.entry.pool.now) self.entry.lhs self.entry.rhs) }
     {
-        let Factors {
-            pool,
-            lhs,
-            rhs,
-            left,
-            right,
-        } = self;
-        match left {
+        match self.left {
             Node::Mul(a1, a2) => {
-                if a2 == rhs {
+                if a2 == self.rhs {
                     return Some(MulRule::Power(a1, a2, 1, 1));
                 }
-                match right {
-                    Node::Pow(b, n) => arms::two_pows(pool, a1, a2, b, n),
+                match self.right {
+                    Node::Pow(b, n) => arms::two_pows(self.pool, a1, a2, b, n),
                     _ => None,
                 }
             }

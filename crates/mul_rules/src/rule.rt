@@ -1,6 +1,7 @@
 // What the rules of `mul` say.
 
-// What is to be built; numbers of nodes and exponents are u32, literals i64.
+// What is to be built, a term of the definition's table. It is found first and then built, since the pool is only read while the rule is sought. Numbers of nodes and
+// exponents are u32, literals i64.
 #[derive(Clone, Copy)]
 pub enum MulRule {
     // lit(0)

@@ -1,4 +1,5 @@
-// `mul` and `exp` as functions of depth, which call each other: a rule is found, and what it says is built one deeper.
+// `mul` and `exp` as functions of depth, which call each other: a rule is found, and what it says is built one deeper. The pool and the depth are two parameters: the
+// depth falls at each call, and a struct of both would be made anew at each.
 ghost use Rattle.std.specs.Prelude.{◌≡◌, ◌+◌, ◌*ℤ◌};
 ghost use Rattle.constructors.specs.Terms.{#, lit, lit_exp, add, mul, exp, pow, Mul};
 ghost use Rattle.constructors.specs.Build.{build, calls, no_calls};
@@ -15,12 +16,8 @@ use refusals::Refusal;
 pub fn mul_in(pool: &mut Pool, left: u32, lhs: u32, rhs: u32) -> Result<u32, Refusal>
     ensures { made result pool.new ≡ (calls left).mul_at lhs rhs pool.old }
 {
-    if left == 0 {
-        return Err(Refusal::TooDeep);
-    }
-    let deep = left - 1;
-    let rule = mul_rules::mul_rule(pool, lhs, rhs);
-    match rule {
+    let deep = left.checked_sub(1).ok_or(Refusal::TooDeep)?;
+    match mul_rules::mul_rule(pool, lhs, rhs) {
         MulRule::Zero => adds::lit_in(pool, literal::fold(0)),
         MulRule::Same(a) => Ok(a),
         MulRule::ExpSum(a, b) => exp_sum(pool, deep, a, b),
@@ -41,14 +38,11 @@ pub fn mul_in(pool: &mut Pool, left: u32, lhs: u32, rhs: u32) -> Result<u32, Ref
 pub fn exp_in(pool: &mut Pool, left: u32, arg: u32) -> Result<u32, Refusal>
     ensures { made result pool.new ≡ (calls left).exp_at arg pool.old }
 {
-    if left == 0 {
-        return Err(Refusal::TooDeep);
-    }
-    let rule = crate::rule::exp_rule(pool, arg);
-    match rule {
+    let deep = left.checked_sub(1).ok_or(Refusal::TooDeep)?;
+    match crate::rule::exp_rule(pool, arg) {
         ExpRule::One => adds::lit_in(pool, literal::fold(1)),
         ExpRule::Literal(z) => adds::lit_in(pool, literal::exp_literal(z)),
-        ExpRule::Shifted(z, a) => exp_shifted(pool, left - 1, z, a),
+        ExpRule::Shifted(z, a) => exp_shifted(pool, deep, z, a),
         ExpRule::Plain(a) => pool.append(Node::Exp(a)),
     }
 }

@@ -6,7 +6,7 @@ ghost use Rattle.muls.specs.Rule.{exp_term};
 
 use pool::{Node, Pool};
 
-// What is to be built; numbers of nodes are u32, literals i64.
+// What is to be built, a term of the definition's table. It is found first and then built, since the pool is only read while the rule is sought. Numbers of nodes are u32, literals i64.
 #[derive(Clone, Copy)]
 pub enum ExpRule {
     // lit(1)
