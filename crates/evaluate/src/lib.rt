@@ -15,11 +15,7 @@ use value_walk::{Values, kept_at};
 pub fn value_of_variable(values: &[f64], v: u32) -> Result<f64, Refusal>
     ensures { numbered result ≡ value_of_variable values.now v }
 {
-    let at = v as usize;
-    if at < values.len() {
-        return Ok(values[at]);
-    }
-    Err(Refusal::NoValue)
+    value_walk::value_given(values, v)
 }
 
 // The values of the variables.
@@ -45,8 +41,7 @@ impl<'a> Values for Doubles<'a> {
             Node::Add(a, b) => Ok(double::sum(kept_at(kept, a), kept_at(kept, b))),
             Node::Mul(a, b) => Ok(double::product(kept_at(kept, a), kept_at(kept, b))),
             Node::Div(a, b) => Ok(double::quotient(kept_at(kept, a), kept_at(kept, b))),
-            Node::Exp(_) => Err(Refusal::NotEvaluated),
-            Node::Log(_) => Err(Refusal::NotEvaluated),
+            Node::Exp(_) | Node::Log(_) => Err(Refusal::NotEvaluated),
             Node::Pow(a, e) => Ok(double::pow(kept_at(kept, a), e)),
             Node::Max(a, b) => Ok(double::max(kept_at(kept, a), kept_at(kept, b))),
         }

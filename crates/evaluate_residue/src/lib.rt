@@ -16,11 +16,7 @@ use value_walk::{Values, kept_at};
 fn value_of_variable(values: &[u32], v: u32) -> Result<u64, Refusal>
     ensures { numbered result ≡ value_of_variable values.now v }
 {
-    let at = v as usize;
-    if at < values.len() {
-        return Ok(values[at] as u64);
-    }
-    Err(Refusal::NoValue)
+    value_walk::value_given(values, v).map(u64::from)
 }
 
 // The residues of the variables, by a modulus.
@@ -50,10 +46,8 @@ impl<'a> Values for Given<'a> {
             Node::Add(a, b) => Ok(residues.sum(kept_at(kept, a), kept_at(kept, b))),
             Node::Mul(a, b) => Ok(residues.product(kept_at(kept, a), kept_at(kept, b))),
             Node::Div(a, b) => residues.quotient(kept_at(kept, a), kept_at(kept, b)),
-            Node::Exp(_) => Err(Refusal::NotEvaluated),
-            Node::Log(_) => Err(Refusal::NotEvaluated),
             Node::Pow(a, e) => Ok(residues.power(kept_at(kept, a), e)),
-            Node::Max(_, _) => Err(Refusal::NotEvaluated),
+            Node::Exp(_) | Node::Log(_) | Node::Max(_, _) => Err(Refusal::NotEvaluated),
         }
     }
 }

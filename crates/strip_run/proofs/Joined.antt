@@ -1,36 +1,47 @@
--- A number read in two parts, each low byte first.
+-- A number of a width, read from the bytes from a place on, low byte first.
 -- Assumes nothing.
-use mathlib.Core.Path.{◌≡◌, sym, ap, ap₂, ◌∙◌}
-use mathlib.Core.List.{List}
+use mathlib.Core.Path.{◌≡◌, refl}
+use mathlib.Core.List.{List, [], ◌∷◌}
 use Prim.Native.Nat.{ℕ, zero, suc, ◌+◌, ◌*◌, ◌^◌}
-use native.Mathlib.Nat.{pow-suc, suc-add, mul_assoc, mul_comm}
 use native.Mathlib.Omega.{arith}
-use lib.ListN.{get_or}
+use lib.ListN.{take, drop}
+use Rattle.std.specs.Int.{w16, w32, w64, from_le_bytes}
 use Rattle.low_bytes.specs.LowBytes.{number_at}
 
--- the high part weighs as much as all numbers of the low one's width
-pub number_joined : (m n : ℕ) (bs : List ℕ) (at : ℕ) → number_at m bs at + 256 ^ m * number_at n bs (at + m) ≡ number_at (m + n) bs at
-number_joined zero n bs at = ap₂ (λ i k. 0 + 1 * number_at k bs i) here alone ∙ plain (number_at (zero + n) bs at)
-  where
-    here : at + 0 ≡ at
-    here = omega arith
+two_first : (a b : ℕ) → a + b * 256 ^ 1 ≡ a + 256 * (b + 256 * 0)
+two_first a b = omega arith
 
-    alone : n ≡ zero + n
-    alone = omega arith
+pub two_joined : (bs : List ℕ) (at : ℕ) → from_le_bytes w16 (take 2 (drop at bs)) ≡ number_at 2 bs at
+two_joined [] zero = two_first 0 0
+two_joined (a ∷ []) zero = two_first a 0
+two_joined (a ∷ b ∷ bs) zero = two_first a b
+two_joined [] (suc at) = refl
+two_joined (a ∷ bs) (suc at) = two_joined bs at
 
-    plain : (x : ℕ) → 0 + 1 * x ≡ x
-    plain x = omega arith
-number_joined (suc m) n bs at =
-    ap₂ (λ p i. get_or bs at 0 + 256 * number_at m bs (suc at) + p * number_at n bs i) (pow-suc 256 m) (later at m)
-    ∙ shifted (get_or bs at 0) (number_at m bs (suc at)) (256 ^ m) (number_at n bs (suc at + m))
-    ∙ ap (λ x. get_or bs at 0 + 256 * x) (number_joined m n bs (suc at))
-    ∙ sym (ap (λ k. number_at k bs at) (suc-add m n))
-  where
-    later : (i j : ℕ) → i + suc j ≡ suc i + j
-    later i j = omega arith
+four_first : (a b c d : ℕ) → a + b * 256 ^ 1 + c * 256 ^ 2 + d * 256 ^ 3 ≡ a + 256 * (b + 256 * (c + 256 * (d + 256 * 0)))
+four_first a b c d = omega arith
 
-    shifted : (g a p x : ℕ) → g + 256 * a + p * 256 * x ≡ g + 256 * (a + p * x)
-    shifted g a p x = ap (λ y. g + 256 * a + y) (ap (λ q. q * x) (mul_comm p 256) ∙ mul_assoc 256 p x) ∙ spread g a (p * x)
-      where
-        spread : (g a y : ℕ) → g + 256 * a + 256 * y ≡ g + 256 * (a + y)
-        spread g a y = omega arith
+pub four_joined : (bs : List ℕ) (at : ℕ) → from_le_bytes w32 (take 4 (drop at bs)) ≡ number_at 4 bs at
+four_joined [] zero = four_first 0 0 0 0
+four_joined (a ∷ []) zero = four_first a 0 0 0
+four_joined (a ∷ b ∷ []) zero = four_first a b 0 0
+four_joined (a ∷ b ∷ c ∷ []) zero = four_first a b c 0
+four_joined (a ∷ b ∷ c ∷ d ∷ bs) zero = four_first a b c d
+four_joined [] (suc at) = refl
+four_joined (a ∷ bs) (suc at) = four_joined bs at
+
+eight_first : (a b c d e f g h : ℕ) → a + b * 256 ^ 1 + c * 256 ^ 2 + d * 256 ^ 3 + e * 256 ^ 4 + f * 256 ^ 5 + g * 256 ^ 6 + h * 256 ^ 7 ≡ a + 256 * (b + 256 * (c + 256 * (d + 256 * (e + 256 * (f + 256 * (g + 256 * (h + 256 * 0)))))))
+eight_first a b c d e f g h = omega arith
+
+pub eight_joined : (bs : List ℕ) (at : ℕ) → from_le_bytes w64 (take 8 (drop at bs)) ≡ number_at 8 bs at
+eight_joined [] zero = eight_first 0 0 0 0 0 0 0 0
+eight_joined (a ∷ []) zero = eight_first a 0 0 0 0 0 0 0
+eight_joined (a ∷ b ∷ []) zero = eight_first a b 0 0 0 0 0 0
+eight_joined (a ∷ b ∷ c ∷ []) zero = eight_first a b c 0 0 0 0 0
+eight_joined (a ∷ b ∷ c ∷ d ∷ []) zero = eight_first a b c d 0 0 0 0
+eight_joined (a ∷ b ∷ c ∷ d ∷ e ∷ []) zero = eight_first a b c d e 0 0 0
+eight_joined (a ∷ b ∷ c ∷ d ∷ e ∷ f ∷ []) zero = eight_first a b c d e f 0 0
+eight_joined (a ∷ b ∷ c ∷ d ∷ e ∷ f ∷ g ∷ []) zero = eight_first a b c d e f g 0
+eight_joined (a ∷ b ∷ c ∷ d ∷ e ∷ f ∷ g ∷ h ∷ bs) zero = eight_first a b c d e f g h
+eight_joined [] (suc at) = refl
+eight_joined (a ∷ bs) (suc at) = eight_joined bs at

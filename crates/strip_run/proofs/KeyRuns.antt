@@ -21,7 +21,7 @@ use Rattle.walks.specs.Evaluate.{one, value_of_variable, evaluate_node}
 use Rattle.key_strip.specs.Strip.{most_places}
 use Rattle.key_strip.specs.Machine.{following, key_of, keys_within, keys_of, taken, accepts, in_place, run_from, run_strip}
 use Rattle.strip_run.specs.Held.{in_use}
-use Rattle.strip_run.specs.Running.{machine, Running, ran, RanTo}
+use Rattle.strip_run.specs.Running.{machine, RunningAt, ran, RanTo}
 use Rattle.strip_run.specs.declared.running.Machine.{Machine}
 use Rattle.strip_run.proofs.Codes.{literal_key, no_literal_key, power_key, no_power_key}
 use Rattle.strip_run.proofs.Cut.{key_of_code, code_cut, code_alone, variable_first, unknown_first}
@@ -79,7 +79,7 @@ pair_value values places multiplies = refl
 pair_value values places divides = refl
 pair_value values places compares = refl
 
-module _ {s : List ℕ} {values held : List Float} {at d : ℕ} {top below : Float} (t : Running s values held at d top below) where
+module _ {s : List ℕ} {values held : List Float} {at d : ℕ} {top below : Float} (t : RunningAt s values held at d top below) where
   -- a key stands at the place, and the rest of the strip after it
   module _ (key : Node) (next : ℕ) (first : keys_of (drop at s) ≡ key ∷ keys_of (drop next s)) where
     tested : accepts d (key ∷ keys_of (drop next s)) ≡ true
@@ -230,7 +230,7 @@ module _ {s : List ℕ} {values held : List Float} {at d : ℕ} {top below : Flo
 pub ran_as : (s : List ℕ) (values : List Float) (at : ℕ) {held held' : List Float} {r r' : Result Machine ℕ} → r' ≡ r → held' ≡ held → RanTo s values at held r → RanTo s values at held' r'
 ran_as s values at e h ran = rw (e, h) ran
 
-pub all_run : {s : List ℕ} {values held : List Float} {at d : ℕ} {top below : Float} → Running s values held at d top below → length s ≤ at → Ok top ≡ run_strip values s
+pub all_run : {s : List ℕ} {values held : List Float} {at d : ℕ} {top below : Float} → RunningAt s values held at d top below → length s ≤ at → Ok top ≡ run_strip values s
 unfolding accepts run_from keys_within
 all_run {s} {values} {held} {at} {d} {top} {below} t l =
     let one_left : d ≡ 1 = eqb-true d 1 (sym (ap (λ bs. accepts d (keys_of bs)) (drop_of_length-le s l)) ∙ t.takes) in

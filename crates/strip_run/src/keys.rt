@@ -6,7 +6,8 @@ ghost use Rattle.strip_run.specs.Keys.{KeyAt};
 
 use pool::{HALF, Node};
 
-// How many bytes follow a code.
+// How many bytes follow a code. Codes are the table's kinds by their numbers, as `Node::decode` takes them: an enum of them would be made from the byte by a match
+// on the same numbers. The same widths stand in strip_write, by nodes: a node has its kind, and not any byte.
 #[tactic(auto, unfolding(key_strip::specs::Machine::following))]
 fn following(code: u8) -> usize
     ensures { result ≡ following code }
@@ -28,7 +29,9 @@ fn power(x: u64) -> Node
     Node::decode(8, HALF * x)
 }
 
-// A code and the number that follows it, as a key.
+// A code and the number that follows it, as a key: a node whose parts are places, 0 the topmost and 1 the one below it (docs/DECISIONS.md: "A key is a node whose
+// parts are places"). `Node::Empty` is no key, as in the definition, which has it among the keys of a strip: an Option in its place would be turned back into it
+// by this contract and by each reader of a key.
 #[tactic(auto, unfolding(key_strip::specs::Machine::key_of, key_strip::specs::Machine::following, pool::specs::Nodes::decode))]
 fn key_of(code: u8, x: u64) -> Node
     requires { x < 256 ^ following code }

@@ -79,14 +79,15 @@ fn exact(z: i64) -> f64
     z as f64
 }
 
-// The key at the machine's place runs. The strip was tested, so a code below 3 that is not 1 is 2, and the last one is 9.
+// The key at the machine's place runs. The strip was tested, so a code below 3 that is not 1 is 2, and the last one is 9. The codes are numbers, and how far each
+// key goes stands beside it: see `test_key`.
 fn run_key(
     strip: &[u8],
     values: &[f64],
     held: &mut [f64; HELD],
     machine: Machine,
 ) -> Result<Machine, Refusal>
-    requires running { Running strip.now values.now held.old machine.at machine.depth machine.top machine.below }
+    requires running { Running strip.now values.now held.old machine }
     requires at_in_bounds { machine.at < length strip.now }
     ensures { RanTo strip.now values.now machine.at held.new (numbered result) }
 {

@@ -69,7 +69,9 @@ fn exponent_tested(exponent: u32, depth: usize, next: usize) -> Option<Passed>
 }
 
 // The test of the key at a place. What follows a code is looked at only where it is not cut off. A processor foresees one comparison after the other better
-// than a jump to one of nine places: so the codes are numbers that are told apart by halves, here and in the run, and no enum.
+// than a jump to one of nine places: so the codes are numbers that are told apart by halves, here and in the run, and no enum that a `match` jumps by. C's `switch`
+// takes 1.8 to 3.6 times as long as this test and the run (docs/MEASUREMENTS.md), and in a check of the pool such jumps took four times as long (docs/DECISIONS.md).
+// Each code is compared once, and so how many bytes follow it stands in its branch: asking `following` would compare it again.
 fn test_key(strip: &[u8], at: usize, depth: usize) -> Option<Passed>
     requires testing { Testing strip.now at depth }
     requires at_in_bounds { at < length strip.now }

@@ -22,7 +22,8 @@ pub struct Need {
     pub length: u32,
 }
 
-// How many bytes a node's own code and what follows it have.
+// How many bytes a node's own code and what follows it have. `put_own` has the widths beside what it writes: a function for both would give `put_key` a width
+// that is not known where it is called.
 fn own_length(node: Node) -> u32
     ensures { result ≡ length (own_key node) }
 {

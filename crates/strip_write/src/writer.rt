@@ -45,8 +45,8 @@ fn strip_below(tables: Tables<'_>, out: &mut [u8], at: usize, bound: usize, of: 
         Parts::None => at,
         Parts::One(a) => strip_below(tables, out, at, i, a),
         Parts::Two(a, b) => {
-            let right = strip_below(tables, out, at, i, a);
-            strip_below(tables, out, right, i, b)
+            let past_left = strip_below(tables, out, at, i, a);
+            strip_below(tables, out, past_left, i, b)
         }
     };
     put_own(out, own, node)

@@ -1,9 +1,9 @@
 -- A walk that keeps the value of each visited node, for values of any kind. This describes the code and what it asks of the values: what a value is, is in
 -- the specs of `walks`.
 -- Assumes nothing.
-use Rattle.std.specs.Prelude.{◌≡◌, Bool, true, false, ℕ, zero, suc, ◌<◌, List, [], ◌∷◌, length, get_or, Option, Some, None, Result, Ok, Err}
+use Rattle.std.specs.Prelude.{◌≡◌, Bool, true, false, cond, ℕ, ltb, zero, suc, ◌<◌, List, [], ◌∷◌, length, get_or, Option, Some, None, Result, Ok, Err}
 use mathlib.Core.List.{Memᴰ}
-use Rattle.refusals.specs.Refusals.{broken_pool}
+use Rattle.refusals.specs.Refusals.{broken_pool, no_value}
 use Rattle.pool.specs.Pool.{limit}
 use Rattle.pool.specs.Nodes.{parts}
 use Rattle.pool.specs.Fold.{fold_nodes}
@@ -40,6 +40,10 @@ abbrev pub nth : {A : Type 0} → List A → ℕ → Option A
 nth [] i = None
 nth (x ∷ xs) zero = Some x
 nth (x ∷ xs) (suc i) = nth xs i
+
+-- 15. a variable's entry in the table of values, of any kind: what the table is read with past its end does not matter
+abbrev pub value_given : {A : Type 0} → A → List A → ℕ → Result A ℕ
+value_given other values v = cond (ltb v (length values)) (Ok (get_or values v other)) (Err no_value)
 
 -- the table of values, read as answers
 abbrev pub in_table : {A : Type 0} → List A → ℕ → Result A ℕ

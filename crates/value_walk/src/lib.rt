@@ -7,7 +7,7 @@ ghost use Rattle.pool.specs.declared.node.Node.{Node};
 ghost use Rattle.pool.specs.Nodes.{parts};
 ghost use Rattle.pool.specs.Pool.{limit};
 ghost use Rattle.pool.specs.Tables.{nodes};
-ghost use Rattle.value_walk.specs.Walk.{NodeLaws, in_table, Ready, Keeps, Walked, value_of, nth};
+ghost use Rattle.value_walk.specs.Walk.{NodeLaws, in_table, Ready, Keeps, Walked, value_of, value_given, nth};
 
 use pool::{LIMIT, Node, Tables};
 use refusals::Refusal;
@@ -27,6 +27,14 @@ pub trait Values {
         ensures { numbered result ≡ at_node self.now (in_table kept.now) node };
 
     ghost laws: { (s : Self) → NodeLaws (at_node s) (fits s) };
+}
+
+// A variable's entry in a table of values of any kind.
+#[tactic(auto, unfolding(crate::specs::Walk::value_given))]
+pub fn value_given<T: Copy>(values: &[T], v: u32) -> Result<T, Refusal>
+    ensures { (other : T) → numbered result ≡ value_given other values.now v }
+{
+    values.get(v as usize).copied().ok_or(Refusal::NoValue)
 }
 
 // The value that is kept of a node.
@@ -56,8 +64,9 @@ pub fn value_from<V: Values>(
     Ok(kept_at(kept, root))
 }
 
-// The walk at node i: its value is then kept, if it is not refused. The parts come first, in one loop with one call: a level of the
-// walk then takes the least of the stack.
+// The walk at node i: its value is then kept, if it is not refused. The parts come first, in one loop with one call, so that a level of the walk takes little
+// stack: a call for each kind made frames of 320 to 352 bytes (docs/DECISIONS.md). What the walk reads and what it writes are lent one by one: a struct of the four
+// would be made for this one function, and its contract would name them all the same, as fields of it.
 #[tactic(auto, using(crate::proofs::Walking::none_turned))]
 fn value_at<V: Values>(
     of: &V,

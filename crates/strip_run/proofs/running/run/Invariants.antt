@@ -6,7 +6,7 @@ use Rattle.strip_run.specs.Running.{Running}
 use Rattle.strip_run.proofs.running.run.Given as goal
 
 abbrev pub invariant-loop-machine : goal.invariant-loop-machine
-invariant-loop-machine l = Running l.strip l.values l.held l.machine.at l.machine.depth l.machine.top l.machine.below
+invariant-loop-machine l = Running l.strip l.values l.held l.machine
 
 abbrev pub decreases-loop-machine : goal.decreases-loop-machine
 decreases-loop-machine l = length l.strip - l.machine.at

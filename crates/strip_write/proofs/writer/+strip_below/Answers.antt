@@ -23,8 +23,8 @@ strip_below-own-requires t c =
     let base = ap (λ p. length (parts_strip (strip_below node c.args.of) p)) c.in-One.is in
     (omega (arith, c.if-bound-i.false), omega (arith, room, base))
 
-pub strip_below-right-requires : goal.strip_below-right-requires
-strip_below-right-requires t c =
+pub strip_below-past_left-requires : goal.strip_below-past_left-requires
+strip_below-past_left-requires t c =
     let node = nodes c.args.tables in
     let down = strip_below node c.args.of in
     let joins = strip_is node c.parts.result c.if-bound-i.false c.node-node.ensures c.parts.ensures in
@@ -40,7 +40,7 @@ strip_below-own-requires-in-Two t c =
     let room = both_have_room _ (own_key c.node-node.result) c.args.at c.args.out.now joins c.requires in
     let both = ap (λ p. length (parts_strip down p)) c.in-Two.is in (
       omega (arith, c.if-bound-i.false),
-      room_after _ c.strip_below-right.ensures (omega (arith, room, both, length-append (down c.in-Two.a) (down c.in-Two.b))),
+      room_after _ c.strip_below-past_left.ensures (omega (arith, room, both, length-append (down c.in-Two.a) (down c.in-Two.b))),
     )
 
 pub put_own-requires : goal.put_own-requires
@@ -53,7 +53,7 @@ put_own-requires t c =
     elim c.match-parts.branch [
       | in-None w ↦ parts_written down {x = None} w.in-None.is w.own-is w.out-is record { end = omega arith; in_place = refl }
       | in-One w ↦ parts_written down {x = One w.in-One.a} w.in-One.is w.own-is w.out-is w.strip_below-own.ensures
-      | in-Two w ↦ parts_written down {x = Two w.in-Two.a w.in-Two.b} w.in-Two.is w.own-is w.out-is (both_written refl w.strip_below-right.ensures w.strip_below-own-in-Two.ensures)
+      | in-Two w ↦ parts_written down {x = Two w.in-Two.a w.in-Two.b} w.in-Two.is w.own-is w.out-is (both_written refl w.strip_below-past_left.ensures w.strip_below-own-in-Two.ensures)
     ] in
     room_after _ written room
 
@@ -66,6 +66,6 @@ returns t c =
     elim c.match-parts.branch [
       | in-None w ↦ parts_written down {x = None} w.in-None.is w.own-is w.out-is record { end = omega arith; in_place = refl }
       | in-One w ↦ parts_written down {x = One w.in-One.a} w.in-One.is w.own-is w.out-is w.strip_below-own.ensures
-      | in-Two w ↦ parts_written down {x = Two w.in-Two.a w.in-Two.b} w.in-Two.is w.own-is w.out-is (both_written refl w.strip_below-right.ensures w.strip_below-own-in-Two.ensures)
+      | in-Two w ↦ parts_written down {x = Two w.in-Two.a w.in-Two.b} w.in-Two.is w.own-is w.out-is (both_written refl w.strip_below-past_left.ensures w.strip_below-own-in-Two.ensures)
     ] in
     both_written joins written c.put_own.ensures
