@@ -97,6 +97,7 @@ const EXPONENT: u64 = 0x10_0000_0000_0000;
 
 const ONES: u64 = 2047;
 
+// Told from the bits: `f64::from_bits(bits).is_nan()` may not be asked, since `from_bits` requires bits of no NaN.
 #[tactic(auto, using(crate::proofs::Nans::nan_bits_are))]
 fn is_nan(bits: u64) -> bool
     ensures { result ≡ nan_bits binary64 bits }

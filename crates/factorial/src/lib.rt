@@ -8,7 +8,7 @@ ghost use Rattle.factorial.specs.Factorial.{factorial_of};
 
 use refusals::Refusal;
 
-// n!, or 12 where it is no literal: the running product from 1. The first product past the range is 19!, so no n takes more than nineteen turns, and every product fits.
+// n!, or `OutOfRange` where it is no literal: the running product from 1. The first product past the range is 19!, so no n takes more than nineteen turns, and every product fits.
 #[tactic(auto, unfolding(crate::specs::Factorial::factorial_of), using(crate::proofs::Running::next_product, crate::proofs::Running::product_past_the_literals, crate::proofs::Running::last_fits, crate::proofs::Running::last_product))]
 pub fn factorial(n: u64) -> Result<i64, Refusal>
     ensures { numbered result ≡ folded (pos (factorial_of n)) }

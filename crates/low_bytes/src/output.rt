@@ -60,6 +60,7 @@ pub fn put(out: &mut [u8], at: Place, byte: u8) -> Place
         return at;
     }
     let i = at.number();
+    // No `if let Some(place) = out.get_mut(i)`: it is as long, and the check does not find its proof.
     if i < out.len() {
         out[i] = byte;
     }

@@ -1,4 +1,4 @@
-// The refusals, by the names that specs/Refusals.antt has, with the words of the papers for each, and their numbers.
+// The refusals and their numbers. The names are those of specs/Refusals.antt, where the words of the papers for each stand.
 #![tactic(auto)]
 
 ghost use Rattle.std.specs.Prelude.{◌≡◌};

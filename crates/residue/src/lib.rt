@@ -12,7 +12,8 @@ pub const MODULUS_MAX: u64 = 2_147_483_647;
 
 pub const MODULUS: u64 = MODULUS_MAX;
 
-// The residues of one modulus.
+// The residues of one modulus. A residue itself is a plain number, and each method asks that it is below the modulus: tables and the C interface hold residues as
+// numbers of 32 bits, and a type for one with its modulus as a ghost would still ask in each method that two residues have one modulus.
 #[derive(Clone, Copy)]
 pub struct Residues {
     pub modulus: u64,
@@ -51,7 +52,8 @@ impl Residues {
         a * b % self.modulus
     }
 
-    // Squares and multiplies, the exponent's bits from the lowest.
+    // Squares and multiplies, the exponent's bits from the lowest. Doubles (`double::pow`) do not square past the highest bit, and expansions (taylor_products)
+    // multiply in a pool and may be refused: three powers, with other squares and other answers.
     #[tactic(auto, using(crate::proofs::Squaring::squares_begin, crate::proofs::Squaring::squares_odd, crate::proofs::Squaring::squares_even, crate::proofs::Squaring::squares_end))]
     pub fn power(self, a: u64, e: u32) -> u64
         requires a_lt_m { a < self.modulus }

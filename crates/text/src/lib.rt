@@ -12,7 +12,8 @@ pub const ROOM: usize = 24;
 // How many variables have a letter for a name.
 pub const LETTERS: u64 = 26;
 
-// A short text: its bytes stand at the end of the array, from start on. A contract sees the bytes alone.
+// A short text: its bytes stand at the end of the array, from start on, since digits are found from the last to the first; the kit's ArrayString grows at its end.
+// A contract sees the bytes alone.
 #[derive(Drop)]
 pub struct Text {
     bytes: [u8; ROOM],
@@ -90,6 +91,7 @@ pub fn decimal_text(n: u64) -> Text
     text
 }
 
+// A literal as text, for callers that want one: nothing here calls it, since printing writes literals to its output with no text between.
 #[tactic(auto, unfolding(crate::specs::Text::signed_decimal), using(crate::proofs::Digits::decimal_is_short))]
 pub fn signed_text(z: i64) -> Text
     ensures { result ≡ signed_decimal z }

@@ -3,5 +3,5 @@
 use Rattle.low_bytes.proofs.BytesPut.{BytesPut}
 use Rattle.low_bytes.proofs.number.put_bytes.Given as goal
 
-abbrev pub invariant-loop-i : goal.invariant-loop-i
-invariant-loop-i l = BytesPut l.initial.out l.at l.k l.x l.out l.rest l.i
+abbrev pub invariant-loop-byte : goal.invariant-loop-byte
+invariant-loop-byte l = BytesPut l.initial.byte-items 0 l.k l.x l.byte-items l.rest l.byte-index
