@@ -68,7 +68,8 @@ fn node_in(
     }
 }
 
-// The expansion of the node `term` is made and kept. It is no part of the walk's own frame, of which there is one for each level.
+// The expansion of the node `term` is made and kept. It is no part of the walk's own frame, of which there is one for each level. Why `pool, kept, asked` are no
+// struct stands at `walk_below`.
 #[inline(never)]
 #[tactic(auto, using(crate::proofs::Walks::now_kept))]
 pub fn keep_in(

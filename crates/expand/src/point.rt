@@ -22,10 +22,7 @@ pub struct Asked {
 pub fn is_point(point: Option<i64>) -> bool
     ensures { result ≡ is_point point }
 {
-    match point {
-        None => true,
-        Some(z) => literal::is_literal(z),
-    }
+    point.is_none_or(literal::is_literal)
 }
 
 // The node of the point that is asked: a new variable, or a new literal.

@@ -78,7 +78,8 @@ fn expand_over(
 }
 
 // From node i, where i is below the bound: a node whose expansion is kept is not visited again; the parts of another, which have smaller numbers, come
-// first. A level of the walk hands on no expansion, so that it takes little of the stack.
+// first. A level of the walk hands on no expansion, so that it takes little of the stack. `pool, kept, asked` are three parameters: a struct of the two `&mut`
+// would be made anew at each level.
 #[tactic(auto, using(crate::proofs::Walks::walks))]
 fn walk_below(
     pool: &mut Pool,

@@ -7,7 +7,8 @@ use std::marker::Model;
 // How many coefficients an expansion has at most: those of the orders 0 to 24.
 pub const TERMS: usize = 25;
 
-// It is passed by reference, and built by `push`: a copy of 25 entries costs time.
+// It is passed by reference, and built by `push`: a copy of 25 entries costs time. No `ArrayVec` of the kit's arrayvec, which may be empty, is no `Copy`, and
+// says nothing of what lies past its end: here there is always a first entry, and zeros lie past the last. No crate depends on a library of the kit.
 #[derive(Clone, Copy)]
 pub struct Coefficients {
     len: u32,

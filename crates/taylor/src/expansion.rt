@@ -4,15 +4,16 @@ ghost use Rattle.taylor.specs.Expansion.{order};
 
 use crate::coefficients::Coefficients;
 
-// A constant, which is a node number, or a list of coefficients. It is passed by reference: a copy of 25 entries costs time.
+// A constant, which is a node number, or a list of coefficients. Operations take it by reference: a copy of 25 entries costs time. It is copied where one value
+// becomes another (a power of exponent 1, the answer of a walk).
 #[derive(Clone, Copy)]
 pub enum Expansion {
     Constant(u32),
     Polynomial(Coefficients),
 }
 
-// What `order` answers for a constant: the greatest number of 64 bits.
-const ENDLESS: u64 = 0xffff_ffff_ffff_ffff;
+// What `order` answers for a constant. It is no Option: the source's `order` answers `usize::MAX` here.
+const ENDLESS: u64 = u64::MAX;
 
 impl Expansion {
     // How many coefficients there are; a constant has no end of them.

@@ -26,8 +26,7 @@ pub fn pairs_in<F: Fn(&mut Pool, u32, u32) -> Result<u32, Refusal>>(
     let first = make(pool, us.at(0), ws.at(0))?;
     let mut list = Coefficients::one(first);
     for k in 1..end {
-        let entry = make(pool, us.at(k), ws.at(k))?;
-        list.push(entry);
+        list.push(make(pool, us.at(k), ws.at(k))?);
     }
     Ok(list)
 }
@@ -78,8 +77,7 @@ pub fn fill_in<F: Fn(&mut Pool, &Coefficients, u32) -> Result<u32, Refusal>>(
 {
     let mut res = Coefficients::one(first);
     for k in 1..n {
-        let coefficient = next(pool, &res, k)?;
-        res.push(coefficient);
+        res.push(next(pool, &res, k)?);
     }
     Ok(res)
 }

@@ -45,7 +45,7 @@ pub fn coeff_in(pool: &mut Pool, e: &Expansion, k: u64) -> Result<u32, Refusal>
             from_in(pool, 0)
         }
         Expansion::Polynomial(list) => {
-            // The length is asked, so that it is known to be at most 25.
+            // Nothing is done with the length. It is asked for the proof alone: `len` promises at most 25, by which the check knows that k fits.
             let _ = list.len();
             Ok(list.at(k as u32))
         }
@@ -58,8 +58,7 @@ pub fn add_in(pool: &mut Pool, lhs: &Expansion, rhs: &Expansion) -> Result<Expan
 {
     match (lhs, rhs) {
         (Expansion::Constant(l), Expansion::Constant(r)) => {
-            let sum = adds::add_in(pool, DEPTH, *l, *r)?;
-            Ok(Expansion::Constant(sum))
+            Ok(Expansion::Constant(adds::add_in(pool, DEPTH, *l, *r)?))
         }
         (Expansion::Polynomial(us), Expansion::Constant(r)) => {
             let sum = adds::add_in(pool, DEPTH, us.first(), *r)?;
@@ -87,14 +86,8 @@ pub fn neg_in(pool: &mut Pool, e: &Expansion) -> Result<Expansion, Refusal>
     ensures { made result pool.new ≡ negate e.now pool.old }
 {
     match e {
-        Expansion::Constant(c) => {
-            let negative = muls::neg_in(pool, DEPTH, *c)?;
-            Ok(Expansion::Constant(negative))
-        }
-        Expansion::Polynomial(list) => {
-            let negatives = negatives_in(pool, list)?;
-            Ok(Expansion::Polynomial(negatives))
-        }
+        Expansion::Constant(c) => Ok(Expansion::Constant(muls::neg_in(pool, DEPTH, *c)?)),
+        Expansion::Polynomial(list) => Ok(Expansion::Polynomial(negatives_in(pool, list)?)),
     }
 }
 
@@ -104,8 +97,7 @@ pub fn sub_in(pool: &mut Pool, lhs: &Expansion, rhs: &Expansion) -> Result<Expan
 {
     match (lhs, rhs) {
         (Expansion::Constant(l), Expansion::Constant(r)) => {
-            let difference = sub_nodes(pool, *l, *r)?;
-            Ok(Expansion::Constant(difference))
+            Ok(Expansion::Constant(sub_nodes(pool, *l, *r)?))
         }
         (Expansion::Polynomial(us), Expansion::Constant(r)) => {
             let difference = sub_nodes(pool, us.first(), *r)?;
@@ -117,20 +109,18 @@ pub fn sub_in(pool: &mut Pool, lhs: &Expansion, rhs: &Expansion) -> Result<Expan
             Ok(Expansion::Polynomial(negatives.with_first(sum)))
         }
         (Expansion::Polynomial(us), Expansion::Polynomial(ws)) => {
-            let differences = pairs_in(pool, us, ws, sub_nodes)?;
-            Ok(Expansion::Polynomial(differences))
+            Ok(Expansion::Polynomial(pairs_in(pool, us, ws, sub_nodes)?))
         }
     }
 }
 
-// What `max` makes of two constants; 10 of any list.
+// What `max` makes of two constants; `MaxReached` of any list.
 pub fn max_in(pool: &mut Pool, lhs: &Expansion, rhs: &Expansion) -> Result<Expansion, Refusal>
     ensures { made result pool.new ≡ maximum lhs.now rhs.now pool.old }
 {
     match (lhs, rhs) {
         (Expansion::Constant(l), Expansion::Constant(r)) => {
-            let greatest = logs::max_in(pool, DEPTH, *l, *r)?;
-            Ok(Expansion::Constant(greatest))
+            Ok(Expansion::Constant(logs::max_in(pool, DEPTH, *l, *r)?))
         }
         _ => Err(Refusal::MaxReached),
     }

@@ -11,7 +11,7 @@ use constructors::DEPTH;
 use pool::Pool;
 use refusals::Refusal;
 use taylor::{Coefficients, Expansion};
-use taylor_base::{fold_in, from_in};
+use taylor_base::{coeff_in, fold_in, from_in};
 
 // Up to this number the product is the number itself: the product before it is 1.
 const ITSELF: u32 = 2;
@@ -32,7 +32,7 @@ fn derivative_list(pool: &mut Pool, list: &Coefficients, k: u64) -> Result<u32, 
     requires { k < length list.now }
     ensures { made result pool.new ≡ derivative_of list.now k pool.old }
 {
-    // The length is asked, so that it is known to be at most 25.
+    // Nothing is done with the length. It is asked for the proof alone: `len` promises at most 25, by which the check knows that k fits.
     let _ = list.len();
     let order = k as u32;
     let one = from_in(pool, 1)?;
@@ -47,14 +47,10 @@ pub fn derivative_in(pool: &mut Pool, e: &Expansion, k: u64) -> Result<u32, Refu
     ensures { made result pool.new ≡ derivative e.now k pool.old }
 {
     match e {
-        Expansion::Constant(c) => {
-            if k == 0 {
-                return Ok(*c);
-            }
-            from_in(pool, 0)
-        }
+        // A constant has its derivatives where it has its coefficients.
+        Expansion::Constant(_) => coeff_in(pool, e, k),
         Expansion::Polynomial(list) => {
-            // Both tables are read, so that their lengths are known: a literal that is made stands there.
+            // Nothing is done with what is read. Each table is read for the proof alone, which then knows how long it is, and so that a new literal has a place in it.
             let _ = pool.kinds[0];
             let _ = pool.words[0];
             derivative_list(pool, list, k)

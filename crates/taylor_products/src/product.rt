@@ -11,7 +11,7 @@ use refusals::Refusal;
 use taylor::{Coefficients, Expansion};
 use taylor_base::{each_in, fill_in, fold_in, from_in};
 
-// sum + us[j] * ws[k - j]
+// sum + us[j] * ws[k - j]. A quotient has a function of its own (`quotient_term`): it takes the product away, by `sub_nodes`, which makes the negative first.
 fn product_term(
     pool: &mut Pool,
     us: &Coefficients,
@@ -73,8 +73,7 @@ pub fn times_in(pool: &mut Pool, lhs: &Expansion, rhs: &Expansion) -> Result<Exp
 {
     match (lhs, rhs) {
         (Expansion::Constant(l), Expansion::Constant(r)) => {
-            let product = muls::mul_in(pool, DEPTH, *l, *r)?;
-            Ok(Expansion::Constant(product))
+            Ok(Expansion::Constant(muls::mul_in(pool, DEPTH, *l, *r)?))
         }
         (Expansion::Constant(l), Expansion::Polynomial(ws)) => {
             let products = each_in(pool, ws, |pool, w| muls::mul_in(pool, DEPTH, w, *l))?;
@@ -86,8 +85,7 @@ pub fn times_in(pool: &mut Pool, lhs: &Expansion, rhs: &Expansion) -> Result<Exp
         }
         (Expansion::Polynomial(us), Expansion::Polynomial(ws)) => {
             let zero = from_in(pool, 0)?;
-            let products = products_in(pool, us, ws, zero)?;
-            Ok(Expansion::Polynomial(products))
+            Ok(Expansion::Polynomial(products_in(pool, us, ws, zero)?))
         }
     }
 }

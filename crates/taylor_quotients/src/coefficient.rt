@@ -10,7 +10,7 @@ use refusals::Refusal;
 use taylor::Coefficients;
 use taylor_base::{fold_in, from_in, sub_nodes};
 
-// sum - res[i] * ws[k - i]
+// sum - res[i] * ws[k - i]. A product has a function of its own (`product_term`), which adds: the two share the one line that makes the product.
 fn quotient_term(
     pool: &mut Pool,
     res: &Coefficients,

@@ -16,10 +16,7 @@ pub fn exp_in(pool: &mut Pool, e: &Expansion) -> Result<Expansion, Refusal>
     ensures { made result pool.new ≡ exponential e.now pool.old }
 {
     match e {
-        Expansion::Constant(c) => {
-            let result = muls::exp_in(pool, DEPTH, *c)?;
-            Ok(Expansion::Constant(result))
-        }
+        Expansion::Constant(c) => Ok(Expansion::Constant(muls::exp_in(pool, DEPTH, *c)?)),
         Expansion::Polynomial(us) => {
             let zero = from_in(pool, 0)?;
             let first = muls::exp_in(pool, DEPTH, us.at(0))?;

@@ -15,10 +15,7 @@ pub fn log_in(pool: &mut Pool, e: &Expansion) -> Result<Expansion, Refusal>
     ensures { made result pool.new ≡ logarithm e.now pool.old }
 {
     match e {
-        Expansion::Constant(c) => {
-            let result = logs::log_in(pool, DEPTH, *c)?;
-            Ok(Expansion::Constant(result))
-        }
+        Expansion::Constant(c) => Ok(Expansion::Constant(logs::log_in(pool, DEPTH, *c)?)),
         Expansion::Polynomial(us) => {
             let zero = from_in(pool, 0)?;
             let first = logs::log_in(pool, DEPTH, us.at(0))?;

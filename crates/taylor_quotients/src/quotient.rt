@@ -11,7 +11,8 @@ use refusals::Refusal;
 use taylor::{Coefficients, Expansion};
 use taylor_base::{each_in, fill_in, from_in};
 
-// c / ws: of a zero, and of the scale one / ws[0]
+// c / ws, with the scale 1 / ws[0]. Each coefficient but the first starts at a zero. A list over a list starts each at its own coefficient, and its coefficient
+// 0 is the scale times us[0], the other way round than here, so each has its function.
 fn constant_over(pool: &mut Pool, c: u32, ws: &Coefficients) -> Result<Expansion, Refusal>
     ensures { made result pool.new ≡ quotient (Constant c) (Polynomial ws.now) pool.old }
 {
@@ -28,7 +29,7 @@ fn constant_over(pool: &mut Pool, c: u32, ws: &Coefficients) -> Result<Expansion
     Ok(Expansion::Polynomial(list))
 }
 
-// us / ws, up to the shorter length: of a zero, and of the scale one / ws[0]
+// us / ws, up to the shorter length, with the scale 1 / ws[0]. No coefficient has the zero: the source makes it, so its node stands in the pool too.
 fn list_over(pool: &mut Pool, us: &Coefficients, ws: &Coefficients) -> Result<Expansion, Refusal>
     ensures { made result pool.new ≡ quotient (Polynomial us.now) (Polynomial ws.now) pool.old }
 {
@@ -52,8 +53,7 @@ pub fn quotient_in(pool: &mut Pool, lhs: &Expansion, rhs: &Expansion) -> Result<
 {
     match (lhs, rhs) {
         (Expansion::Constant(l), Expansion::Constant(r)) => {
-            let result = logs::div_in(pool, DEPTH, *l, *r)?;
-            Ok(Expansion::Constant(result))
+            Ok(Expansion::Constant(logs::div_in(pool, DEPTH, *l, *r)?))
         }
         (Expansion::Polynomial(us), Expansion::Constant(r)) => {
             let list = each_in(pool, us, |pool, u| logs::div_in(pool, DEPTH, u, *r))?;

@@ -9,5 +9,5 @@ pub loop-k-preserved : goal.loop-k-preserved
 loop-k-preserved g c =
     record {
       long = grind (arith, common_steps);
-      fills = λ f m. rw c.push.ensures (fill_onward (c.loop-k.invariant.fills f m) c.loop-k-test.true (m _ c.loop-k.k _ _ _ c.in_ok-coefficient.ensures));
+      fills = λ f m. rw c.push.ensures (fill_onward (c.loop-k.invariant.fills f m) c.loop-k-test.true (m _ c.loop-k.k _ _ _ c.in_ok-next.ensures));
     }

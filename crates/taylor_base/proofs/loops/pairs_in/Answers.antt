@@ -33,5 +33,5 @@ loop-k-preserved g c =
       pairs =
           λ f m.
           rw c.push.ensures
-          (paired_onward f c.args.us.now c.args.ws.now (c.loop-k.invariant.pairs f m) c.at-in-loop-k.ensures c.at-in-loop-k-2.ensures more (m _ _ _ _ _ c.in_ok-entry.ensures));
+          (paired_onward f c.args.us.now c.args.ws.now (c.loop-k.invariant.pairs f m) c.at-in-loop-k.ensures c.at-in-loop-k-2.ensures more (m _ _ _ _ _ c.in_ok-make.ensures));
     }
