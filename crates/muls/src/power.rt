@@ -7,7 +7,7 @@ ghost use Rattle.pool.specs.Made.{made};
 use pool::{Node, Pool};
 use refusals::Refusal;
 
-// The power of a node, with `left` constructors left to run inside one another.
+// The power of a node, with `left` constructors left to run inside one another. No constructor runs inside it, so `left` is only tested.
 #[tactic(auto, using(views::proofs::Steps::runs_deeper, views::proofs::Steps::none_left, views::proofs::Steps::build_node, views::proofs::Steps::build_lit, views::proofs::Steps::build_pow, crate::proofs::Tables::power_zero, crate::proofs::Tables::power_one, crate::proofs::Tables::power_of_other, crate::proofs::Tables::power_of_zero, crate::proofs::Tables::power_of_one, crate::proofs::Tables::power_of_lit))]
 pub fn pow_in(pool: &mut Pool, left: u32, base: u32, exp: u32) -> Result<u32, Refusal>
     ensures { made result pool.new ≡ (calls left).pow_at base exp pool.old }
