@@ -14,8 +14,8 @@ pub fn factorial(n: u64) -> Result<i64, Refusal>
     ensures { numbered result ≡ folded (pos (factorial_of n)) }
 {
     let mut product: u64 = 1;
-    for i in 1..=n {
-        product = product * i;
+    for i in 0..n {
+        product = product * (i + 1);
         if literal::LITERAL_MAX < product {
             return Err(Refusal::OutOfRange);
         }

@@ -1,6 +1,6 @@
 -- What the code's parts of a node stand for (`parts_in`, `Counted`), and a node with other parts.
 -- Assumes nothing.
-use Rattle.std.specs.Prelude.{◌≡◌, ℕ, ◌≤◌, List, [], ◌∷◌, length, slice_index, ⊤}
+use Rattle.std.specs.Prelude.{◌≡◌, ℕ, ◌≤◌, List, [], ◌∷◌, length, slice_index}
 use Rattle.pool.specs.declared.node.Node.{Node}
 use Rattle.pool.specs.declared.node.Node.TheVariants.{Empty, Variable, Lit, Add, Mul, Div, Exp, Log, Pow, Max}
 use Rattle.pool.specs.declared.parts.CountedParts.{CountedParts}
@@ -31,29 +31,3 @@ with_parts (Exp x) a b = Exp a
 with_parts (Log x) a b = Log a
 with_parts (Pow x n) a b = Pow a n
 with_parts (Max x y) a b = Max a b
-
--- a node with each part as f has it; all else is kept
-abbrev pub map_parts : (ℕ → ℕ) → Node → Node
-map_parts f Empty = Empty
-map_parts f (Variable v) = Variable v
-map_parts f (Lit z) = Lit z
-map_parts f (Add a b) = Add (f a) (f b)
-map_parts f (Mul a b) = Mul (f a) (f b)
-map_parts f (Div a b) = Div (f a) (f b)
-map_parts f (Exp a) = Exp (f a)
-map_parts f (Log a) = Log (f a)
-map_parts f (Pow a n) = Pow (f a) n
-map_parts f (Max a b) = Max (f a) (f b)
-
--- what holds of each part of a node
-abbrev pub EachPart : (ℕ → Type 0) → Node → Type 0
-EachPart P Empty = ⊤
-EachPart P (Variable v) = ⊤
-EachPart P (Lit z) = ⊤
-EachPart P (Add a b) = P a × P b
-EachPart P (Mul a b) = P a × P b
-EachPart P (Div a b) = P a × P b
-EachPart P (Exp a) = P a
-EachPart P (Log a) = P a
-EachPart P (Pow a n) = P a
-EachPart P (Max a b) = P a × P b

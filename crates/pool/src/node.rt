@@ -1,7 +1,7 @@
 // A node by value, and its kind and word in the pool: the table of kinds of document 01.
 ghost use Rattle.std.specs.Prelude.{◌≡◌, ℕ};
 ghost use Rattle.pool.specs.Nodes.{decode, kind_of, word_of, parts, pair};
-ghost use Rattle.pool.specs.Parts.{parts_in, Counted, with_parts, map_parts, EachPart};
+ghost use Rattle.pool.specs.Parts.{parts_in, Counted, with_parts};
 
 use crate::parts::{CountedParts, Parts};
 
@@ -161,23 +161,6 @@ impl Node {
             Node::Log(_) => Node::Log(left),
             Node::Pow(_, n) => Node::Pow(left, n),
             Node::Max(_, _) => Node::Max(left, right),
-        }
-    }
-
-    // The node with each part as the closure makes it of what stands there.
-    pub fn map_parts<F: Fn(u32) -> u32>(self, make: F) -> Node
-        requires { EachPart (F.pre make) self }
-        ensures { (f : ℕ → ℕ) → ((a b : ℕ) → F.post make a b → b ≡ f a) → result ≡ map_parts f self }
-    {
-        match self {
-            Node::Empty | Node::Variable(_) | Node::Lit(_) => self,
-            Node::Add(a, b) => Node::Add(make(a), make(b)),
-            Node::Mul(a, b) => Node::Mul(make(a), make(b)),
-            Node::Div(a, b) => Node::Div(make(a), make(b)),
-            Node::Exp(a) => Node::Exp(make(a)),
-            Node::Log(a) => Node::Log(make(a)),
-            Node::Pow(a, n) => Node::Pow(make(a), n),
-            Node::Max(a, b) => Node::Max(make(a), make(b)),
         }
     }
 }

@@ -1,4 +1,4 @@
--- `factorial::factorial` meets its contract: the product of the factors below i is (i - 1)!, and one past the literals refuses n!.
+-- `factorial::factorial` meets its contract: the product of i factors is i!, and one past the literals refuses n!.
 -- Assumes nothing.
 use native.Mathlib.Omega.{arith}
 use Rattle.factorial.proofs.Running.{product_fits}

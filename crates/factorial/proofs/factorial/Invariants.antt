@@ -1,4 +1,4 @@
--- `factorial::factorial` meets its contract: the product of the factors below i is (i - 1)!, and one past the literals refuses n!.
+-- `factorial::factorial` meets its contract: the product of i factors is i!, and one past the literals refuses n!.
 -- Assumes nothing.
 use Rattle.factorial.proofs.Running.{RunningProduct}
 use Rattle.factorial.proofs.factorial.Given as goal
