@@ -1,2 +1,1 @@
-pub mod NewParts
 pub mod Visits
