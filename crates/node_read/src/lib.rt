@@ -97,13 +97,12 @@ pub fn test_file(file: &[u8], entries: &mut Pool) -> Result<usize, Refusal>
 }
 
 // Entry i with its parts shifted.
-#[tactic(auto, using(node_walk::proofs::NewParts::map_parts_renames, node_walk::proofs::NewParts::each_part))]
 fn shifted(entries: &Pool, i: u32, by: u32) -> Node
     requires small { (i ≤ limit) × (by ≤ limit) }
     requires falls { Falls (node_at entries.now) }
     ensures { result ≡ rename (λ j. by + j) (node_at entries.now i) }
 {
-    entries.node(i).map_parts(|part| by + part)
+    node_walk::renamed(entries.node(i), |part| by + part)
 }
 
 // The n entries appended one after the other, their parts shifted by the count; the last is the root.

@@ -1,39 +1,36 @@
--- A node with each part made anew is the node renamed, and what holds of each of a node's parts holds of each by its kind: for code that renames by `map_parts`.
+-- A node with its parts renamed is the node with other parts: what code that renames by `parts` and `with_parts` has made.
 -- Assumes nothing.
-use mathlib.Core.Path.{◌≡◌, refl}
-use mathlib.Core.List.{[], ◌∷◌}
+use mathlib.Core.Path.{◌≡◌, refl, sym, ap, ◌∙◌, subst⁻¹}
+use mathlib.Core.List.{[], ◌∷◌, map}
 use Prim.Native.Nat.{ℕ}
+use lib.ListN.{get_or}
 use Rattle.pool.specs.Nodes.{parts}
-use Rattle.pool.specs.Parts.{map_parts, EachPart}
 use Rattle.pool.specs.declared.node.Node.{Node}
 use Rattle.pool.specs.declared.node.Node.TheVariants.{Empty, Variable, Lit, Add, Mul, Div, Exp, Log, Pow, Max}
 use Rattle.shape.specs.Shape.{rename}
-use Rattle.shape.proofs.Lists.{All, all_first, all_rest}
+use Rattle.shape.proofs.Lists.{All, all_none}
+use Rattle.shape.proofs.Renaming.{rename_same}
+use Rattle.pool.specs.Parts.{with_parts}
 
-pub map_parts_renames : (f : ℕ → ℕ) (n : Node) → map_parts f n ≡ rename f n
-map_parts_renames f Empty = refl
-map_parts_renames f (Variable v) = refl
-map_parts_renames f (Lit z) = refl
-map_parts_renames f (Add a b) = refl
-map_parts_renames f (Mul a b) = refl
-map_parts_renames f (Div a b) = refl
-map_parts_renames f (Exp a) = refl
-map_parts_renames f (Log a) = refl
-map_parts_renames f (Pow a n) = refl
-map_parts_renames f (Max a b) = refl
+by_parts : (f : ℕ → ℕ) (n : Node) → with_parts n (get_or (map f (parts n)) 0 0) (get_or (map f (parts n)) 1 0) ≡ rename f n
+by_parts f Empty = refl
+by_parts f (Variable v) = refl
+by_parts f (Lit z) = refl
+by_parts f (Add a b) = refl
+by_parts f (Mul a b) = refl
+by_parts f (Div a b) = refl
+by_parts f (Exp a) = refl
+by_parts f (Log a) = refl
+by_parts f (Pow a n) = refl
+by_parts f (Max a b) = refl
 
-module _ (P : ℕ → Type 0) where
-  both : (a b : ℕ) → All P (a ∷ b ∷ []) → P a × P b
-  both a b h = (all_first P a (b ∷ []) h, all_first P b [] (all_rest P a (b ∷ []) h))
+module _ (f : ℕ → ℕ) (n : Node) where
+  pub renamed_none : parts n ≡ [] → n ≡ rename f n
+  renamed_none e = sym (rename_same f n (subst⁻¹ (All (λ i. f i ≡ i)) e (all_none (λ i. f i ≡ i))))
 
-  pub each_part : (n : Node) → All P (parts n) → EachPart P n
-  each_part Empty h = tt
-  each_part (Variable v) h = tt
-  each_part (Lit z) h = tt
-  each_part (Add a b) h = both a b h
-  each_part (Mul a b) h = both a b h
-  each_part (Div a b) h = both a b h
-  each_part (Exp a) h = all_first P a [] h
-  each_part (Log a) h = all_first P a [] h
-  each_part (Pow a n) h = all_first P a [] h
-  each_part (Max a b) h = both a b h
+  pub renamed_one : {a x : ℕ} → parts n ≡ a ∷ [] → x ≡ f a → with_parts n x 0 ≡ rename f n
+  renamed_one e g = ap (λ y. with_parts n y 0) g ∙ sym (ap (λ is. with_parts n (get_or (map f is) 0 0) (get_or (map f is) 1 0)) e) ∙ by_parts f n
+
+  pub renamed_two : {a b x y : ℕ} → parts n ≡ a ∷ b ∷ [] → x ≡ f a → y ≡ f b → with_parts n x y ≡ rename f n
+  renamed_two {y = y} e g h =
+      ap (λ z. with_parts n z y) g ∙ ap (with_parts n (f _)) h ∙ sym (ap (λ is. with_parts n (get_or (map f is) 0 0) (get_or (map f is) 1 0)) e) ∙ by_parts f n

@@ -1,1 +1,2 @@
+pub mod NewParts
 pub mod Visits

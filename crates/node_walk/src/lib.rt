@@ -1,16 +1,18 @@
 // The writing order of nodes.bin: the walk that numbers the nodes reachable from the roots.
 #![tactic(auto)]
 
-ghost use Rattle.std.specs.Prelude.{◌<◌};
+ghost use Rattle.std.specs.Prelude.{true, ◌≡◌, ℕ, ◌<◌};
 ghost use Rattle.pool.specs.Nodes.{parts};
 ghost use Rattle.pool.specs.Pool.{limit};
 ghost use Rattle.pool.specs.Tables.{nodes};
+ghost use Rattle.shape.specs.Shape.{has};
 ghost use Rattle.shape.specs.Order.{numbered};
 ghost use Rattle.shape.specs.Demand.{Below};
 ghost use Rattle.shape.specs.Walked.{Falls};
+ghost use Rattle.node_walk.specs.NewParts.{RenamedBy};
 ghost use Rattle.node_walk.specs.Visits.{StandsFor, Stands, Visits, Turns, Fresh, Stored};
 
-use pool::{LIMIT, Parts, Tables};
+use pool::{LIMIT, Node, Parts, Tables};
 
 // Which nodes have a number: number[j] is 0 or j's number + 1, order[m] is the node with number m, and `done` nodes have one.
 #[derive(Drop)]
@@ -18,6 +20,26 @@ pub struct Numbering {
     pub number: [u32; LIMIT],
     pub order: [u32; LIMIT],
     pub done: u32,
+}
+
+// The node with each part's number replaced, as `number` says.
+#[tactic(auto, using(crate::proofs::NewParts::renamed_none, crate::proofs::NewParts::renamed_one, crate::proofs::NewParts::renamed_two))]
+pub fn renamed<F: Fn(u32) -> u32>(node: Node, number: F) -> Node
+    requires { (part : ℕ) → has (parts node) part ≡ true → F.pre number part }
+    ensures { RenamedBy (F.post number) node result }
+{
+    match node.parts() {
+        Parts::None => node,
+        Parts::One(a) => {
+            let only = number(a);
+            node.with_parts(only, 0)
+        }
+        Parts::Two(a, b) => {
+            let left = number(a);
+            let right = number(b);
+            node.with_parts(left, right)
+        }
+    }
 }
 
 impl Numbering {

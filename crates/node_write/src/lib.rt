@@ -17,15 +17,14 @@ use pool::{Node, Tables};
 use refusals::Refusal;
 
 // Entry m of the file: the node with number m, its parts given by their numbers. A part's mark is its number + 1.
-#[tactic(auto, using(node_walk::proofs::NewParts::map_parts_renames, node_walk::proofs::NewParts::each_part))]
 fn entry(tables: Tables, numbering: &Numbering, m: usize) -> Node
     requires m_lt_limit { m < limit }
     requires all_marked { AllMarked numbering.now.number (parts (nodes tables (get_or numbering.now.order m 0))) }
     ensures { result ≡ entry_by (nodes tables.entry) numbering.now m }
 {
-    tables
-        .node(numbering.order[m])
-        .map_parts(|part| numbering.number[part as usize] - 1)
+    node_walk::renamed(tables.node(numbering.order[m]), |part| {
+        numbering.number[part as usize] - 1
+    })
 }
 
 // The entries from the place `first` on: the kinds of all, a byte each, and behind them the words. Each entry is made once, so both are put in one loop.
