@@ -74,16 +74,16 @@ is_half_by_residues = one_half
 pub starred : Starred
 starred =
     record {
-      literal_left_lem = is_literal_left;
-      literal_right_lem = is_literal_right;
+      literal_left_shown = is_literal_left;
+      literal_right_shown = is_literal_right;
       cubed = is_cubed;
       substitution = is_substitution;
-      derived_cube_lem = is_derived_cube;
-      derived_quotient_lem = is_derived_quotient;
+      derived_cube_shown = is_derived_cube;
+      derived_quotient_shown = is_derived_quotient;
       square_at_3 = is_square_at_3;
       log_at_1 = is_log_at_1;
       exp_at_0 = is_exp_at_0;
-      zero_to_the_zeroth_lem = is_zero_to_the_zeroth;
-      exp_of_one_lem = is_exp_of_one;
+      zero_to_the_zeroth_shown = is_zero_to_the_zeroth;
+      exp_of_one_shown = is_exp_of_one;
       half_by_residues = is_half_by_residues;
     }

@@ -106,15 +106,15 @@ half = do
 
 -- the statement
 pub record Starred : Type 0 where
-  pub literal_left_lem : shown (with_variables literal_left) ≡ text (bytes "a + 3")
-  pub literal_right_lem : shown (with_variables literal_right) ≡ text (bytes "a + 1 + 2")
+  pub literal_left_shown : shown (with_variables literal_left) ≡ text (bytes "a + 3")
+  pub literal_right_shown : shown (with_variables literal_right) ≡ text (bytes "a + 1 + 2")
   pub cubed : shown (with_variables cube) ≡ text (bytes "a*a^2")
   pub substitution : shown (with_variables substituted) ≡ text (bytes "2*b")
-  pub derived_cube_lem : shown (with_variables derived_cube) ≡ text (bytes "3*a^2")
-  pub derived_quotient_lem : shown (with_variables derived_quotient) ≡ text (bytes "-1*b/b^2")
+  pub derived_cube_shown : shown (with_variables derived_cube) ≡ text (bytes "3*a^2")
+  pub derived_quotient_shown : shown (with_variables derived_quotient) ≡ text (bytes "-1*b/b^2")
   pub square_at_3 : expanded_at (pos 3) (with_variables square) ≡ texts (bytes "9" ∷ bytes "6" ∷ bytes "1" ∷ [])
   pub log_at_1 : expanded_at (pos 1) (with_variables logarithm) ≡ texts (bytes "0" ∷ bytes "1" ∷ bytes "-1/2" ∷ [])
   pub exp_at_0 : expanded_at (pos 0) (with_variables exponential) ≡ texts (bytes "1" ∷ bytes "1" ∷ bytes "1/2" ∷ [])
-  pub zero_to_the_zeroth_lem : shown (with_variables zero_to_the_zeroth) ≡ text (bytes "1")
-  pub exp_of_one_lem : shown (with_variables exp_of_one) ≡ refusal no_exp_or_log
+  pub zero_to_the_zeroth_shown : shown (with_variables zero_to_the_zeroth) ≡ text (bytes "1")
+  pub exp_of_one_shown : shown (with_variables exp_of_one) ≡ refusal no_exp_or_log
   pub half_by_residues : residue_in (with_variables half) ≡ Ok 1073741824

@@ -29,8 +29,8 @@ use Rattle.limits.proofs.Pools.{fits}
 use Rattle.limits.proofs.Called.{called_on, expanded_on, listed_on, evaluated_on, residue_on, residue_with, printed_on, written_on}
 
 -- a table of one residue
-are_residues_lem : (n x : ℕ) → leb n 65536 ≡ true → x < fixed_modulus → are_residues (replicate n x) ≡ true
-are_residues_lem n x few small =
+repeated_are_residues : (n x : ℕ) → leb n 65536 ≡ true → x < fixed_modulus → are_residues (replicate n x) ≡ true
+repeated_are_residues n x few small =
     rw (length-replicate {A = ℕ} n x, few) (each_of n (λ i. ltb (get_or (replicate n x) i 0) fixed_modulus) (λ i h. rw (get_or-replicate {A = ℕ} n i x 0 h) (lt-ltb x fixed_modulus small)))
 
 variable_fits : fits (variable 65535 ∷ []) ≡ true
@@ -39,7 +39,7 @@ variable_fits = refl
 
 residues_65536 : evaluated_by_residues (replicate 65536 7) 0 (lent (variable 65535 ∷ [])) ≡ gives 7
 unfolding node_in decode fold_nodes fold_nodes_within under
-residues_65536 = residue_with (variable 65535 ∷ []) variable_fits (replicate 65536 7) 0 (are_residues_lem 65536 7 refl (lit< tt))
+residues_65536 = residue_with (variable 65535 ∷ []) variable_fits (replicate 65536 7) 0 (repeated_are_residues 65536 7 refl (lit< tt))
 
 pub arguments : Arguments
 unfolding node_in decode may_stand_at each append calls build add_arms mul_lits mul_exps mul_left mul_pows mul_last folded walk_below substitute_var derive expand_below of.each of.each_two of.fold of.fill times horner fold_nodes fold_nodes_within under

@@ -87,9 +87,9 @@ module _ (f : List ℕ) (long : length f ≡ 36868) where
       test : leb (length f) 36868 ≡ true
       test = rw long
 
-longest_file_lem : written 36868 4095 chain ≡ gives 36868
+longest_file_in_36868 : written 36868 4095 chain ≡ gives 36868
 unfolding chain chain_pool
-longest_file_lem = written_by chain chain_by_rules 36868 4095 ∙ taken (file_from chain_pool 4095) chain_length
+longest_file_in_36868 = written_by chain chain_by_rules 36868 4095 ∙ taken (file_from chain_pool 4095) chain_length
 
 longest_file_in_36867 : written 36867 4095 chain ≡ refuses 19
 unfolding chain chain_pool
@@ -132,4 +132,4 @@ longest_read_after_one =
     rw file_is (called_on (variable 0 ∷ []) refl (read_file (file_from chain_pool 4095)) ∙ ap (λ (o : Out). node_given (leaves Ok Err (kinds_of (variable 0 ∷ [])) (words_of (variable 0 ∷ [])) 1 o).answer) after_one)
 
 pub longest : Longest
-longest = record { file_in_36868 = longest_file_lem; file_in_36867 = longest_file_in_36867; read_into_nothing = longest_read; read_after_one = longest_read_after_one }
+longest = record { file_in_36868 = longest_file_in_36868; file_in_36867 = longest_file_in_36867; read_into_nothing = longest_read; read_after_one = longest_read_after_one }

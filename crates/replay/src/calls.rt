@@ -93,13 +93,15 @@ fn lent_is_right(
     lent: &mut Lent,
     listed: &mut Lent,
 ) -> bool {
-    let Some(mut first) = first_of(lent.kinds, lent.words, lent.count, m, n) else {
-        return false;
-    };
-    let Some(mut first_listed) = first_of(listed.kinds, listed.words, listed.count, m, n) else {
-        return false;
-    };
-    all_is_right(op, list, &mut first, &mut first_listed)
+    match (
+        first_of(lent.kinds, lent.words, lent.count, m, n),
+        first_of(listed.kinds, listed.words, listed.count, m, n),
+    ) {
+        (Some(mut first), Some(mut first_listed)) => {
+            all_is_right(op, list, &mut first, &mut first_listed)
+        }
+        _ => false,
+    }
 }
 
 // A call with tables of the right lengths, or of those that the list gives before it.

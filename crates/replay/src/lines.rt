@@ -1,6 +1,4 @@
 // The list from its first line to its last.
-ghost use Rattle.std.specs.Io.{ReadsAtMost};
-
 use crate::calls::call_is_right;
 use crate::raw::{TABLE, set_both};
 use lent::Lent;
@@ -62,21 +60,6 @@ fn run(
     Ok(())
 }
 
-// Reads until the room is full or the input ends, and answers how many bytes there are. A read says itself how many it gave, so the loop goes by no index.
-fn read_full<R: Read>(reader: &mut R, room: &mut [u8]) -> io::Result<usize>
-    ensures { ReadsAtMost result room.new }
-{
-    let mut done = 0;
-    while done < room.len() {
-        let n = reader.read(&mut room[done..])?;
-        if n == 0 {
-            return Ok(done);
-        }
-        done += n;
-    }
-    Ok(done)
-}
-
 // The next block from standard input.
 fn block<R: Read>(
     rt: &impl Print,
@@ -86,7 +69,7 @@ fn block<R: Read>(
     tally: &mut Tally,
 ) -> io::Result<()> {
     let mut text = [0u8; BLOCK];
-    let n = read_full(reader, &mut text)?;
+    let n = inputs::read_full(reader, &mut text)?;
     run(rt, &text[..n], lent, listed, tally)
 }
 

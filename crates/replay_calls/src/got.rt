@@ -14,10 +14,7 @@ pub type Got = Result<u64, u64>;
 pub fn of_answer(answer: Result<u64, Refusal>) -> Result<u64, u64>
     ensures { result ≡ numbered answer }
 {
-    match answer {
-        Ok(x) => Ok(x),
-        Err(refusal) => Err(u64::from(refusal.number())),
-    }
+    answer.map_err(|refusal| u64::from(refusal.number()))
 }
 
 // What the list says: the refusal number, and behind a 0 the answer.

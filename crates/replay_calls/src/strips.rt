@@ -1,6 +1,6 @@
 // Running a strip, with its bytes and a table of values from the list.
-use crate::got::{Got, UNLISTED};
-use crate::values::{ALIKE_MAX, VALUES_MAX, of_double};
+use crate::got::{Got, UNLISTED, of_answer};
+use crate::values::{ALIKE_MAX, VALUES_MAX};
 use number_list::{Numbers, byte_of};
 
 pub const RUN_STRIP: u64 = 50;
@@ -10,10 +10,9 @@ const STRIP_MAX: usize = 2_048;
 
 // With the first entries of both tables.
 fn run_first(strip: &[u8], m: usize, values: &[f64], n: usize) -> Got {
-    match (strip.get(..m), values.get(..n)) {
-        (Some(strip), Some(values)) => of_double(engine_strip::run_strip(strip, values)),
-        _ => Err(UNLISTED),
-    }
+    let strip = strip.get(..m).ok_or(UNLISTED)?;
+    let values = values.get(..n).ok_or(UNLISTED)?;
+    of_answer(engine_strip::run_strip(strip, values).map(double::bits))
 }
 
 pub fn run(op: u64, list: &mut Numbers) -> Got {

@@ -17,9 +17,7 @@ const BEFORE: u8 = 165;
 
 // The text in the first bytes of an output.
 fn put(op: u64, lent: &Lent, root: u64, out: &mut [u8], room: usize) -> Got {
-    let Some(out) = out.get_mut(..room) else {
-        return Err(UNLISTED);
-    };
+    let out = out.get_mut(..room).ok_or(UNLISTED)?;
     let (k, w, count) = (&*lent.kinds, &*lent.words, *lent.count);
     of_answer(match op {
         WRITE => engine_file::write(k, w, count, root, out),

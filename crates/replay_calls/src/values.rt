@@ -2,7 +2,6 @@
 use crate::got::{Got, UNLISTED, of_answer};
 use lent::Lent;
 use number_list::{Numbers, half_of};
-use refusals::Refusal;
 
 pub const EVALUATE: u64 = 22;
 
@@ -15,39 +14,16 @@ pub const VALUES_MAX: usize = 64;
 
 pub const ALIKE_MAX: usize = 65_537;
 
-// The bits of a double.
-pub fn of_double(answer: Result<f64, Refusal>) -> Got {
-    match answer {
-        Ok(x) => Ok(double::bits(x)),
-        Err(refusal) => Err(u64::from(refusal.number())),
-    }
-}
-
 // With the first entries of a table.
 fn with_doubles(lent: &Lent, root: u64, table: &[f64], length: usize) -> Got {
-    match table.get(..length) {
-        Some(values) => of_double(engine_values::evaluate(
-            lent.kinds,
-            lent.words,
-            *lent.count,
-            root,
-            values,
-        )),
-        None => Err(UNLISTED),
-    }
+    let values = table.get(..length).ok_or(UNLISTED)?;
+    let x = engine_values::evaluate(lent.kinds, lent.words, *lent.count, root, values);
+    of_answer(x.map(double::bits))
 }
 
 fn with_residues(lent: &Lent, root: u64, table: &[u32], length: usize) -> Got {
-    match table.get(..length) {
-        Some(values) => of_answer(engine_values::evaluate_residue(
-            lent.kinds,
-            lent.words,
-            *lent.count,
-            root,
-            values,
-        )),
-        None => Err(UNLISTED),
-    }
+    let values = table.get(..length).ok_or(UNLISTED)?;
+    of_answer(engine_values::evaluate_residue(lent.kinds, lent.words, *lent.count, root, values))
 }
 
 pub fn value(op: u64, list: &mut Numbers, lent: &Lent) -> Got {

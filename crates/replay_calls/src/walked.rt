@@ -29,10 +29,8 @@ fn read(list: &mut Numbers, lent: &mut Lent) -> Got {
     let length = list.next_length();
     let mut file = [0u8; FILE_MAX];
     list.next_into(length, &mut file, byte_of);
-    match file.get(..length) {
-        Some(bytes) => of_answer(engine_file::read(lent, bytes)),
-        None => Err(UNLISTED),
-    }
+    let bytes = file.get(..length).ok_or(UNLISTED)?;
+    of_answer(engine_file::read(lent, bytes))
 }
 
 pub fn walk(op: u64, list: &mut Numbers, lent: &mut Lent) -> Got {

@@ -18,10 +18,7 @@ use std::io::{Eprint, Print};
 fn read_nodes(rt: &(impl Files + Eprint), file: &mut [u8; FILE_ROOM]) -> Result<usize, Failed>
     ensures { IfOk result (λ n. IsPrefixLen n file.new) }
 {
-    match inputs::read_nodes(rt, file)? {
-        Some(n) => Ok(n),
-        None => Ok(0),
-    }
+    Ok(inputs::read_nodes(rt, file)?.unwrap_or(0))
 }
 
 // The file, unless the line asks for no sheet: then the file is not looked at.
@@ -32,10 +29,10 @@ fn nodes_for(
 ) -> Result<usize, Failed>
     ensures { IfOk result (λ n. IsPrefixLen n file.new) }
 {
-    match sheet_line::parse(line) {
-        Some(_) => read_nodes(rt, file),
-        None => Ok(0),
+    if sheet_line::parse(line).is_none() {
+        return Ok(0);
     }
+    read_nodes(rt, file)
 }
 
 // How many coefficients follow the first line.

@@ -22,9 +22,7 @@ fn show_file(rt: &(impl Print + Eprint), file: &[u8]) -> Result<(), Failed> {
     let mut text = [0u8; low_bytes::TEXT_MAX];
     match text_of(file, &mut text) {
         Ok(n) => {
-            if let Some(shown) = text.get(..n as usize) {
-                outputs::put(rt, shown)?;
-            }
+            outputs::put(rt, text.get(..n as usize).unwrap_or(b""))?;
             outputs::put(rt, b"\n")
         }
         Err(refusal) => outputs::put_refused(rt, refusal),
@@ -34,9 +32,10 @@ fn show_file(rt: &(impl Print + Eprint), file: &[u8]) -> Result<(), Failed> {
 // What failed has been told.
 fn run(rt: &HostRuntime) -> Result<(), Failed> {
     let mut file = [0u8; FILE_ROOM];
-    let Some(n) = inputs::read_nodes(rt, &mut file)? else {
-        return Err(outputs::say_missing(rt, b"nodes.bin"));
-    };
+    let n = inputs::read_nodes(rt, &mut file)?.ok_or_else(|| outputs::say_missing(
+        rt,
+        b"nodes.bin",
+    ))?;
     show_file(rt, &file[..n])
 }
 

@@ -21,19 +21,15 @@ fn strip_of(file: &[u8], strip: &mut [u8]) -> Result<u64, Refusal> {
 // The bytes of the strip, or the refusal.
 fn strip_file(rt: &(impl Print + Eprint), file: &[u8]) -> Result<(), Failed> {
     let mut strip = [0u8; low_bytes::TEXT_MAX];
-    match strip_of(file, &mut strip) {
-        Ok(n) => outputs::put(rt, strip.get(..n as usize).unwrap_or(b"")),
-        Err(refusal) => Err(outputs::say_refused(rt, refusal)),
-    }
+    let n = strip_of(file, &mut strip).map_err(|refusal| outputs::say_refused(rt, refusal))?;
+    outputs::put(rt, strip.get(..n as usize).unwrap_or(b""))
 }
 
 // What failed has been told. A missing file counts as 0 bytes.
 fn run(rt: &HostRuntime) -> Result<(), Failed> {
     let mut file = [0u8; FILE_ROOM];
-    match inputs::read_nodes(rt, &mut file)? {
-        Some(n) => strip_file(rt, &file[..n]),
-        None => strip_file(rt, b""),
-    }
+    let n = inputs::read_nodes(rt, &mut file)?.unwrap_or(0);
+    strip_file(rt, &file[..n])
 }
 
 fn main(rt: HostRuntime) {
