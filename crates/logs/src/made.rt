@@ -14,7 +14,10 @@ use refusals::Refusal;
 pub fn log_in(pool: &mut Pool, left: u32, arg: u32) -> Result<u32, Refusal>
     ensures { made result pool.new ≡ (calls left).log_at arg pool.old }
 {
-    let deep = left.checked_sub(1).ok_or(Refusal::TooDeep)?;
+    if left == 0 {
+        return Err(Refusal::TooDeep);
+    }
+    let deep = left - 1;
     match crate::rule::log_rule(pool, arg) {
         LogRule::Zero => adds::lit_in(pool, literal::fold(0)),
         LogRule::Literal(a) => adds::lit_in(pool, literal::log_literal(a)),

@@ -16,7 +16,10 @@ use refusals::Refusal;
 pub fn mul_in(pool: &mut Pool, left: u32, lhs: u32, rhs: u32) -> Result<u32, Refusal>
     ensures { made result pool.new ≡ (calls left).mul_at lhs rhs pool.old }
 {
-    let deep = left.checked_sub(1).ok_or(Refusal::TooDeep)?;
+    if left == 0 {
+        return Err(Refusal::TooDeep);
+    }
+    let deep = left - 1;
     match mul_rules::mul_rule(pool, lhs, rhs) {
         MulRule::Zero => adds::lit_in(pool, literal::fold(0)),
         MulRule::Same(a) => Ok(a),
@@ -38,7 +41,10 @@ pub fn mul_in(pool: &mut Pool, left: u32, lhs: u32, rhs: u32) -> Result<u32, Ref
 pub fn exp_in(pool: &mut Pool, left: u32, arg: u32) -> Result<u32, Refusal>
     ensures { made result pool.new ≡ (calls left).exp_at arg pool.old }
 {
-    let deep = left.checked_sub(1).ok_or(Refusal::TooDeep)?;
+    if left == 0 {
+        return Err(Refusal::TooDeep);
+    }
+    let deep = left - 1;
     match crate::rule::exp_rule(pool, arg) {
         ExpRule::One => adds::lit_in(pool, literal::fold(1)),
         ExpRule::Literal(z) => adds::lit_in(pool, literal::exp_literal(z)),

@@ -11,7 +11,10 @@ use refusals::Refusal;
 pub fn neg_in(pool: &mut Pool, left: u32, arg: u32) -> Result<u32, Refusal>
     ensures { made result pool.new ≡ (calls left).neg_at arg pool.old }
 {
-    let deep = left.checked_sub(1).ok_or(Refusal::TooDeep)?;
+    if left == 0 {
+        return Err(Refusal::TooDeep);
+    }
+    let deep = left - 1;
     let m = adds::lit_in(pool, literal::fold(-1))?;
     crate::made::mul_in(pool, deep, m, arg)
 }
