@@ -2,7 +2,7 @@
 # Every function has a contract, but for those of the programs and of the crates that read lists or only print (docs/CRATES.md).
 set -eu
 cd "$(dirname "$0")/.."
-free=' number_list replay_calls replay_series outputs '
+free=' replay_calls replay_series outputs '
 for main in crates/*/src/main.rt; do
   crate=${main#crates/}
   free="$free${crate%%/*} "
