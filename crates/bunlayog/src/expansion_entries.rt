@@ -25,10 +25,7 @@ pub extern "C" fn bunlayog_taylor_coeff(
     ensures { returned_in_c result kinds.new words.new count.new node.new ≡ in_c node.old (on_pool (coeff_call (series order coeffs.now) index) kinds.old words.old count.old) }
 {
     let mut lent = Lent::new(kinds, words, count);
-    let s = Series {
-        order,
-        coeffs: *coeffs,
-    };
+    let s = Series::new(order, coeffs);
     answered(engine_index::coeff(&mut lent, s, index), node)
 }
 
@@ -46,10 +43,7 @@ pub extern "C" fn bunlayog_taylor_derivative(
     ensures { returned_in_c result kinds.new words.new count.new node.new ≡ in_c node.old (on_pool (derivative_call (series order coeffs.now) index) kinds.old words.old count.old) }
 {
     let mut lent = Lent::new(kinds, words, count);
-    let s = Series {
-        order,
-        coeffs: *coeffs,
-    };
+    let s = Series::new(order, coeffs);
     answered(engine_index::derivative(&mut lent, s, index), node)
 }
 
@@ -65,10 +59,7 @@ pub extern "C" fn bunlayog_taylor_order(
 ) -> u32
     ensures { value_in_c result order_out.new ≡ count_in_c order_out.old (count_of kinds.now words.now count (series order coeffs.now)) }
 {
-    let s = Series {
-        order,
-        coeffs: *coeffs,
-    };
+    let s = Series::new(order, coeffs);
     answered(engine_given::order(kinds, words, count, s), order_out)
 }
 
@@ -85,10 +76,7 @@ pub extern "C" fn bunlayog_taylor_from_coefficients(
 ) -> u32
     ensures { outcome_returned_in_c result order_out.new coeffs_out.new ≡ outcome_in_c order_out.old coeffs_out.old (coefficients_of kinds.now words.now count (series order coeffs.now)) }
 {
-    let s = Series {
-        order,
-        coeffs: *coeffs,
-    };
+    let s = Series::new(order, coeffs);
     outcome_answered(
         engine_given::from_coefficients(kinds, words, count, s),
         order_out,

@@ -24,10 +24,7 @@ pub extern "C" fn bunlayog_taylor_neg(
     ensures { series_returned_in_c result kinds.new words.new count.new order_out.new coeffs_out.new ≡ series_in_c order_out.old coeffs_out.old (series_on_pool (neg_call (series order coeffs.now)) kinds.old words.old count.old) }
 {
     let mut lent = Lent::new(kinds, words, count);
-    let s = Series {
-        order,
-        coeffs: *coeffs,
-    };
+    let s = Series::new(order, coeffs);
     outcome_answered(engine_series::neg(&mut lent, s), order_out, coeffs_out)
 }
 
@@ -45,10 +42,7 @@ pub extern "C" fn bunlayog_taylor_exp(
     ensures { series_returned_in_c result kinds.new words.new count.new order_out.new coeffs_out.new ≡ series_in_c order_out.old coeffs_out.old (series_on_pool (exp_call (series order coeffs.now)) kinds.old words.old count.old) }
 {
     let mut lent = Lent::new(kinds, words, count);
-    let s = Series {
-        order,
-        coeffs: *coeffs,
-    };
+    let s = Series::new(order, coeffs);
     outcome_answered(engine_series::exp(&mut lent, s), order_out, coeffs_out)
 }
 
@@ -66,10 +60,7 @@ pub extern "C" fn bunlayog_taylor_log(
     ensures { series_returned_in_c result kinds.new words.new count.new order_out.new coeffs_out.new ≡ series_in_c order_out.old coeffs_out.old (series_on_pool (log_call (series order coeffs.now)) kinds.old words.old count.old) }
 {
     let mut lent = Lent::new(kinds, words, count);
-    let s = Series {
-        order,
-        coeffs: *coeffs,
-    };
+    let s = Series::new(order, coeffs);
     outcome_answered(engine_series::log(&mut lent, s), order_out, coeffs_out)
 }
 
@@ -88,10 +79,7 @@ pub extern "C" fn bunlayog_taylor_pow(
     ensures { series_returned_in_c result kinds.new words.new count.new order_out.new coeffs_out.new ≡ series_in_c order_out.old coeffs_out.old (series_on_pool (pow_call (series order coeffs.now) exp) kinds.old words.old count.old) }
 {
     let mut lent = Lent::new(kinds, words, count);
-    let s = Series {
-        order,
-        coeffs: *coeffs,
-    };
+    let s = Series::new(order, coeffs);
     outcome_answered(engine_series::pow(&mut lent, s, exp), order_out, coeffs_out)
 }
 

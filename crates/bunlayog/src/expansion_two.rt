@@ -25,14 +25,8 @@ pub extern "C" fn bunlayog_taylor_add(
     ensures { series_returned_in_c result kinds.new words.new count.new order_out.new coeffs_out.new ≡ series_in_c order_out.old coeffs_out.old (series_on_pool (add_call (series lhs_order lhs.now) (series rhs_order rhs.now)) kinds.old words.old count.old) }
 {
     let mut lent = Lent::new(kinds, words, count);
-    let s = Series {
-        order: lhs_order,
-        coeffs: *lhs,
-    };
-    let t = Series {
-        order: rhs_order,
-        coeffs: *rhs,
-    };
+    let s = Series::new(lhs_order, lhs);
+    let t = Series::new(rhs_order, rhs);
     outcome_answered(engine_pairs::add(&mut lent, s, t), order_out, coeffs_out)
 }
 
@@ -52,14 +46,8 @@ pub extern "C" fn bunlayog_taylor_sub(
     ensures { series_returned_in_c result kinds.new words.new count.new order_out.new coeffs_out.new ≡ series_in_c order_out.old coeffs_out.old (series_on_pool (sub_call (series lhs_order lhs.now) (series rhs_order rhs.now)) kinds.old words.old count.old) }
 {
     let mut lent = Lent::new(kinds, words, count);
-    let s = Series {
-        order: lhs_order,
-        coeffs: *lhs,
-    };
-    let t = Series {
-        order: rhs_order,
-        coeffs: *rhs,
-    };
+    let s = Series::new(lhs_order, lhs);
+    let t = Series::new(rhs_order, rhs);
     outcome_answered(engine_pairs::sub(&mut lent, s, t), order_out, coeffs_out)
 }
 
@@ -79,14 +67,8 @@ pub extern "C" fn bunlayog_taylor_mul(
     ensures { series_returned_in_c result kinds.new words.new count.new order_out.new coeffs_out.new ≡ series_in_c order_out.old coeffs_out.old (series_on_pool (mul_call (series lhs_order lhs.now) (series rhs_order rhs.now)) kinds.old words.old count.old) }
 {
     let mut lent = Lent::new(kinds, words, count);
-    let s = Series {
-        order: lhs_order,
-        coeffs: *lhs,
-    };
-    let t = Series {
-        order: rhs_order,
-        coeffs: *rhs,
-    };
+    let s = Series::new(lhs_order, lhs);
+    let t = Series::new(rhs_order, rhs);
     outcome_answered(engine_pairs::mul(&mut lent, s, t), order_out, coeffs_out)
 }
 
@@ -106,14 +88,8 @@ pub extern "C" fn bunlayog_taylor_div(
     ensures { series_returned_in_c result kinds.new words.new count.new order_out.new coeffs_out.new ≡ series_in_c order_out.old coeffs_out.old (series_on_pool (div_call (series lhs_order lhs.now) (series rhs_order rhs.now)) kinds.old words.old count.old) }
 {
     let mut lent = Lent::new(kinds, words, count);
-    let s = Series {
-        order: lhs_order,
-        coeffs: *lhs,
-    };
-    let t = Series {
-        order: rhs_order,
-        coeffs: *rhs,
-    };
+    let s = Series::new(lhs_order, lhs);
+    let t = Series::new(rhs_order, rhs);
     outcome_answered(engine_pairs::div(&mut lent, s, t), order_out, coeffs_out)
 }
 
@@ -133,14 +109,8 @@ pub extern "C" fn bunlayog_taylor_max(
     ensures { series_returned_in_c result kinds.new words.new count.new order_out.new coeffs_out.new ≡ series_in_c order_out.old coeffs_out.old (series_on_pool (max_call (series lhs_order lhs.now) (series rhs_order rhs.now)) kinds.old words.old count.old) }
 {
     let mut lent = Lent::new(kinds, words, count);
-    let s = Series {
-        order: lhs_order,
-        coeffs: *lhs,
-    };
-    let t = Series {
-        order: rhs_order,
-        coeffs: *rhs,
-    };
+    let s = Series::new(lhs_order, lhs);
+    let t = Series::new(rhs_order, rhs);
     outcome_answered(engine_pairs::max(&mut lent, s, t), order_out, coeffs_out)
 }
 
@@ -160,13 +130,7 @@ pub extern "C" fn bunlayog_taylor_subst(
     ensures { series_returned_in_c result kinds.new words.new count.new order_out.new coeffs_out.new ≡ series_in_c order_out.old coeffs_out.old (series_on_pool (subst_call (series lhs_order lhs.now) (series rhs_order rhs.now)) kinds.old words.old count.old) }
 {
     let mut lent = Lent::new(kinds, words, count);
-    let s = Series {
-        order: lhs_order,
-        coeffs: *lhs,
-    };
-    let t = Series {
-        order: rhs_order,
-        coeffs: *rhs,
-    };
+    let s = Series::new(lhs_order, lhs);
+    let t = Series::new(rhs_order, rhs);
     outcome_answered(engine_pairs::subst(&mut lent, s, t), order_out, coeffs_out)
 }

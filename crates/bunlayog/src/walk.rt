@@ -7,16 +7,15 @@ ghost use Rattle.c_answers.specs.Interface.{returned_in_c, in_c, check_number};
 
 use c_answers::answered;
 use lent::Lent;
-use refusals::Refusal;
 
 #[unsafe(no_mangle)]
 pub extern "C" fn bunlayog_check(kinds: &[u8], words: &[u64], count: u64) -> u32
     ensures { result ≡ check_number (is_pool kinds.now words.now count) }
 {
-    if lent::is_pool(kinds, words, count) {
-        return 0;
+    match lent::tables(kinds, words, count) {
+        Ok(_) => 0,
+        Err(refusal) => refusal.number(),
     }
-    Refusal::BrokenPool.number()
 }
 
 #[unsafe(no_mangle)]

@@ -42,6 +42,7 @@ pub fn outcome_answered(
 {
     match outcome {
         Ok(series) => {
+            // by a name: of `*coeffs = series.coeffs`, which was tried, the check does not find the contract by itself
             let entries = series.coeffs;
             *order = series.order;
             *coeffs = entries;

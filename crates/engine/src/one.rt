@@ -10,9 +10,9 @@ use lent::Lent;
 use pool::Pool;
 use refusals::Refusal;
 
-// 1 and 2, then the work. A function that is passed the work was tried in place of these five lines, here and in the other calls. As a closure: no definition can be
-// picked from what it has captured, so each call proves by hand that whatever it returns is the definition's and only appends. As a trait: each operation is
-// then a type with an impl, which is longer.
+// 1 and 2, then the work. A function that is passed the work was tried in place of these five lines, here and in the calls of engine_* that append. As a closure: no
+// definition can be picked from what it has captured, so each call proves by hand that whatever it returns is the definition's and only appends. As a trait: each
+// operation is then a type with an impl, which is longer.
 #[tactic(auto, using(crate::proofs::Growing::one_appended))]
 fn on_one(lent: &mut Lent<'_>, op: One, arg: u64) -> Result<u64, Refusal>
     ensures { Called (on_pool (on_one op arg)) lent.old (numbered result) lent.new }

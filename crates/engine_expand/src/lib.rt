@@ -20,13 +20,10 @@ use taylor::TERMS;
 fn point_given(point: Option<i64>) -> Result<(), Refusal>
     ensures { numbered result ≡ demanded (is_point point) not_literal }
 {
-    if expand::is_point(point) {
-        return Ok(());
-    }
-    Err(Refusal::NotLiteral)
+    lent::demanded(expand::is_point(point), Refusal::NotLiteral)
 }
 
-// 1 to 5, then the walk.
+// 1 to 5, then the walk. Why no function is passed the work in place of this frame stands in crates/engine/src/one.rt.
 #[tactic(auto, using(crate::proofs::Growing::expand_appended))]
 fn on_expression(
     lent: &mut Lent<'_>,

@@ -12,7 +12,7 @@ use lent::Lent;
 use pool::Pool;
 use refusals::Refusal;
 
-// The node file of a root, written into the lent output.
+// The node file of a root, written into the lent output. Why both tables and the count are three parameters stands at `lent::tables`.
 #[tactic(auto, unfolding(crate::specs::Write::write_call, node_write::specs::Output::file_into), using(lent::proofs::Calling::one_fits))]
 pub fn write(
     kinds: &[u8],
@@ -28,7 +28,7 @@ pub fn write(
     node_write::write_file(tables, root as u32, out)
 }
 
-// A node file, read into the pool: its root.
+// A node file, read into the pool: its root. Why no function is passed the work in place of this frame stands in crates/engine/src/one.rt.
 #[tactic(auto, using(lent::proofs::Calling::taken_small, crate::proofs::Growing::read_appended))]
 pub fn read(lent: &mut Lent<'_>, file: &[u8]) -> Result<u64, Refusal>
     ensures { Called (on_pool (read_file file.now)) lent.old (numbered result) lent.new }

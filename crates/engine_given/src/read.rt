@@ -8,13 +8,11 @@ use lent_series::Series;
 use refusals::Refusal;
 use taylor::Expansion;
 
-// 1, 2 and 5, then the expansion that is given.
+// 1, 2 and 5, then the expansion that is given: the frame of a call that only reads. Why both tables and the count are three parameters stands at `lent::tables`.
 fn expansion_given(kinds: &[u8], words: &[u64], count: u64, s: Series) -> Result<Expansion, Refusal>
     ensures { numbered result ≡ given_to_read Err kinds.now words.now count s (Ok (given s)) }
 {
-    if !lent::is_pool(kinds, words, count) {
-        return Err(Refusal::BrokenPool);
-    }
+    lent::tables(kinds, words, count)?;
     s.nodes_given(count)?;
     s.expansion()
 }

@@ -11,7 +11,7 @@ use pool::Pool;
 use refusals::Refusal;
 use taylor::TERMS;
 
-// `TaylorExpansion::var` at a node: 1, 2 and 5, then the work.
+// `TaylorExpansion::var` at a node: 1, 2 and 5, then the work. Why no function is passed the work in place of this frame stands in crates/engine/src/one.rt.
 #[tactic(auto, using(crate::proofs::Growing::var_appended))]
 pub fn var(lent: &mut Lent<'_>, x: u64, order: u64) -> Result<Series, Refusal>
     ensures { Called (series_on_pool (var_call x order)) lent.old (numbered result) lent.new }

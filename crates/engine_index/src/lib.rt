@@ -15,7 +15,7 @@ use pool::Pool;
 use refusals::Refusal;
 use taylor::Expansion;
 
-// A reading by name, since theorems speak of it so: a closure in its place would state the same work at each call.
+// A reading by name, since theorems speak of it so (crates/limits/specs). The work as a closure was tried: see crates/engine/src/one.rt.
 #[derive(Clone, Copy)]
 pub enum Indexed {
     Coeff,
@@ -39,7 +39,7 @@ fn index_fits(s: &Series, index: u64) -> bool
     s.order == ENDLESS || index < s.order
 }
 
-// 1, 2 and 5, then the work.
+// 1, 2 and 5, then the work. Why no function is passed the work in place of this frame stands in crates/engine/src/one.rt.
 #[tactic(auto, using(lent_series::proofs::Numbers::nodes_fit, crate::proofs::Growing::indexed_appended))]
 fn on_index(lent: &mut Lent<'_>, op: Indexed, s: Series, index: u64) -> Result<u64, Refusal>
     ensures { Called (on_pool (on_index op s index)) lent.old (numbered result) lent.new }

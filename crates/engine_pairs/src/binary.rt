@@ -18,7 +18,7 @@ use pool::Pool;
 use refusals::Refusal;
 use taylor::Expansion;
 
-// An operation by name, since theorems speak of it so: a closure in its place would state the same work at each call.
+// An operation by name, since theorems speak of it so (crates/limits/specs). The work as a closure was tried: see crates/engine/src/one.rt.
 #[derive(Clone, Copy)]
 pub enum Binary {
     Add,
@@ -47,7 +47,7 @@ fn binary_in(
     }
 }
 
-// Whether a constant is among them, or both are as long.
+// Whether one of them is a constant, or both have the same length.
 fn as_long(s: &Series, t: &Series) -> bool
     ensures { result ≡ agree s.now t.now }
 {
@@ -60,16 +60,12 @@ fn lengths_fit(op: Binary, s: &Series, t: &Series) -> bool
     ensures { result ≡ lengths_ok op s.now t.now }
 {
     match op {
-        Binary::Add => true,
-        Binary::Sub => true,
-        Binary::Mul => true,
-        Binary::Div => true,
-        Binary::Max => true,
         Binary::Subst => as_long(s, t),
+        _ => true,
     }
 }
 
-// 2 of both.
+// The node numbers of both are below the count, or 2.
 fn nodes_given(count: u64, s: &Series, t: &Series) -> Result<(), Refusal>
     ensures { numbered result ≡ demanded (all_below count (nodes_of s.now) && all_below count (nodes_of t.now)) unknown_node }
 {
@@ -90,7 +86,7 @@ fn expansions(op: Binary, s: &Series, t: &Series) -> Result<(Expansion, Expansio
     Ok((lhs, rhs))
 }
 
-// 1, 2 and 5, then the work.
+// 1, 2 and 5, then the work. Why no function is passed the work in place of this frame stands in crates/engine/src/one.rt.
 #[tactic(auto, using(crate::proofs::Lengths::left_fits, crate::proofs::Lengths::right_fits, crate::proofs::Growing::binary_appended))]
 fn on_two(lent: &mut Lent<'_>, op: Binary, s: Series, t: Series) -> Result<Series, Refusal>
     ensures { Called (series_on_pool (on_expansions op s t)) lent.old (numbered result) lent.new }

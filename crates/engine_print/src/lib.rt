@@ -1,4 +1,4 @@
-// Printing as a call from outside.
+// Printing as a call from outside. Why both tables and the count are three parameters stands at `lent::tables`.
 #![tactic(auto)]
 
 ghost use Rattle.std.specs.Prelude.{◌≡◌};

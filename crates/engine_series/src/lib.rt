@@ -14,7 +14,8 @@ use pool::Pool;
 use refusals::Refusal;
 use taylor::Expansion;
 
-// An operation by name, since theorems speak of it so: a closure in its place would state the same work at each call.
+// An operation by name, since theorems speak of it so (crates/limits/specs). The work as a closure was tried: see crates/engine/src/one.rt. The variants are those of
+// `One` of constructor_calls, whose operands are nodes; here they are expansions.
 #[derive(Clone, Copy)]
 pub enum Unary {
     Neg,
@@ -34,7 +35,7 @@ fn unary_in(pool: &mut Pool, op: Unary, e: &Expansion) -> Result<Expansion, Refu
     }
 }
 
-// 1, 2 and 5, then the work.
+// 1, 2 and 5, then the work. Why no function is passed the work in place of this frame stands in crates/engine/src/one.rt.
 #[tactic(auto, using(lent_series::proofs::Numbers::nodes_fit, crate::proofs::Growing::unary_appended))]
 fn on_one(lent: &mut Lent<'_>, op: Unary, s: Series) -> Result<Series, Refusal>
     ensures { Called (series_on_pool (on_expansion op s)) lent.old (numbered result) lent.new }

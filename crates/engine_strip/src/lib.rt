@@ -1,4 +1,4 @@
-// Key strips as calls from outside. The tables and the count stay three parameters, since the C interface lends them so.
+// Key strips as calls from outside. Why both tables and the count are three parameters stands at `lent::tables`.
 #![tactic(auto)]
 
 ghost use Rattle.std.specs.Prelude.{◌≡◌};

@@ -1,4 +1,4 @@
-// Evaluation as calls from outside. The tables and the count stay three parameters, since the C interface lends them so.
+// Evaluation as calls from outside. Why both tables and the count are three parameters stands at `lent::tables`.
 #![tactic(auto)]
 
 ghost use Rattle.std.specs.Prelude.{◌≡◌};

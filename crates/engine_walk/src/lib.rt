@@ -1,4 +1,4 @@
-// Substitution and derivation as calls from outside.
+// Substitution and derivation as calls from outside. Why no function is passed the work in place of each frame stands in crates/engine/src/one.rt.
 #![tactic(auto)]
 
 ghost use Rattle.std.specs.Prelude.{◌≡◌};

@@ -3,7 +3,7 @@
 
 ghost use Rattle.std.specs.Prelude.{◌≡◌, true, [], ◌∷◌, leb, length, ◌↔◌, OnOk, IfOk, IsSome, IfSome, Ok, Err};
 ghost use Rattle.refusals.specs.Refusals.{broken_pool, unknown_node, unknown_variable};
-ghost use Rattle.refusals.specs.Numbers.{numbered};
+ghost use Rattle.refusals.specs.Numbers.{number, numbered};
 ghost use Rattle.pool.specs.Pool.{limit, is_pool, empty};
 ghost use Rattle.pool.specs.Made.{made};
 ghost use Rattle.pool.specs.Nodes.{all_below, greatest_variable};
@@ -28,7 +28,8 @@ fn sized<'a>(kinds: &'a [u8], words: &'a [u64]) -> Option<Tables<'a>>
     })
 }
 
-// 1, or both tables as they lie where they are lent, for a call that only reads them: nothing is copied.
+// 1, or both tables as they lie where they are lent, for a call that only reads them: nothing is copied. Such a call has both tables and the count as three
+// parameters. `Lent` holds them to be written; a struct that only reads would be made of the three at each call, and taken apart again by the first line of it.
 #[tactic(auto, using(crate::proofs::Tested::lengths_break, crate::proofs::Tested::rules_decide))]
 pub fn tables<'a>(kinds: &'a [u8], words: &'a [u64], count: u64) -> Result<Tables<'a>, Refusal>
     ensures tested { as_demanded (numbered result) ≡ demanded (is_pool kinds.now words.now count) broken_pool }
@@ -37,13 +38,6 @@ pub fn tables<'a>(kinds: &'a [u8], words: &'a [u64], count: u64) -> Result<Table
     sized(kinds, words)
         .filter(|tables| keeps_rules(*tables, count))
         .ok_or(Refusal::BrokenPool)
-}
-
-// Whether the tables and the count are a pool.
-pub fn is_pool(kinds: &[u8], words: &[u64], count: u64) -> bool
-    ensures { result ≡ is_pool kinds.now words.now count }
-{
-    tables(kinds, words, count).is_ok()
 }
 
 // Both tables and the count, lent for a call that appends. It is passed by reference: of one that is passed on by value, a proof knows too little
@@ -71,15 +65,13 @@ impl<'a> Lent<'a> {
 
     // 1, or what is lent as a pool. The entries below the count are copied over an empty pool, since a pool is 0 from the count on. A test that copies on its way
     // is slower: it stops at the first entry that breaks a rule, and so goes entry by entry through all the zeros.
-    #[tactic(auto, using(crate::proofs::Finishing::pool_sized, crate::proofs::Taken::as_many_kinds, crate::proofs::Taken::as_many_words))]
+    #[tactic(auto, using(crate::proofs::Calling::is_met, crate::proofs::Finishing::pool_sized, crate::proofs::Taken::as_many_kinds, crate::proofs::Taken::as_many_words))]
     pub fn take_in(&self, pool: &mut Pool) -> Result<(), Refusal>
         requires pool_value { pool.old ≡ empty }
         ensures tested { numbered result ≡ demanded (on_lent is_pool self.now) broken_pool }
         ensures taken { OnOk result (pool.new ≡ on_lent lent_pool self.now) }
     {
-        if !is_pool(self.kinds, self.words, *self.count) {
-            return Err(Refusal::BrokenPool);
-        }
+        tables(self.kinds, self.words, *self.count)?;
         let n = *self.count as usize;
         pool.kinds[..n].copy_from_slice(&self.kinds[..n]);
         pool.words[..n].copy_from_slice(&self.words[..n]);
@@ -88,7 +80,7 @@ impl<'a> Lent<'a> {
     }
 
     // The entries that work has appended and the new count, put back where the rest is the same already. Entry by entry: as copies of slices they would need memmove of
-    // the C library, which the archive does without.
+    // the C library, which the archive does without. By numbers: without them both tables and what is put into them would be four iterators in one loop.
     #[tactic(auto, using(crate::proofs::Finishing::fits_back, crate::proofs::Overwrite::as_long))]
     pub fn put_back(&mut self, pool: &Pool)
         requires count_value { on_lent is_pool self.old ≡ true }
@@ -107,7 +99,8 @@ impl<'a> Lent<'a> {
         *self.count = pool.count as u64;
     }
 
-    // After the work: what an accepted call has appended is put back, a refusal leaves all as it was.
+    // After the work: what an accepted call has appended is put back, a refusal leaves all as it was. `lent_series::finish` does the same for an expansion. `put_back`
+    // is what they share: a generic function of the rest would be a third one, which both call and then still make their answer.
     pub fn finish(&mut self, pool: &Pool, res: Result<u32, Refusal>) -> Result<u64, Refusal>
         requires count_value { on_lent is_pool self.old ≡ true }
         requires appended { Appended self.old.kinds.now self.old.words.now self.old.count.now (made res pool.now) }
@@ -119,14 +112,21 @@ impl<'a> Lent<'a> {
     }
 }
 
+// What must hold, or the refusal.
+pub fn demanded(test: bool, refusal: Refusal) -> Result<(), Refusal>
+    ensures { numbered result ≡ demanded test (number refusal) }
+{
+    if test {
+        return Ok(());
+    }
+    Err(refusal)
+}
+
 // 2, where a given node number is not below the count.
 pub fn one_given(count: u64, node: u64) -> Result<(), Refusal>
     ensures { numbered result ≡ demanded (all_below count (node ∷ [])) unknown_node }
 {
-    if node < count {
-        return Ok(());
-    }
-    Err(Refusal::UnknownNode)
+    demanded(node < count, Refusal::UnknownNode)
 }
 
 // 2, where one of two given node numbers is not below the count.
@@ -141,8 +141,5 @@ pub fn both_given(count: u64, lhs: u64, rhs: u64) -> Result<(), Refusal>
 pub fn variable_given(var: u64) -> Result<(), Refusal>
     ensures { numbered result ≡ demanded (leb var greatest_variable) unknown_variable }
 {
-    if var <= pool::VARIABLE_MAX {
-        return Ok(());
-    }
-    Err(Refusal::UnknownVariable)
+    demanded(var <= pool::VARIABLE_MAX, Refusal::UnknownVariable)
 }

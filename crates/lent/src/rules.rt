@@ -22,7 +22,7 @@ fn nodes_keep(table: &[u64; ROWS], tables: Tables<'_>, count: usize) -> bool
 }
 
 // The kinds from the count on are 0: their bits are gathered from all of them, with no early way out, so that many can be looked at in one step.
-// `word_bits` is no instance of the same generic function, since kinds are not gathered in blocks.
+// Of kinds and words one generic function would need `|` and a test for 0 of any number type, a trait with laws: longer than this and `word_bits`.
 #[tactic(auto, using(crate::proofs::Tested::none_yet, crate::proofs::Tested::one_gathered))]
 fn kinds_rest(kinds: &[u8; LIMIT], from: usize) -> bool
     requires { from ≤ limit }
@@ -35,7 +35,8 @@ fn kinds_rest(kinds: &[u8; LIMIT], from: usize) -> bool
     bits == 0
 }
 
-// How many words are gathered in one go. A loop of so many turns becomes a straight run of instructions, whose time goes less by where it lies.
+// How many words are gathered in one go. The compiler makes a loop of so many turns a straight run of instructions. As one loop over all words the test took more
+// time, and how much went by where the linker put it (docs/DECISIONS.md).
 const BLOCK: usize = 32;
 
 // The bits of all words from one number to another.

@@ -18,13 +18,10 @@ use taylor::Expansion;
 pub fn order_given(fits: bool) -> Result<(), Refusal>
     ensures { numbered result ≡ demanded fits wrong_order }
 {
-    if fits {
-        return Ok(());
-    }
-    Err(Refusal::WrongOrder)
+    lent::demanded(fits, Refusal::WrongOrder)
 }
 
-// After the work: what an accepted call has appended is put back, a refusal leaves all as it was.
+// After the work: what an accepted call has appended is put back, a refusal leaves all as it was. `Lent::finish` does the same for a node, and says why there are two.
 pub fn finish(
     lent: &mut Lent<'_>,
     pool: &Pool,

@@ -12,7 +12,7 @@ use refusals::Refusal;
 use taylor::{Coefficients, Expansion, TERMS};
 
 // The length of a constant.
-pub const ENDLESS: u64 = 0xffff_ffff_ffff_ffff;
+pub const ENDLESS: u64 = u64::MAX;
 
 // A list of `order` coefficients, or a constant, which stands in coeffs[0] and whose order is ENDLESS: the C interface has expansions so.
 #[derive(Clone, Copy)]
@@ -22,6 +22,16 @@ pub struct Series {
 }
 
 impl Series {
+    // What the C interface lends one by one.
+    pub fn new(order: u64, coeffs: &[u64; TERMS]) -> Series
+        ensures { result ≡ record { order = order; coeffs = coeffs.now } }
+    {
+        Series {
+            order,
+            coeffs: *coeffs,
+        }
+    }
+
     // How many node numbers are given.
     fn entries(&self) -> usize
         ensures { result ≡ entries self.now }
@@ -43,10 +53,7 @@ impl Series {
     pub fn nodes_given(&self, count: u64) -> Result<(), Refusal>
         ensures { numbered result ≡ demanded (all_below count (nodes_of self.now)) unknown_node }
     {
-        if self.nodes_below(count) {
-            return Ok(());
-        }
-        Err(Refusal::UnknownNode)
+        lent::demanded(self.nodes_below(count), Refusal::UnknownNode)
     }
 
     // The expansion that is given, a constant or a list of 1 to 25 entries, or 5.
@@ -60,6 +67,7 @@ impl Series {
         if self.order == 0 || self.order > TERMS as u64 {
             return Err(Refusal::WrongOrder);
         }
+        // entry by entry: past the list's end there may be any numbers, which need not fit a node number
         let mut list = Coefficients::one(self.coeffs[0] as u32);
         for i in 1..self.order as usize {
             list.push(self.coeffs[i] as u32);
@@ -83,6 +91,7 @@ impl From<Expansion> for Series {
                 }
             }
             Expansion::Polynomial(list) => {
+                // by numbers: a list of coefficients shows an entry by its number alone
                 for k in 0..list.len() {
                     coeffs[k as usize] = list.at(k) as u64;
                 }

@@ -70,7 +70,8 @@ pub trait Rewriting {
     ghost empty_refused: { (s : Self) (down : ℕ → Walk) (term : ℕ) → at_node s down term Empty ≡ refuse broken_pool };
 }
 
-// A whole walk. No result is kept at first: the table of a small root has few entries.
+// A whole walk. No result is kept at first: the table of a small root has few entries. A function with the length as a const parameter would spare one line of each
+// case, and have a contract and two requirements of its own.
 pub fn rewrite_in<R: Rewriting>(of: &R, pool: &mut Pool, root: u32) -> Result<u32, Refusal>
     ensures { made result pool.new ≡ walk_from (rewrite_at (R.at_node of.now)) root pool.old }
 {
