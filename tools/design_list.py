@@ -31,7 +31,7 @@ def named():
     """the names that README and docs/ have in backticks, at the commit and now"""
     words = set()
     for rev in (commit, "HEAD"):
-        for text in texts(rev, r"(README\.md|docs/.*\.md)$").values():
+        for text in texts(rev, r"(README\.md|docs/(?!DESIGN-PASS).*\.md)$").values():
             words |= set(re.findall(r"`([A-Za-z_0-9\-']+)`", text))
     return words
 
