@@ -26,7 +26,7 @@ same() { # WHAT LINES FILE FILE
 # A number as it is written in C, Rattle, antt or a table, as plain decimal digits.
 plain() {
   local value
-  value=$(sed -E 's/U?INT(32|64)_C\((.*)\)/\2/; s/[_,]//g; s/\^/**/g' <<<"$1")
+  value=$(sed -E 's/u64::MAX/0xffffffffffffffff/; s/U?INT(32|64)_C\((.*)\)/\2/; s/[_,]//g; s/\^/**/g' <<<"$1")
   printf '%u\n' "$((value))"
 }
 

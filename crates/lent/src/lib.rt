@@ -73,8 +73,8 @@ impl<'a> Lent<'a> {
     {
         tables(self.kinds, self.words, *self.count)?;
         let n = *self.count as usize;
-        pool.kinds[..n].copy_from_slice(&self.kinds[..n]);
-        pool.words[..n].copy_from_slice(&self.words[..n]);
+        put_over(&mut pool.kinds[..n], &self.kinds[..n]);
+        put_over(&mut pool.words[..n], &self.words[..n]);
         pool.count = *self.count as u32;
         Ok(())
     }
@@ -109,6 +109,17 @@ impl<'a> Lent<'a> {
         let node = res?;
         self.put_back(pool);
         Ok(node as u64)
+    }
+}
+
+// Entries put over as many others. Entry by entry: what is lent stands behind a reference, so the compiler does not see that the two never overlap, and
+// `copy_from_slice` would need memmove of the C library, which the archive does without.
+fn put_over<T: Copy>(to: &mut [T], from: &[T])
+    requires { length to.old ≡ length from.now }
+    ensures { to.new ≡ from.now }
+{
+    for i in 0..from.len() {
+        to[i] = from[i];
     }
 }
 

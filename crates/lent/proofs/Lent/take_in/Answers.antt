@@ -12,4 +12,4 @@ returns-clause-taken c =
     let p = is_met (is_pool a.kinds.now a.words.now a.count.now) broken_pool c.in_ok-tables.ensures.tested in
     let k = kinds_taken a.kinds.now a.words.now a.count.now p in
     let w = words_taken a.kinds.now a.words.now a.count.now p in
-    rw (c.requires.pool_value, c.copy_from_slice.ensures.after, c.copy_from_slice-2.ensures.after, k, w) (whole a.kinds.now a.words.now a.count.now)
+    rw (c.requires.pool_value, c.put_over.ensures, c.put_over-2.ensures, k, w) (whole a.kinds.now a.words.now a.count.now)
