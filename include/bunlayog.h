@@ -26,12 +26,12 @@
  * Stack in bytes, as measured (docs/MEASUREMENTS.md has more figures, and the worst pool for each):
  *   check, taylor_order, taylor_from_coefficients       1,344
  *   run_strip                                           1,128
- *   lit, var and the constructors                      81,944
+ *   lit, var and the constructors                      81,928
  *   the other operations on expansions                 86,136
  *   write, read                                       369,136
  *   strip                                             282,736
  *   substitute_var, derive, evaluate, evaluate_residue,
- *   print                                             530,488
+ *   print                                             530,520
  *   taylor_coeffs, taylor_coeffs_at                   761,256
  *
  * The archive is for x86-64 Linux. It calls memcpy and memset and nothing else, and has no data that can be written.
