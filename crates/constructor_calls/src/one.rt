@@ -1,6 +1,7 @@
 // The constructors of one node.
 ghost use Rattle.std.specs.Prelude.{◌≡◌};
 ghost use Rattle.pool.specs.Made.{made};
+ghost use Rattle.pool.specs.Room.{room_of, RoomKept};
 ghost use Rattle.constructor_calls.specs.Calls.{one_work};
 
 use constructors::DEPTH;
@@ -16,8 +17,11 @@ pub enum One {
     Pow(u32),
 }
 
+// It is never put into a walk: a level of the walk would then have the room that the constructors keep, and take more of the stack.
+#[inline(never)]
 pub fn one_in(pool: &mut Pool, op: One, arg: u32) -> Result<u32, Refusal>
-    ensures { made result pool.new ≡ one_work op arg pool.old }
+    ensures is { made result pool.new ≡ one_work op arg pool.old }
+    ensures room { RoomKept result (room_of pool.old) pool.new }
 {
     match op {
         One::Neg => muls::neg_in(pool, DEPTH, arg),

@@ -1,6 +1,7 @@
 // The constructors of two nodes.
 ghost use Rattle.std.specs.Prelude.{◌≡◌};
 ghost use Rattle.pool.specs.Made.{made};
+ghost use Rattle.pool.specs.Room.{room_of, RoomKept};
 ghost use Rattle.constructor_calls.specs.Calls.{two_work};
 
 use constructors::DEPTH;
@@ -16,8 +17,11 @@ pub enum Two {
     Max,
 }
 
+// It is never put into a walk: a level of the walk would then have the room that the constructors keep, and take more of the stack.
+#[inline(never)]
 pub fn two_in(pool: &mut Pool, op: Two, lhs: u32, rhs: u32) -> Result<u32, Refusal>
-    ensures { made result pool.new ≡ two_work op lhs rhs pool.old }
+    ensures is { made result pool.new ≡ two_work op lhs rhs pool.old }
+    ensures room { RoomKept result (room_of pool.old) pool.new }
 {
     match op {
         Two::Add => adds::add_in(pool, DEPTH, lhs, rhs),

@@ -6,6 +6,7 @@ mod rules;
 
 ghost use Rattle.std.specs.Prelude.{◌≡◌, refl};
 ghost use Rattle.pool.specs.Made.{made};
+ghost use Rattle.pool.specs.Room.{room_of, RoomKept};
 ghost use Rattle.walks.specs.Derive.{lit, derive_node, derive};
 ghost use Rattle.derive.specs.Rules.{rule_two, rule_one};
 
@@ -78,7 +79,8 @@ impl Rewriting for Derivation {
 // `derive`: the derivative by the variable `var` of the expression at `root`.
 #[tactic(auto, unfolding(walks::specs::Derive::derive))]
 pub fn derive_in(pool: &mut Pool, root: u32, var: u32) -> Result<u32, Refusal>
-    ensures { made result pool.new ≡ derive root var pool.old }
+    ensures is { made result pool.new ≡ derive root var pool.old }
+    ensures room { RoomKept result (room_of pool.old) pool.new }
 {
     rewrite_walk::rewrite_in(&Derivation { var }, pool, root)
 }

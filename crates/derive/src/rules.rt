@@ -61,7 +61,9 @@ fn power_rule(pool: &mut Pool, a: u32, exp: u32, da: u32) -> Result<u32, Refusal
     muls::mul_in(pool, DEPTH, t, p)
 }
 
-// The rule of a node of two parts.
+// The rule of a node of two parts. It is never put into the walk, nor is the next: a level of the walk would then have the room that the constructors keep, and
+// take more of the stack.
+#[inline(never)]
 pub fn rule_two(pool: &mut Pool, op: Two, a: u32, b: u32, da: u32, db: u32) -> Result<u32, Refusal>
     ensures { (kept : List (Option ℕ)) → lifted kept (made result pool.new) ≡ rule_two op a b da db (state pool.old kept) }
 {
@@ -73,6 +75,7 @@ pub fn rule_two(pool: &mut Pool, op: Two, a: u32, b: u32, da: u32, db: u32) -> R
 }
 
 // The rule of a node of one part.
+#[inline(never)]
 pub fn rule_one(pool: &mut Pool, op: One, term: u32, a: u32, da: u32) -> Result<u32, Refusal>
     ensures { (kept : List (Option ℕ)) → lifted kept (made result pool.new) ≡ rule_one op term a da (state pool.old kept) }
 {

@@ -4,6 +4,7 @@ ghost use Rattle.pool.specs.Pool.{limit};
 ghost use Rattle.taylor.specs.Coefficients.{terms};
 ghost use Rattle.taylor.specs.Expand.{state, expand_below, expand};
 ghost use Rattle.pool.specs.Made.{made};
+ghost use Rattle.pool.specs.Room.{room_of, RoomKept};
 ghost use Rattle.expand.specs.Results.{results_of, walked};
 
 use crate::node::{keep_in, kept_for, visited};
@@ -18,8 +19,25 @@ const FEW_PLACES: usize = 128;
 const SOME_PLACES: usize = 512;
 
 // `taylor_coeffs`, `taylor_coeffs_at`: the expansion of the expression at `root` in the variable `var`.
-#[tactic(auto, using(expand_laws::proofs::Bounds::nowhere))]
 pub fn expand_in(
+    pool: &mut Pool,
+    root: u32,
+    var: u32,
+    point: Option<i64>,
+    order: u32,
+) -> Result<Expansion, Refusal>
+    requires { order < terms }
+    ensures is { made result pool.new ≡ expand root var point order pool.old }
+    ensures room { RoomKept result (room_of pool.old) pool.new }
+{
+    let room = pool.room();
+    let made = expand_unsettled(pool, root, var, point, order);
+    pool.settle(room, made)
+}
+
+// The same, but after a refusal the count may have moved.
+#[tactic(auto, using(expand_laws::proofs::Bounds::nowhere))]
+fn expand_unsettled(
     pool: &mut Pool,
     root: u32,
     var: u32,

@@ -4,6 +4,7 @@ ghost use Rattle.std.specs.Prelude.{◌≡◌, ◌+◌, ◌*ℤ◌};
 ghost use Rattle.constructors.specs.Terms.{#, lit, lit_exp, add, mul, exp, pow, Mul};
 ghost use Rattle.constructors.specs.Build.{build, calls, no_calls};
 ghost use Rattle.pool.specs.Made.{made};
+ghost use Rattle.pool.specs.Room.{room_of, RoomKept};
 
 use crate::rule::ExpRule;
 use mul_rules::MulRule;
@@ -11,9 +12,19 @@ use pool::{Node, Pool};
 use refusals::Refusal;
 
 // The product of two nodes, with `left` constructors left to run inside one another.
+pub fn mul_in(pool: &mut Pool, left: u32, lhs: u32, rhs: u32) -> Result<u32, Refusal>
+    ensures is { made result pool.new ≡ (calls left).mul_at lhs rhs pool.old }
+    ensures room { RoomKept result (room_of pool.old) pool.new }
+{
+    let room = pool.room();
+    let made = mul_unsettled(pool, left, lhs, rhs);
+    pool.settle(room, made)
+}
+
+// The same, but after a refusal the count may have moved: it is what the rules call.
 #[cycle(mul_and_exp_rules)]
 #[tactic(auto, using(views::proofs::Steps::runs_deeper, views::proofs::Steps::none_left, views::proofs::Steps::build_node, views::proofs::Steps::build_lit, views::proofs::Steps::build_mul, crate::proofs::Tables::build_scaled))]
-pub fn mul_in(pool: &mut Pool, left: u32, lhs: u32, rhs: u32) -> Result<u32, Refusal>
+pub fn mul_unsettled(pool: &mut Pool, left: u32, lhs: u32, rhs: u32) -> Result<u32, Refusal>
     ensures { made result pool.new ≡ (calls left).mul_at lhs rhs pool.old }
 {
     if left == 0 {
@@ -36,9 +47,19 @@ pub fn mul_in(pool: &mut Pool, left: u32, lhs: u32, rhs: u32) -> Result<u32, Ref
 }
 
 // The exponential of a node, with `left` constructors left to run inside one another.
+pub fn exp_in(pool: &mut Pool, left: u32, arg: u32) -> Result<u32, Refusal>
+    ensures is { made result pool.new ≡ (calls left).exp_at arg pool.old }
+    ensures room { RoomKept result (room_of pool.old) pool.new }
+{
+    let room = pool.room();
+    let made = exp_unsettled(pool, left, arg);
+    pool.settle(room, made)
+}
+
+// The same, but after a refusal the count may have moved: it is what the rules call.
 #[cycle(mul_and_exp_rules)]
 #[tactic(auto, using(views::proofs::Steps::runs_deeper, views::proofs::Steps::none_left), unfolding(constructors::specs::Build::build))]
-pub fn exp_in(pool: &mut Pool, left: u32, arg: u32) -> Result<u32, Refusal>
+fn exp_unsettled(pool: &mut Pool, left: u32, arg: u32) -> Result<u32, Refusal>
     ensures { made result pool.new ≡ (calls left).exp_at arg pool.old }
 {
     if left == 0 {
@@ -53,14 +74,22 @@ pub fn exp_in(pool: &mut Pool, left: u32, arg: u32) -> Result<u32, Refusal>
     }
 }
 
+// add(a, b). It is never put into its caller: a level of `mul` would then have the room that `add_in` keeps, and take more of the stack.
+#[inline(never)]
+fn sum_in(pool: &mut Pool, left: u32, a: u32, b: u32) -> Result<u32, Refusal>
+    ensures { made result pool.new ≡ (calls left).add_at a b pool.old }
+{
+    adds::add_in(pool, left, a, b)
+}
+
 // exp(add(a, b))
 #[cycle(mul_and_exp_rules)]
 #[tactic(auto, unfolding(constructors::specs::Build::build))]
 fn exp_sum(pool: &mut Pool, left: u32, a: u32, b: u32) -> Result<u32, Refusal>
     ensures { made result pool.new ≡ build (calls left) (exp (add (# a) (# b))) pool.old }
 {
-    let s = adds::add_in(pool, left, a, b)?;
-    exp_in(pool, left, s)
+    let s = sum_in(pool, left, a, b)?;
+    exp_unsettled(pool, left, s)
 }
 
 // mul(lit(z.exp()), exp(a))
@@ -70,8 +99,8 @@ fn exp_shifted(pool: &mut Pool, left: u32, z: i64, a: u32) -> Result<u32, Refusa
     ensures { made result pool.new ≡ build (calls left) (mul (lit_exp z) (exp (# a))) pool.old }
 {
     let f = adds::lit_in(pool, literal::exp_literal(z))?;
-    let e = exp_in(pool, left, a)?;
-    mul_in(pool, left, f, e)
+    let e = exp_unsettled(pool, left, a)?;
+    mul_unsettled(pool, left, f, e)
 }
 
 // mul(x, exp(add(a, b)))
@@ -81,7 +110,7 @@ fn over_exp(pool: &mut Pool, left: u32, x: u32, a: u32, b: u32) -> Result<u32, R
     ensures { made result pool.new ≡ build (calls left) (mul (# x) (exp (add (# a) (# b)))) pool.old }
 {
     let e = exp_sum(pool, left, a, b)?;
-    mul_in(pool, left, x, e)
+    mul_unsettled(pool, left, x, e)
 }
 
 // mul(mul(x, y), exp(add(a, b)))
@@ -90,7 +119,7 @@ fn over_exp(pool: &mut Pool, left: u32, x: u32, a: u32, b: u32) -> Result<u32, R
 fn over_exps(pool: &mut Pool, left: u32, x: u32, y: u32, a: u32, b: u32) -> Result<u32, Refusal>
     ensures { made result pool.new ≡ build (calls left) (mul (mul (# x) (# y)) (exp (add (# a) (# b)))) pool.old }
 {
-    let p = mul_in(pool, left, x, y)?;
+    let p = mul_unsettled(pool, left, x, y)?;
     over_exp(pool, left, p, a, b)
 }
 
@@ -119,7 +148,7 @@ fn scales(pool: &mut Pool, left: u32, x: i64, y: i64, c: u32, d: u32) -> Result<
 fn under(pool: &mut Pool, left: u32, a: u32, b: u32, c: u32) -> Result<u32, Refusal>
     ensures { made result pool.new ≡ build (calls left) (Mul (# a) (mul (# b) (# c))) pool.old }
 {
-    let p = mul_in(pool, left, b, c)?;
+    let p = mul_unsettled(pool, left, b, c)?;
     pool.append(Node::Mul(a, p))
 }
 
@@ -130,5 +159,5 @@ fn times_power(pool: &mut Pool, left: u32, a: u32, b: u32, e1: u32, e2: u32) -> 
     ensures { made result pool.new ≡ build (calls left) (mul (# a) (pow (# b) (e1 + e2))) pool.old }
 {
     let p = crate::power::pow_sum(pool, left, b, e1, e2)?;
-    mul_in(pool, left, a, p)
+    mul_unsettled(pool, left, a, p)
 }

@@ -3,6 +3,7 @@ ghost use Rattle.std.specs.Prelude.{◌≡◌, ◌+◌};
 ghost use Rattle.constructors.specs.Terms.{#, pow};
 ghost use Rattle.constructors.specs.Build.{build, calls};
 ghost use Rattle.pool.specs.Made.{made};
+ghost use Rattle.pool.specs.Room.{room_of, RoomKept};
 
 use pool::{Node, Pool};
 use refusals::Refusal;
@@ -10,7 +11,8 @@ use refusals::Refusal;
 // The power of a node, with `left` constructors left to run inside one another. No constructor runs inside it, so `left` is only tested.
 #[tactic(auto, using(views::proofs::Steps::runs_deeper, views::proofs::Steps::none_left, views::proofs::Steps::build_node, views::proofs::Steps::build_lit, views::proofs::Steps::build_pow, crate::proofs::Tables::power_zero, crate::proofs::Tables::power_one, crate::proofs::Tables::power_of_other, crate::proofs::Tables::power_of_zero, crate::proofs::Tables::power_of_one, crate::proofs::Tables::power_of_lit))]
 pub fn pow_in(pool: &mut Pool, left: u32, base: u32, exp: u32) -> Result<u32, Refusal>
-    ensures { made result pool.new ≡ (calls left).pow_at base exp pool.old }
+    ensures is { made result pool.new ≡ (calls left).pow_at base exp pool.old }
+    ensures room { RoomKept result (room_of pool.old) pool.new }
 {
     if left == 0 {
         return Err(Refusal::TooDeep);

@@ -5,6 +5,7 @@ ghost use Rattle.std.specs.Prelude.{◌≡◌, ℕ, ◌+◌, ◌<◌, ◌≤◌,
 ghost use Rattle.refusals.specs.Numbers.{numbered};
 ghost use Rattle.pool.specs.Pool.{limit, empty, node_at};
 ghost use Rattle.pool.specs.Made.{made};
+ghost use Rattle.pool.specs.Room.{room_of, RoomKept};
 ghost use Rattle.pool.specs.Rows.{row_numbers};
 ghost use Rattle.shape.specs.Shape.{rename};
 ghost use Rattle.shape.specs.File.{are_in_order, append_shifted, read_file};
@@ -120,8 +121,19 @@ fn append_entries(entries: &Pool, n: usize, pool: &mut Pool) -> Result<u32, Refu
 }
 
 // A node file read into the pool: its test, then its nodes appended.
-#[tactic(auto, unfolding(shape::specs::File::read_file, shape::specs::File::is_sized, crate::specs::Reads::test_file))]
 pub fn read_file(file: &[u8], pool: &mut Pool) -> Result<u32, Refusal>
+    requires { pool.old.count ≤ limit }
+    ensures is { made result pool.new ≡ read_file file.now pool.old }
+    ensures room { RoomKept result (room_of pool.old) pool.new }
+{
+    let room = pool.room();
+    let made = read_unsettled(file, pool);
+    pool.settle(room, made)
+}
+
+// The same, but after a refusal the count may have moved.
+#[tactic(auto, unfolding(shape::specs::File::read_file, shape::specs::File::is_sized, crate::specs::Reads::test_file))]
+fn read_unsettled(file: &[u8], pool: &mut Pool) -> Result<u32, Refusal>
     requires { pool.old.count ≤ limit }
     ensures { made result pool.new ≡ read_file file.now pool.old }
 {

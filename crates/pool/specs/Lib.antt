@@ -8,3 +8,4 @@ pub mod Made
 pub mod Rows
 pub mod WordHalves
 pub mod Tables
+pub mod Room

@@ -3,6 +3,7 @@ ghost use Rattle.std.specs.Prelude.{◌≡◌};
 ghost use Rattle.pool.specs.Pool.{node_at, empty, append};
 ghost use Rattle.pool.specs.Tables.{nodes};
 ghost use Rattle.pool.specs.Made.{made};
+ghost use Rattle.pool.specs.Room.{room_of, RoomKept};
 ghost use Rattle.pool.specs.WordHalves.{left_in, right_in};
 
 use crate::node::{HALF, Node};
@@ -60,6 +61,13 @@ pub struct Pool {
     pub end: u32,
 }
 
+// The room of a pool: where the next node goes, and where there is none.
+#[derive(Clone, Copy)]
+pub struct Room {
+    pub count: u32,
+    pub end: u32,
+}
+
 impl Pool {
     // A pool of no nodes, with room for as many as there can be.
     #[tactic(auto, unfolding(crate::specs::Pool::empty))]
@@ -95,7 +103,8 @@ impl Pool {
     // One node more: its number.
     #[tactic(auto, unfolding(crate::specs::Pool::append))]
     pub fn append(&mut self, node: Node) -> Result<u32, Refusal>
-        ensures { made result self.new ≡ append node self.old }
+        ensures is { made result self.new ≡ append node self.old }
+        ensures room { RoomKept result (room_of self.old) self.new }
     {
         let count = self.count;
         let at = count as usize;
@@ -106,5 +115,26 @@ impl Pool {
         self.words[at] = node.word();
         self.count = count + 1;
         Ok(count)
+    }
+    // Its room, to be put back where what is made is refused.
+    pub fn room(&self) -> Room
+        ensures { result ≡ room_of self.now }
+    {
+        Room {
+            count: self.count,
+            end: self.end,
+        }
+    }
+
+    // What was made is handed on. Where it was refused, the room from before it is put back, so that the next node gets the number that it would have got.
+    pub fn settle<T>(&mut self, room: Room, res: Result<T, Refusal>) -> Result<T, Refusal>
+        ensures is { made result self.new ≡ made res self.old }
+        ensures room { RoomKept result room self.new }
+    {
+        if res.is_err() {
+            self.count = room.count;
+            self.end = room.end;
+        }
+        res
     }
 }

@@ -6,6 +6,7 @@ ghost use Rattle.refusals.specs.Refusals.{broken_pool};
 ghost use Rattle.pool.specs.declared.node.Node.{Node};
 ghost use Rattle.pool.specs.declared.node.Node.TheVariants.{Empty};
 ghost use Rattle.pool.specs.Made.{made};
+ghost use Rattle.pool.specs.Room.{room_of, RoomKept};
 ghost use Rattle.walks.specs.Walk.{Walk, refuse, state, lifted, walk_below, walk_from};
 ghost use Rattle.rewrite_walk.specs.Walked.{walked, state_of};
 ghost use Rattle.rewrite_walk.specs.Steps.{after_one, after_two, in_steps, rewrite_at};
@@ -73,6 +74,16 @@ pub trait Rewriting {
 // A whole walk. No result is kept at first: the table of a small root has few entries. A function with the length as a const parameter would spare one line of each
 // case, and have a contract and two requirements of its own.
 pub fn rewrite_in<R: Rewriting>(of: &R, pool: &mut Pool, root: u32) -> Result<u32, Refusal>
+    ensures is { made result pool.new ≡ walk_from (rewrite_at (R.at_node of.now)) root pool.old }
+    ensures room { RoomKept result (room_of pool.old) pool.new }
+{
+    let room = pool.room();
+    let made = rewrite_unsettled(of, pool, root);
+    pool.settle(room, made)
+}
+
+// The same, but after a refusal the count may have moved.
+fn rewrite_unsettled<R: Rewriting>(of: &R, pool: &mut Pool, root: u32) -> Result<u32, Refusal>
     ensures { made result pool.new ≡ walk_from (rewrite_at (R.at_node of.now)) root pool.old }
 {
     if (root as usize) < FEW {

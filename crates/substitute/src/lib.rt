@@ -3,6 +3,7 @@
 
 ghost use Rattle.std.specs.Prelude.{◌≡◌, refl};
 ghost use Rattle.pool.specs.Made.{made};
+ghost use Rattle.pool.specs.Room.{room_of, RoomKept};
 ghost use Rattle.walks.specs.Walk.{yield};
 ghost use Rattle.walks.specs.Substitute.{substitute_node, substitute_var};
 ghost use Rattle.substitute.specs.Rebuild.{rebuild_two, rebuild_one};
@@ -84,7 +85,8 @@ impl Rewriting for Substitution {
 // `substitute_var`: the expression at `root` with the node `value` for the variable `var`.
 #[tactic(auto, unfolding(walks::specs::Substitute::substitute_var))]
 pub fn substitute_in(pool: &mut Pool, root: u32, var: u32, value: u32) -> Result<u32, Refusal>
-    ensures { made result pool.new ≡ substitute_var root var value pool.old }
+    ensures is { made result pool.new ≡ substitute_var root var value pool.old }
+    ensures room { RoomKept result (room_of pool.old) pool.new }
 {
     rewrite_walk::rewrite_in(&Substitution { var, value }, pool, root)
 }

@@ -1,6 +1,7 @@
 // The operations of `TaylorExpansion` that go entry by entry: `var`, `coeff`, sums, negatives, differences, and `max` of constants.
 ghost use Rattle.std.specs.Prelude.{◌≡◌, ◌<◌};
 ghost use Rattle.pool.specs.Made.{made};
+ghost use Rattle.pool.specs.Room.{room_of, RoomKept};
 ghost use Rattle.taylor.specs.Coefficients.{terms};
 ghost use Rattle.taylor.specs.Work.{each, neg};
 ghost use Rattle.taylor.specs.Expansion.{var, coeff, add_to, negate, sub_from, maximum};
@@ -14,8 +15,19 @@ use refusals::Refusal;
 use taylor::{Coefficients, Expansion};
 
 // `TaylorExpansion::var`: the point, a one, and zeros up to the order.
-#[tactic(auto, using(crate::proofs::Variables::var_of_order))]
 pub fn var_in(pool: &mut Pool, x: u32, order: u32) -> Result<Expansion, Refusal>
+    requires { order < terms }
+    ensures is { made result pool.new ≡ var x order pool.old }
+    ensures room { RoomKept result (room_of pool.old) pool.new }
+{
+    let room = pool.room();
+    let made = var_unsettled(pool, x, order);
+    pool.settle(room, made)
+}
+
+// The same, but after a refusal the count may have moved.
+#[tactic(auto, using(crate::proofs::Variables::var_of_order))]
+fn var_unsettled(pool: &mut Pool, x: u32, order: u32) -> Result<Expansion, Refusal>
     requires { order < terms }
     ensures { made result pool.new ≡ var x order pool.old }
 {
@@ -35,7 +47,8 @@ pub fn var_in(pool: &mut Pool, x: u32, order: u32) -> Result<Expansion, Refusal>
 // Coefficient k; any positive one of a constant is a new literal 0.
 pub fn coeff_in(pool: &mut Pool, e: &Expansion, k: u64) -> Result<u32, Refusal>
     requires { HasIndex e.now k }
-    ensures { made result pool.new ≡ coeff e.now k pool.old }
+    ensures is { made result pool.new ≡ coeff e.now k pool.old }
+    ensures room { RoomKept result (room_of pool.old) pool.new }
 {
     match e {
         Expansion::Constant(c) => {
@@ -54,6 +67,16 @@ pub fn coeff_in(pool: &mut Pool, e: &Expansion, k: u64) -> Result<u32, Refusal>
 
 // lhs + rhs
 pub fn add_in(pool: &mut Pool, lhs: &Expansion, rhs: &Expansion) -> Result<Expansion, Refusal>
+    ensures is { made result pool.new ≡ add_to lhs.now rhs.now pool.old }
+    ensures room { RoomKept result (room_of pool.old) pool.new }
+{
+    let room = pool.room();
+    let made = add_unsettled(pool, lhs, rhs);
+    pool.settle(room, made)
+}
+
+// The same, but after a refusal the count may have moved.
+fn add_unsettled(pool: &mut Pool, lhs: &Expansion, rhs: &Expansion) -> Result<Expansion, Refusal>
     ensures { made result pool.new ≡ add_to lhs.now rhs.now pool.old }
 {
     match (lhs, rhs) {
@@ -83,6 +106,16 @@ fn negatives_in(pool: &mut Pool, list: &Coefficients) -> Result<Coefficients, Re
 
 // -e
 pub fn neg_in(pool: &mut Pool, e: &Expansion) -> Result<Expansion, Refusal>
+    ensures is { made result pool.new ≡ negate e.now pool.old }
+    ensures room { RoomKept result (room_of pool.old) pool.new }
+{
+    let room = pool.room();
+    let made = neg_unsettled(pool, e);
+    pool.settle(room, made)
+}
+
+// The same, but after a refusal the count may have moved.
+fn neg_unsettled(pool: &mut Pool, e: &Expansion) -> Result<Expansion, Refusal>
     ensures { made result pool.new ≡ negate e.now pool.old }
 {
     match e {
@@ -93,6 +126,16 @@ pub fn neg_in(pool: &mut Pool, e: &Expansion) -> Result<Expansion, Refusal>
 
 // lhs - rhs. Of a constant less a list all negatives come first, then the sum with coefficient 0.
 pub fn sub_in(pool: &mut Pool, lhs: &Expansion, rhs: &Expansion) -> Result<Expansion, Refusal>
+    ensures is { made result pool.new ≡ sub_from lhs.now rhs.now pool.old }
+    ensures room { RoomKept result (room_of pool.old) pool.new }
+{
+    let room = pool.room();
+    let made = sub_unsettled(pool, lhs, rhs);
+    pool.settle(room, made)
+}
+
+// The same, but after a refusal the count may have moved.
+fn sub_unsettled(pool: &mut Pool, lhs: &Expansion, rhs: &Expansion) -> Result<Expansion, Refusal>
     ensures { made result pool.new ≡ sub_from lhs.now rhs.now pool.old }
 {
     match (lhs, rhs) {
@@ -116,7 +159,8 @@ pub fn sub_in(pool: &mut Pool, lhs: &Expansion, rhs: &Expansion) -> Result<Expan
 
 // What `max` makes of two constants; `MaxReached` of any list.
 pub fn max_in(pool: &mut Pool, lhs: &Expansion, rhs: &Expansion) -> Result<Expansion, Refusal>
-    ensures { made result pool.new ≡ maximum lhs.now rhs.now pool.old }
+    ensures is { made result pool.new ≡ maximum lhs.now rhs.now pool.old }
+    ensures room { RoomKept result (room_of pool.old) pool.new }
 {
     match (lhs, rhs) {
         (Expansion::Constant(l), Expansion::Constant(r)) => {

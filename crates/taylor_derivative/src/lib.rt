@@ -3,6 +3,7 @@
 
 ghost use Rattle.std.specs.Prelude.{◌≡◌, ◌<◌, length};
 ghost use Rattle.pool.specs.Made.{made};
+ghost use Rattle.pool.specs.Room.{room_of, RoomKept};
 ghost use Rattle.taylor.specs.Expansion.{derivative};
 ghost use Rattle.taylor_base.specs.Entries.{HasIndex};
 ghost use Rattle.taylor_derivative.specs.Factorials.{factor, derivative_of};
@@ -41,8 +42,19 @@ fn derivative_list(pool: &mut Pool, list: &Coefficients, k: u64) -> Result<u32, 
 }
 
 // The k-th derivative; any positive one of a constant is a new literal 0.
-#[tactic(auto, using(crate::proofs::Factorials::derivative_is))]
 pub fn derivative_in(pool: &mut Pool, e: &Expansion, k: u64) -> Result<u32, Refusal>
+    requires { HasIndex e.now k }
+    ensures is { made result pool.new ≡ derivative e.now k pool.old }
+    ensures room { RoomKept result (room_of pool.old) pool.new }
+{
+    let room = pool.room();
+    let made = derivative_unsettled(pool, e, k);
+    pool.settle(room, made)
+}
+
+// The same, but after a refusal the count may have moved.
+#[tactic(auto, using(crate::proofs::Factorials::derivative_is))]
+fn derivative_unsettled(pool: &mut Pool, e: &Expansion, k: u64) -> Result<u32, Refusal>
     requires { HasIndex e.now k }
     ensures { made result pool.new ≡ derivative e.now k pool.old }
 {

@@ -1,11 +1,12 @@
 // Powers of an expansion, by the binary digits of the exponent.
 ghost use Rattle.std.specs.Prelude.{◌≡◌};
 ghost use Rattle.pool.specs.Made.{made};
+ghost use Rattle.pool.specs.Room.{room_of, RoomKept};
 ghost use Rattle.taylor.specs.Expansion.{pow_from, power, digits};
 ghost use Rattle.taylor.specs.declared.expansion.Expansion.TheVariants.{Constant};
 ghost use Rattle.taylor_products.specs.Powers.{times_if};
 
-use crate::product::times_in;
+use crate::product::times_unsettled;
 use pool::Pool;
 use refusals::Refusal;
 use taylor::Expansion;
@@ -20,7 +21,7 @@ fn times_if(
     ensures { made result pool.new ≡ times_if asked lhs.now rhs.now pool.old }
 {
     if asked {
-        return times_in(pool, lhs, rhs);
+        return times_unsettled(pool, lhs, rhs);
     }
     Ok(*lhs)
 }
@@ -44,6 +45,16 @@ fn rounds_in(pool: &mut Pool, one: u32, base: &Expansion, exp: u32) -> Result<Ex
 
 // base to the power exp
 pub fn pow_in(pool: &mut Pool, base: &Expansion, exp: u32) -> Result<Expansion, Refusal>
+    ensures is { made result pool.new ≡ power base.now exp pool.old }
+    ensures room { RoomKept result (room_of pool.old) pool.new }
+{
+    let room = pool.room();
+    let made = pow_unsettled(pool, base, exp);
+    pool.settle(room, made)
+}
+
+// The same, but after a refusal the count may have moved.
+fn pow_unsettled(pool: &mut Pool, base: &Expansion, exp: u32) -> Result<Expansion, Refusal>
     ensures { made result pool.new ≡ power base.now exp pool.old }
 {
     let one = taylor_base::from_in(pool, 1)?;

@@ -1,6 +1,7 @@
 // The product of two expansions.
 ghost use Rattle.std.specs.Prelude.{◌≡◌, ◌≤◌, ◌<◌, [], length, min};
 ghost use Rattle.pool.specs.Made.{made};
+ghost use Rattle.pool.specs.Room.{room_of, RoomKept};
 ghost use Rattle.taylor.specs.Coefficients.{terms};
 ghost use Rattle.taylor.specs.Work.{fill};
 ghost use Rattle.taylor.specs.Expansion.{product_term, product_at, times};
@@ -67,8 +68,22 @@ fn products_in(
 }
 
 // lhs * rhs
-#[tactic(auto, unfolding(taylor::specs::Expansion::times))]
 pub fn times_in(pool: &mut Pool, lhs: &Expansion, rhs: &Expansion) -> Result<Expansion, Refusal>
+    ensures is { made result pool.new ≡ times lhs.now rhs.now pool.old }
+    ensures room { RoomKept result (room_of pool.old) pool.new }
+{
+    let room = pool.room();
+    let made = times_unsettled(pool, lhs, rhs);
+    pool.settle(room, made)
+}
+
+// The same, but after a refusal the count may have moved.
+#[tactic(auto, unfolding(taylor::specs::Expansion::times))]
+pub fn times_unsettled(
+    pool: &mut Pool,
+    lhs: &Expansion,
+    rhs: &Expansion,
+) -> Result<Expansion, Refusal>
     ensures { made result pool.new ≡ times lhs.now rhs.now pool.old }
 {
     match (lhs, rhs) {

@@ -1,11 +1,12 @@
 // One expansion substituted into another, by Horner's method.
 ghost use Rattle.std.specs.Prelude.{◌≡◌, reverse};
 ghost use Rattle.pool.specs.Made.{made};
+ghost use Rattle.pool.specs.Room.{room_of, RoomKept};
 ghost use Rattle.taylor.specs.Expansion.{horner, subst};
 ghost use Rattle.taylor.specs.declared.expansion.Expansion.TheVariants.{Constant};
 ghost use Rattle.taylor_products.specs.Powers.{horner_step};
 
-use crate::product::times_in;
+use crate::product::times_unsettled;
 use pool::Pool;
 use refusals::Refusal;
 use taylor::{Coefficients, Expansion};
@@ -19,7 +20,7 @@ fn step_in(
 ) -> Result<Expansion, Refusal>
     ensures { made result pool.new ≡ horner_step inner.now c res.now pool.old }
 {
-    let product = times_in(pool, res, inner)?;
+    let product = times_unsettled(pool, res, inner)?;
     taylor_base::add_in(pool, &product, &Expansion::Constant(c))
 }
 
@@ -42,6 +43,20 @@ fn horner_in(
 
 // outer with inner for its variable
 pub fn subst_in(pool: &mut Pool, outer: &Expansion, inner: &Expansion) -> Result<Expansion, Refusal>
+    ensures is { made result pool.new ≡ subst outer.now inner.now pool.old }
+    ensures room { RoomKept result (room_of pool.old) pool.new }
+{
+    let room = pool.room();
+    let made = subst_unsettled(pool, outer, inner);
+    pool.settle(room, made)
+}
+
+// The same, but after a refusal the count may have moved.
+fn subst_unsettled(
+    pool: &mut Pool,
+    outer: &Expansion,
+    inner: &Expansion,
+) -> Result<Expansion, Refusal>
     ensures { made result pool.new ≡ subst outer.now inner.now pool.old }
 {
     match outer {

@@ -1,6 +1,7 @@
 // The logarithm of an expansion.
 ghost use Rattle.std.specs.Prelude.{◌≡◌};
 ghost use Rattle.pool.specs.Made.{made};
+ghost use Rattle.pool.specs.Room.{room_of, RoomKept};
 ghost use Rattle.taylor.specs.Expansion.{logarithm};
 
 use crate::coefficient::log_at;
@@ -12,6 +13,16 @@ use taylor_base::{fill_in, from_in};
 
 // log e, in the form of `exp_in`
 pub fn log_in(pool: &mut Pool, e: &Expansion) -> Result<Expansion, Refusal>
+    ensures is { made result pool.new ≡ logarithm e.now pool.old }
+    ensures room { RoomKept result (room_of pool.old) pool.new }
+{
+    let room = pool.room();
+    let made = log_unsettled(pool, e);
+    pool.settle(room, made)
+}
+
+// The same, but after a refusal the count may have moved.
+fn log_unsettled(pool: &mut Pool, e: &Expansion) -> Result<Expansion, Refusal>
     ensures { made result pool.new ≡ logarithm e.now pool.old }
 {
     match e {

@@ -1,6 +1,7 @@
 // The quotient of two expansions.
 ghost use Rattle.std.specs.Prelude.{◌≡◌};
 ghost use Rattle.pool.specs.Made.{made};
+ghost use Rattle.pool.specs.Room.{room_of, RoomKept};
 ghost use Rattle.taylor.specs.Expansion.{quotient};
 ghost use Rattle.taylor.specs.declared.expansion.Expansion.TheVariants.{Constant, Polynomial};
 
@@ -49,6 +50,20 @@ fn list_over(pool: &mut Pool, us: &Coefficients, ws: &Coefficients) -> Result<Ex
 
 // lhs / rhs
 pub fn quotient_in(pool: &mut Pool, lhs: &Expansion, rhs: &Expansion) -> Result<Expansion, Refusal>
+    ensures is { made result pool.new ≡ quotient lhs.now rhs.now pool.old }
+    ensures room { RoomKept result (room_of pool.old) pool.new }
+{
+    let room = pool.room();
+    let made = quotient_unsettled(pool, lhs, rhs);
+    pool.settle(room, made)
+}
+
+// The same, but after a refusal the count may have moved.
+fn quotient_unsettled(
+    pool: &mut Pool,
+    lhs: &Expansion,
+    rhs: &Expansion,
+) -> Result<Expansion, Refusal>
     ensures { made result pool.new ≡ quotient lhs.now rhs.now pool.old }
 {
     match (lhs, rhs) {

@@ -12,7 +12,7 @@ pub returns-in_err-last : goal.returns-in_err-last
 returns-in_err-last c =
     let p = err_from_is_err_and c.from_residual.result c.from_residual.ensures.1 in
     rw (p.1, p.2)
-    (none_more c.loop-i.invariant c.loop-i-test.true c.shifted.ensures c.in_err-last.ensures)
+    (none_more c.loop-i.invariant c.loop-i-test.true c.shifted.ensures c.in_err-last.ensures.is)
 
 pub loop-i-preserved : goal.loop-i-preserved
 loop-i-preserved c =

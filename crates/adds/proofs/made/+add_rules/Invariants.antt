@@ -6,8 +6,8 @@ use Rattle.adds.proofs.made.+add_rules.Given as goal
 abbrev pub decreases-add_chain : goal.decreases-add_chain
 decreases-add_chain l = 2 * l.left + 1
 
-abbrev pub decreases-add_in : goal.decreases-add_in
-decreases-add_in l = 2 * l.left
+abbrev pub decreases-add_unsettled : goal.decreases-add_unsettled
+decreases-add_unsettled l = 2 * l.left
 
 abbrev pub decreases-add_onto : goal.decreases-add_onto
 decreases-add_onto l = 2 * l.left + 1

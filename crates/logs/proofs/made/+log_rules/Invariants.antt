@@ -3,8 +3,8 @@
 use Prim.Native.Nat.{◌+◌, ◌*◌}
 use Rattle.logs.proofs.made.+log_rules.Given as goal
 
-abbrev pub decreases-log_in : goal.decreases-log_in
-decreases-log_in l = 2 * l.left
+abbrev pub decreases-log_unsettled : goal.decreases-log_unsettled
+decreases-log_unsettled l = 2 * l.left
 
 abbrev pub decreases-log_product : goal.decreases-log_product
 decreases-log_product l = 2 * l.left + 1

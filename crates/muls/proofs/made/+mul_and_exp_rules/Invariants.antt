@@ -3,8 +3,8 @@
 use Prim.Native.Nat.{◌+◌, ◌*◌}
 use Rattle.muls.proofs.made.+mul_and_exp_rules.Given as goal
 
-abbrev pub decreases-exp_in : goal.decreases-exp_in
-decreases-exp_in l = 4 * l.left
+abbrev pub decreases-exp_unsettled : goal.decreases-exp_unsettled
+decreases-exp_unsettled l = 4 * l.left
 
 abbrev pub decreases-exp_shifted : goal.decreases-exp_shifted
 decreases-exp_shifted l = 4 * l.left + 1
@@ -12,8 +12,8 @@ decreases-exp_shifted l = 4 * l.left + 1
 abbrev pub decreases-exp_sum : goal.decreases-exp_sum
 decreases-exp_sum l = 4 * l.left + 1
 
-abbrev pub decreases-mul_in : goal.decreases-mul_in
-decreases-mul_in l = 4 * l.left
+abbrev pub decreases-mul_unsettled : goal.decreases-mul_unsettled
+decreases-mul_unsettled l = 4 * l.left
 
 abbrev pub decreases-over_exp : goal.decreases-over_exp
 decreases-over_exp l = 4 * l.left + 2

@@ -1,11 +1,11 @@
--- `rewrite_in` is a whole walk: it begins with no result kept, in a table of few entries where the root is small, and a root past the tables is no node.
+-- `rewrite_unsettled` is a whole walk: it begins with no result kept, in a table of few entries where the root is small, and a root past the tables is no node.
 -- Assumes nothing.
 use native.Mathlib.Omega.{arith}
 use Rattle.pool.specs.Pool.{limit}
 use Rattle.rewrite_walk.specs.Steps.{rewrite_at}
 use Rattle.rewrite_walk.specs.Walked.{few}
 use Rattle.rewrite_walk.proofs.Turns.{whole, nowhere}
-use Rattle.rewrite_walk.proofs.rewrite_in.Goals as goal
+use Rattle.rewrite_walk.proofs.rewrite_unsettled.Goals as goal
 
 pub returns-then-root-lt-FEW : goal.returns-then-root-lt-FEW
 returns-then-root-lt-FEW g c =
