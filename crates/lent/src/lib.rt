@@ -1,19 +1,19 @@
 // What a caller lends: both tables of the pool are tested and taken in, and after an accepted call the new entries are put back.
 #![tactic(auto)]
 
-ghost use Rattle.std.specs.Prelude.{◌≡◌, true, [], ◌∷◌, leb, length, ◌↔◌, OnOk, IfOk, IsSome, IfSome, Ok, Err};
+ghost use Rattle.std.specs.Prelude.{◌≡◌, true, [], ◌∷◌, leb, length, ◌≤◌, ◌↔◌, OnOk, IfOk, IsSome, IfSome, Ok, Err};
 ghost use Rattle.refusals.specs.Refusals.{broken_pool, unknown_node, unknown_variable};
 ghost use Rattle.refusals.specs.Numbers.{number, numbered};
 ghost use Rattle.pool.specs.Pool.{limit, is_pool, empty};
 ghost use Rattle.pool.specs.Made.{made};
 ghost use Rattle.pool.specs.Nodes.{all_below, greatest_variable};
-ghost use Rattle.constructor_laws.specs.Grown.{Grown};
+ghost use Rattle.constructor_laws.specs.Grown.{SameBut, Grown};
 ghost use Rattle.lent.specs.Lent.{demanded, as_demanded};
 ghost use Rattle.lent.specs.Call.{lent_pool, lent_pool_to, leaves_of, on_lent, Appended, Called, SameLent};
 
 mod rules;
 
-use pool::{Pool, Tables};
+use pool::{LIMIT, Pool, Tables};
 use refusals::Refusal;
 use rules::keeps_rules;
 
@@ -63,11 +63,12 @@ impl<'a> Lent<'a> {
         }
     }
 
-    // 1, or what is lent as a pool. The entries below the count are copied over an empty pool, since a pool is 0 from the count on. A test that copies on its way
-    // is slower: it stops at the first entry that breaks a rule, and so goes entry by entry through all the zeros.
+    // 1, or what is lent as a pool. The entries below the count are copied over tables of zeros, as an empty pool has them, since a pool is 0 from the count on. A
+    // test that copies on its way is slower: it stops at the first entry that breaks a rule, and so goes entry by entry through all the zeros.
     #[tactic(auto, using(crate::proofs::Calling::is_met, crate::proofs::Finishing::pool_sized, crate::proofs::Taken::as_many_kinds, crate::proofs::Taken::as_many_words))]
     pub fn take_in(&self, pool: &mut Pool) -> Result<(), Refusal>
-        requires pool_value { pool.old ≡ empty }
+        requires kinds_value { pool.old.kinds ≡ empty.kinds }
+        requires words_value { pool.old.words ≡ empty.words }
         ensures tested { numbered result ≡ demanded (on_lent is_pool self.now) broken_pool }
         ensures taken { OnOk result (pool.new ≡ on_lent lent_pool self.now) }
     {
@@ -76,12 +77,12 @@ impl<'a> Lent<'a> {
         put_over(&mut pool.kinds[..n], &self.kinds[..n]);
         put_over(&mut pool.words[..n], &self.words[..n]);
         pool.count = *self.count as u32;
+        pool.end = LIMIT as u32;
         Ok(())
     }
 
-    // The entries that work has appended and the new count, put back where the rest is the same already. Entry by entry: as copies of slices they would need memmove of
-    // the C library, which the archive does without. By numbers: without them both tables and what is put into them would be four iterators in one loop.
-    #[tactic(auto, using(crate::proofs::Finishing::fits_back, crate::proofs::Overwrite::as_long))]
+    // The entries that work has appended and the new count, put back.
+    #[tactic(auto, using(crate::proofs::Finishing::fits_back))]
     pub fn put_back(&mut self, pool: &Pool)
         requires count_value { on_lent is_pool self.old ≡ true }
         requires grown { Grown (on_lent (lent_pool_to pool.now.end) self.old) pool.now }
@@ -92,10 +93,7 @@ impl<'a> Lent<'a> {
     {
         let from = *self.count as usize;
         let to = pool.count as usize;
-        for i in from..to {
-            self.kinds[i] = pool.kinds[i];
-            self.words[i] = pool.words[i];
-        }
+        put_back(self.kinds, self.words, from, to, &pool.kinds, &pool.words);
         *self.count = pool.count as u64;
     }
 
@@ -109,6 +107,29 @@ impl<'a> Lent<'a> {
         let node = res?;
         self.put_back(pool);
         Ok(node as u64)
+    }
+}
+
+// The entries from one number to another, put back where the rest is the same already. Entry by entry: as copies of slices they would need memmove of the C
+// library, which the archive does without. By numbers: without them both tables and what is put into them would be four iterators in one loop.
+#[tactic(auto, using(crate::proofs::Overwrite::as_long))]
+pub fn put_back(
+    kinds: &mut [u8],
+    words: &mut [u64],
+    from: usize,
+    to: usize,
+    new_kinds: &[u8; LIMIT],
+    new_words: &[u64; LIMIT],
+)
+    requires from_le_to { (from ≤ to) × (to ≤ limit) }
+    requires kinds_len { (length kinds.old ≡ limit) × (length words.old ≡ limit) }
+    requires same_but { SameBut from to kinds.old new_kinds.now × SameBut from to words.old new_words.now }
+    ensures kinds_after { kinds.new ≡ new_kinds.now }
+    ensures words_after { words.new ≡ new_words.now }
+{
+    for i in from..to {
+        kinds[i] = new_kinds[i];
+        words[i] = new_words[i];
     }
 }
 

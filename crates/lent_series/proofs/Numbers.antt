@@ -10,10 +10,10 @@ use mathlib.Core.List.{List, [], ◌∷◌, ◌++◌}
 use Prim.Native.Nat.{ℕ, zero, suc, ◌+◌, ◌-◌, ◌≤◌, ◌<◌}
 use native.Mathlib.Nat.{min-eq_left}
 use native.Mathlib.Omega.{arith}
-use lib.Dec.{ltb}
+use lib.Dec.{leb, ltb}
 use lib.ListN.{length, get_or, take, set, replicate}
 use lib.Seq.{length-take-le}
-use borrow.Author.Tests.{lt-ltb, ltb-true, ne_eqb}
+use borrow.Author.Tests.{leb-true, lt-ltb, ltb-true, ne_eqb}
 use Rattle.refusals.specs.Refusals.{broken_pool, unknown_node}
 use Rattle.pool.specs.Nodes.{all_below}
 use Rattle.pool.specs.Pool.{Pool, limit, is_pool}
@@ -22,7 +22,7 @@ use Rattle.taylor.specs.Expansion.{endless}
 use Rattle.lent.specs.Call.{lent_pool}
 use Rattle.lent.specs.Lent.{demanded}
 use Rattle.lent.proofs.Calling.{is_met, taken_small}
-use Rattle.lent_series.specs.Series.{entries, nodes_of}
+use Rattle.lent_series.specs.Series.{entries, nodes_of, length_ok}
 use Rattle.lent_series.specs.declared.series.Series.{Series}
 
 and_left : (a b : Bool) → (a && b) ≡ true → a ≡ true
@@ -62,6 +62,12 @@ nodes n cs small h = all_are_below limit cs (λ i k. more i (each_is_below n cs 
 -- numbers below the count of what was taken in are nodes
 pub nodes_fit : (ks ws : List ℕ) (n : ℕ) (P : Pool) (cs : List ℕ) → P ≡ lent_pool ks ws n → Ok tt ≡ demanded (is_pool ks ws n) broken_pool → Ok tt ≡ demanded (all_below P.count cs) unknown_node → all_below limit cs ≡ true
 nodes_fit ks ws n P cs taken tested given = nodes P.count cs (taken_small ks ws n P taken tested) (is_met (all_below P.count cs) unknown_node given)
+
+-- what has a length and is no constant is a list of 1 to 25 entries
+pub listed : (s : Series) → length_ok s ≡ true → s.order ≢ endless → (1 ≤ s.order) × (s.order ≤ terms)
+listed s h list =
+    let both : (leb 1 s.order && leb s.order terms) ≡ true = rw (ne_eqb s.order endless list) at h in
+    (leb-true 1 s.order (and_left (leb 1 s.order) _ both), leb-true s.order terms (and_right (leb 1 s.order) _ both))
 
 -- a node number that is given is a node's
 module _ (s : Series) (long : length s.coeffs ≡ terms) (h : all_below limit (nodes_of s) ≡ true) where

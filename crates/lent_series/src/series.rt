@@ -56,16 +56,24 @@ impl Series {
         lent::demanded(self.nodes_below(count), Refusal::UnknownNode)
     }
 
+    // Whether it is a constant, or a list of 1 to 25 entries.
+    pub fn has_length(&self) -> bool
+        ensures { result ≡ length_ok self.now }
+    {
+        self.order == ENDLESS || (self.order >= 1 && self.order <= TERMS as u64)
+    }
+
     // The expansion that is given, a constant or a list of 1 to 25 entries, or 5.
+    #[tactic(auto, using(crate::proofs::Numbers::listed))]
     pub fn expansion(&self) -> Result<Expansion, Refusal>
         requires { all_below limit (nodes_of self.now) ≡ true }
         ensures { numbered result ≡ demand Err (length_ok self.now) wrong_order (Ok (given self.now)) }
     {
+        if !self.has_length() {
+            return Err(Refusal::WrongOrder);
+        }
         if self.order == ENDLESS {
             return Ok(Expansion::Constant(self.coeffs[0] as u32));
-        }
-        if self.order == 0 || self.order > TERMS as u64 {
-            return Err(Refusal::WrongOrder);
         }
         // entry by entry: past the list's end there may be any numbers, which need not fit a node number
         let mut list = Coefficients::one(self.coeffs[0] as u32);

@@ -54,14 +54,14 @@ pub record Entering (first n : ℕ) (bs : List ℕ) (i : ℕ) (E : Pool) : Type 
   pub kinds : Filled i (kind_in first bs) E.kinds
   pub words : Filled i (word_in first n bs) E.words
 
-pub none_entered : (first n : ℕ) (bs : List ℕ) {E : Pool} → E ≡ empty → Entering first n bs 0 E
+pub none_entered : (first n : ℕ) (bs : List ℕ) {E : Pool} → (E.kinds ≡ empty.kinds) × (E.words ≡ empty.words) → Entering first n bs 0 E
 unfolding empty
 none_entered first n bs e =
     record {
       few = omega arith;
       passed = λ j l. absurd (not-suc-le-zero l);
-      kinds = none_filled (kind_in first bs) (zeros_are_zeros (ap (λ (P : Pool). P.kinds) e));
-      words = none_filled (word_in first n bs) (zeros_are_zeros (ap (λ (P : Pool). P.words) e));
+      kinds = none_filled (kind_in first bs) (zeros_are_zeros e.0);
+      words = none_filled (word_in first n bs) (zeros_are_zeros e.1);
     }
 
 module _ (first n : ℕ) (bs : List ℕ) (few_entries : n ≤ limit) where

@@ -41,7 +41,7 @@ fn size_of(file: &[u8]) -> Result<usize, Refusal>
 // that looks at them.
 fn entries_in(table: &[u64; ROWS], file: &[u8], first: usize, n: usize, entries: &mut Pool) -> bool
     requires has_entries { HasEntries first n file.now }
-    requires none { entries.old ≡ empty }
+    requires none { (entries.old.kinds ≡ empty.kinds) × (entries.old.words ≡ empty.words) }
     requires table_value { table.now ≡ row_numbers }
     ensures { Entered result first n file.now entries.new }
 {
@@ -80,10 +80,10 @@ fn in_order(entries: &Pool, roots: &[u64], n: usize) -> bool
     in_place(&numbering.number, n)
 }
 
-// The test of a node file, 7, 8 and 9: where it passes, the tables have its entries; how many they are is the answer.
+// The test of a node file, 7, 8 and 9: where it passes, the tables, which are zeros before as an empty pool's are, have its entries; how many they are is the answer.
 #[tactic(auto, unfolding(crate::specs::Reads::test_file, crate::specs::Reads::size_tested, shape::specs::File::is_sized, shape::specs::File::are_nodes, shape::specs::File::is_in_order))]
 pub fn test_file(file: &[u8], entries: &mut Pool) -> Result<usize, Refusal>
-    requires { entries.old ≡ empty }
+    requires zeros { (entries.old.kinds ≡ empty.kinds) × (entries.old.words ≡ empty.words) }
     ensures { FileTested (numbered result) file.now entries.new }
 {
     let n = size_of(file)?;

@@ -2,13 +2,14 @@
 -- Assumes nothing.
 use borrow.Author.Rules.{rules}
 use native.Mathlib.Omega.{arith}
-use mathlib.Core.Path.{◌≡◌}
+use mathlib.Core.Path.{◌≡◌, sym, ◌∙◌}
 use lib.ListN.{length}
 use Rattle.taylor.specs.Coefficients.{terms}
-use Rattle.lent_series.proofs.Numbers.{list_node}
+use Rattle.lent_series.proofs.Numbers.{listed, list_node}
 use Rattle.lent_series.proofs.series.Series.expansion.Goals as goal
 
 pub overflow_cast-self-in-loop-i : goal.overflow_cast-self-in-loop-i
 overflow_cast-self-in-loop-i c =
     let long : length c.args.self.now.coeffs ≡ terms = search rules in
-    record { fits = omega (arith, list_node c.args.self.now long c.requires c.if-self.false c.if-self-2.false c.loop-i.i c.loop-i-test.true) }
+    let list = listed c.args.self.now (sym c.has_length.ensures ∙ c.if-not-has_length.false) c.if-self.false in
+    record { fits = omega (arith, list_node c.args.self.now long c.requires c.if-self.false list.1 c.loop-i.i c.loop-i-test.true) }
