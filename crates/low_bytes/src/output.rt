@@ -35,6 +35,14 @@ impl Place {
         Place { at: 0 }
     }
 
+    // The place before which so many bytes stand: a caller may begin at any that is counted.
+    pub fn at(number: usize) -> Place
+        requires { number ≤ past_longest }
+        ensures { result ≡ number }
+    {
+        Place { at: number }
+    }
+
     // How many bytes stand before it.
     pub fn number(self) -> usize
         ensures value { result ≡ self }

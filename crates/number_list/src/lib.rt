@@ -83,6 +83,13 @@ impl<'a> Numbers<'a> {
         value(number)
     }
 
+    // What is left of the text, from behind the last number on.
+    pub fn rest(&self) -> &'a [u8]
+        ensures { result.now ≡ self.now.rest.now }
+    {
+        &self.rest[..]
+    }
+
     // Whether there is no further number.
     pub fn is_at_end(&self) -> bool
         ensures { result ≡ leb (length self.now.rest.now) (run false self.now.rest.now) }

@@ -23,12 +23,12 @@ pub const LOG: u64 = 18;
 
 pub const POW: u64 = 19;
 
-// One constructor, with its arguments from the list.
+// One constructor, with its arguments from the list. A number below them all, which only a call with lent tables can have, is the leaf that is no literal.
 pub fn build(op: u64, list: &mut Numbers, lent: &mut Lent) -> Result<u64, Refusal> {
     let a = list.next();
     match op {
         LIT => engine::lit(lent, literal::from_word(a)),
-        VAR => engine::var(lent, a),
+        0..=VAR => engine::var(lent, a),
         ADD => engine::add(lent, a, list.next()),
         MUL => engine::mul(lent, a, list.next()),
         DIV => engine::div(lent, a, list.next()),

@@ -34,8 +34,8 @@ fn of_one(op: u64, list: &mut Numbers, lent: &mut Lent) -> Result<Series, Refusa
     match op {
         EXP => engine_series::exp(lent, s),
         LOG => engine_series::log(lent, s),
-        NEG => engine_series::neg(lent, s),
-        _ => engine_series::pow(lent, s, half_of(list.next())),
+        POW => engine_series::pow(lent, s, half_of(list.next())),
+        _ => engine_series::neg(lent, s),
     }
 }
 
@@ -73,11 +73,11 @@ fn coeffs_at(list: &mut Numbers, lent: &mut Lent) -> Result<Series, Refusal> {
     engine_expand::coeffs_at(lent, root, var, point, order)
 }
 
-// One operation, with its arguments from the list.
+// One operation, with its arguments from the list. A number below ADD that is none of them, which the program does not give, is taken for `neg`.
 pub fn expanded(op: u64, list: &mut Numbers, lent: &mut Lent) -> Result<Series, Refusal> {
     match op {
         VAR => of_node(list, lent),
-        EXP..=POW => of_one(op, list, lent),
+        0..=POW => of_one(op, list, lent),
         ADD..=SUBST => of_two(op, list, lent),
         COEFFS => coeffs(list, lent),
         _ => coeffs_at(list, lent),

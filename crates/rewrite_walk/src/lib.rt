@@ -15,7 +15,7 @@ use pool::{LIMIT, Node, Pool};
 use refusals::Refusal;
 
 // A walk from a smaller root keeps its results in a table of this length: clearing one for every node takes a tenth of a small question's time.
-const FEW: usize = 256;
+pub const FEW: usize = 256;
 
 // What is to be done at a node, by name: it is found before the parts are walked, so that the node itself is not kept until then. That was tried: a node in memory is stored in
 // pieces and read back as others, which a processor waits for, and substituting took a sixth longer.

@@ -3,3 +3,4 @@ pub mod Entrywise
 pub mod Filling
 pub mod Variables
 pub mod Folding
+pub mod Sides

@@ -6,6 +6,7 @@ ghost use Rattle.taylor.specs.Coefficients.{terms};
 ghost use Rattle.taylor.specs.Work.{each, neg};
 ghost use Rattle.taylor.specs.Expansion.{var, coeff, add_to, negate, sub_from, maximum};
 ghost use Rattle.taylor_base.specs.Entries.{HasIndex};
+ghost use Rattle.taylor_base.specs.Sides.{constant_of, side};
 
 use crate::loops::{each_in, pairs_in};
 use crate::nodes::{from_in, sub_nodes};
@@ -157,15 +158,33 @@ fn sub_unsettled(pool: &mut Pool, lhs: &Expansion, rhs: &Expansion) -> Result<Ex
     }
 }
 
+// The constant that an expansion is; a list is none.
+fn constant_of(e: &Expansion) -> Option<u32>
+    ensures { result ≡ constant_of e.now }
+{
+    match e {
+        Expansion::Constant(c) => Some(*c),
+        Expansion::Polynomial(_) => None,
+    }
+}
+
+// What `max` makes of two sides, each given by its constant; `MaxReached` where one has none. So whoever holds a list need make no `Coefficients` of it, which
+// would have to have 1 to 25 entries.
+pub fn max_of(pool: &mut Pool, lhs: Option<u32>, rhs: Option<u32>) -> Result<Expansion, Refusal>
+    ensures is { made result pool.new ≡ maximum (side lhs) (side rhs) pool.old }
+    ensures room { RoomKept result (room_of pool.old) pool.new }
+{
+    match (lhs, rhs) {
+        (Some(l), Some(r)) => Ok(Expansion::Constant(logs::max_in(pool, DEPTH, l, r)?)),
+        _ => Err(Refusal::MaxReached),
+    }
+}
+
 // What `max` makes of two constants; `MaxReached` of any list.
+#[tactic(auto, using(crate::proofs::Sides::constants_decide))]
 pub fn max_in(pool: &mut Pool, lhs: &Expansion, rhs: &Expansion) -> Result<Expansion, Refusal>
     ensures is { made result pool.new ≡ maximum lhs.now rhs.now pool.old }
     ensures room { RoomKept result (room_of pool.old) pool.new }
 {
-    match (lhs, rhs) {
-        (Expansion::Constant(l), Expansion::Constant(r)) => {
-            Ok(Expansion::Constant(logs::max_in(pool, DEPTH, *l, *r)?))
-        }
-        _ => Err(Refusal::MaxReached),
-    }
+    max_of(pool, constant_of(lhs), constant_of(rhs))
 }

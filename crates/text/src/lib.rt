@@ -14,21 +14,27 @@ pub const LETTERS: u64 = 26;
 
 // A short text: its bytes stand at the end of the array, from start on, since digits are found from the last to the first; the kit's ArrayString grows at its end.
 // A contract sees the bytes alone.
-#[derive(Drop)]
+#[derive(Clone, Copy)]
 pub struct Text {
     bytes: [u8; ROOM],
     start: usize,
 }
 
 impl Model for Text {
-    ghost use Rattle.std.specs.Prelude.{ℕ, List, ◌≡◌, ◌≤◌, length, drop};
+    ghost use Rattle.std.specs.Prelude.{ℕ, List, ◌-◌, length, drop};
+    ghost use Rattle.std.proofs.Common.{ap, ◌∙◌};
     ghost use Rattle.text.specs.Text.{room};
+    ghost use Rattle.text.specs.Stored.{Stored, array_of};
 
     ghost Value = { List ℕ };
 
     ghost view = { λ t. drop t.start t.bytes };
 
-    ghost invariant = { λ t. (t.start ≤ room) × (length t.bytes ≡ room) };
+    ghost invariant = { λ t. Stored t.start t.bytes };
+
+    ghost inverse = { λ t. record { bytes = array_of t; start = room - length t } };
+
+    ghost inverse_ok = { λ t h. ap (λ bs. record { bytes = bs; start = room - length (drop t.start t.bytes) }) h.whole ∙ ap (λ n. record { bytes = t.bytes; start = n }) h.from };
 }
 
 impl Text {
