@@ -35,14 +35,6 @@ fn nodes_for(
     read_nodes(rt, file)
 }
 
-// How many coefficients follow the first line.
-fn lines_of(sheet: &Result<Page, Message>) -> u32 {
-    match sheet {
-        Ok(page) => page.nodes.len(),
-        Err(_) => 0,
-    }
-}
-
 // One piece.
 fn print_part(
     rt: &(impl Print + Eprint),
@@ -63,7 +55,7 @@ fn print_sheet(
     pool: &Pool,
 ) -> Result<(), Failed> {
     let mut out = [0u8; low_bytes::TEXT_MAX];
-    for line in 0..=lines_of(sheet) {
+    for line in 0..=sheet_page::lines_of(sheet) {
         for part in 0..PIECES {
             print_part(rt, sheet, pool, line, part, &mut out)?;
         }

@@ -9,7 +9,7 @@ use native.Mathlib.Omega.{arith}
 use native.Mathlib.Decide.{ℕ_discrete}
 use lib.Dec.{leb}
 use lib.ListN.{length, take, drop, get_or}
-use lib.Seq.{drop-cons, take_all}
+use lib.Seq.{drop-cons, get_or-take, take_all}
 use borrow.Author.Tests.{le-leb, lt-leb, leb-true}
 use Rattle.low_bytes.specs.Output.{longest_text}
 use Rattle.refusals.specs.Refusals.{unknown_variable, not_literal, wrong_order, no_room}
@@ -47,7 +47,7 @@ unfolding texts_from lines_from
 message_whole m ks ws = whole_is (Err m) ks ws ∙ append-nil (head_of (Err m))
 
 pub message_prepared : (m : Message) (ks ws : List ℕ) {text : List ℕ} → head_of (Err m) ≡ text → Prepared (Err m) ks ws text
-message_prepared m ks ws h = record { whole = message_whole m ks ws ∙ h; printable = record { short = λ i l. none_below l } }
+message_prepared m ks ws h = record { whole = message_whole m ks ws ∙ h; printable = record { few = omega arith; short = λ i l. none_below l }; some = tt }
 
 -- ---- the texts of all coefficients
 module _ (at : ℕ → Node) where
@@ -125,9 +125,13 @@ coefficients_are (Constant c) P = refl
 coefficients_are (Polynomial cs) P = refl
 
 -- ---- a page with coefficients
-module _ (v order : ℕ) (x : Point) (cs ks ws : List ℕ) (short : all_short (node_in ks ws) cs ≡ true) where
+-- the first n of its entries are the coefficients
+module _ (v order : ℕ) (x : Point) (n : ℕ) (ns ks ws : List ℕ) {cs : List ℕ} (counted : n ≡ length cs) (least : 1 ≤ n) (few : n ≤ terms) (first : take (length cs) ns ≡ cs) (short : all_short (node_in ks ws) cs ≡ true) where
   abbrev page : Sheet
-  page = Ok (record { var = v; order = order; point = x; nodes = cs })
+  page = Ok (record { var = v; order = order; point = x; lines = n; nodes = ns })
+
+  entry_is : (i : ℕ) → i < length cs → get_or ns i 0 ≡ get_or cs i 0
+  entry_is i h = sym (get_or-take (length cs) ns i 0 h) ∙ ap (λ (l : List ℕ). get_or l i 0) first
 
   texts_are : (todo i : ℕ) → i + todo ≤ length cs → texts_from page ks ws i todo ≡ texts_of (node_in ks ws) (take todo (drop i cs))
   unfolding texts_from
@@ -135,14 +139,16 @@ module _ (v order : ℕ) (x : Point) (cs ks ws : List ℕ) (short : all_short (n
   texts_are (suc todo) i h =
       let here : i < length cs = omega arith in
       let rest : suc i + todo ≤ length cs = omega arith in
-      rw (drop-cons cs i 0 here) (ap (λ (l : List (List ℕ)). text_at page ks ws i ∷ l) (texts_are todo (suc i) rest))
+      rw (drop-cons cs i 0 here, ← entry_is i here) (ap (λ (l : List (List ℕ)). text_at page ks ws i ∷ l) (texts_are todo (suc i) rest))
 
   pub lines_prepared : {c : Coefficients} → c ≡ Ok (texts_of (node_in ks ws) cs) → Prepared page ks ws (sheet_text v order x c)
   lines_prepared h =
       let most : 0 + length cs ≤ length cs = omega arith in
+      let all : texts_from page ks ws 0 n ≡ texts_of (node_in ks ws) cs = ap (texts_from page ks ws 0) counted ∙ (texts_are (length cs) 0 most ∙ ap (texts_of (node_in ks ws)) (take_all (length cs) cs (omega arith))) in
       record {
-        whole = rw h (whole_is page ks ws ∙ ap (λ (l : List (List ℕ)). head_of page ++ lines_from 0 l) (texts_are (length cs) 0 most ∙ ap (texts_of (node_in ks ws)) (take_all (length cs) cs (omega arith))));
-        printable = record { short = λ i l. each_short (node_in ks ws) cs short i l };
+        whole = rw h (whole_is page ks ws ∙ ap (λ (l : List (List ℕ)). head_of page ++ lines_from 0 l) all);
+        printable = record { few = few; short = λ i l. let here : i < length cs = rw counted at l in rw (entry_is i here) (each_short (node_in ks ws) cs short i here) };
+        some = least;
       }
 
 -- ---- what the file gives

@@ -1,6 +1,6 @@
 -- A sheet that is known to be whole before anything is printed.
 -- Assumes nothing.
-use Rattle.std.specs.Prelude.{◌≡◌, Bool, true, ◌&&◌, List, [], ◌∷◌, ℕ, leb, length, Some, None}
+use Rattle.std.specs.Prelude.{◌≡◌, ◌≤◌, Bool, true, ◌&&◌, List, [], ◌∷◌, ℕ, leb, length, Some, None, IfOk}
 use Rattle.low_bytes.specs.Output.{longest_text}
 use Rattle.pool.specs.declared.node.Node.{Node}
 use Rattle.pool.specs.Pool.{Out, done, refused}
@@ -37,10 +37,11 @@ expand_file file v x order = expand_found v x order (read_file file empty)
 abbrev pub file_coefficients : List ℕ → ℕ → ℕ → Point → Coefficients
 file_coefficients file v order x = expand_root v order x (read_file file empty)
 
--- the pieces of the page in order are the text, and each can be put
+-- the pieces of the page in order are the text, and each can be put; coefficient 0 is among them, where no message stands
 pub record Prepared (page : Sheet) (ks ws text : List ℕ) : Type 0 where
   pub whole : whole_of page ks ws ≡ text
   pub printable : Printable page ks ws
+  pub some : IfOk page (λ p. 1 ≤ p.lines)
 
 -- "Anything else prints `usage`, before the file is looked at": where the line asks for a sheet, the room has what was read of the file
 abbrev pub LookedAt : Line → List ℕ → ℕ → List ℕ → Type 0

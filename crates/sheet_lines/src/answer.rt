@@ -1,5 +1,5 @@
 // The sheet of a file, for numbers that were asked for.
-ghost use Rattle.std.specs.Prelude.{◌≡◌, ◌<◌};
+ghost use Rattle.std.specs.Prelude.{◌≡◌, ◌<◌, length, take};
 ghost use Rattle.pool.specs.Tables.{nodes as nodes_in};
 ghost use Rattle.pool.specs.Made.{made};
 ghost use Rattle.taylor.specs.Coefficients.{terms};
@@ -35,6 +35,18 @@ fn nodes_of(expansion: Expansion) -> Coefficients
         Expansion::Constant(node) => Coefficients::one(node),
         Expansion::Polynomial(nodes) => nodes,
     }
+}
+
+// The coefficients as a page has them: behind them the array has zeros.
+fn entries_of(nodes: &Coefficients) -> [u32; TERMS]
+    ensures { take (length nodes.now) result ≡ nodes.now }
+{
+    let mut entries = [0; TERMS];
+    // by numbers: a list of coefficients shows an entry by its number alone
+    for i in 0..nodes.len() {
+        entries[i as usize] = nodes.at(i);
+    }
+    entries
 }
 
 // The expansion of a file's root: the pool is emptied, and holds the file's nodes and those of the coefficients then.
@@ -75,7 +87,8 @@ fn lines_of(
         var,
         order,
         point,
-        nodes,
+        lines: nodes.len(),
+        nodes: entries_of(&nodes),
     })
 }
 

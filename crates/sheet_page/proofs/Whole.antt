@@ -1,7 +1,7 @@
 -- The pieces are short enough to be put, and all of them in order are the sheet.
 -- Assumes nothing.
 use mathlib.Core.Path.{◌≡◌, refl, sym, ap, ◌∙◌}
-use mathlib.Core.Bool.{Bool, true, false, cond}
+use mathlib.Core.Bool.{Bool, true, false, ◌&&◌, cond}
 use mathlib.Core.Logic.{◌≢◌}
 use mathlib.Core.List.{List, [], ◌∷◌, ◌++◌, append-nil, append_assoc}
 use Prim.Native.Nat.{ℕ, zero, suc, ◌+◌, ◌-◌, min, ◌≤◌, ◌<◌}
@@ -17,6 +17,7 @@ use Rattle.text.proofs.Digits.{decimal_is_short}
 use Rattle.low_bytes.specs.Output.{longest_text, Wrote}
 use Rattle.print.specs.Output.{Printed}
 use Rattle.std.specs.Prelude.{Some, None, Ok, Err}
+use Rattle.taylor.specs.Coefficients.{terms}
 use Rattle.taylor.specs.Expand.{Point}
 use Rattle.refusals.specs.Numbers.{number}
 use Rattle.sheet_page.specs.declared.first.Page.{Page}
@@ -110,7 +111,7 @@ head_short (Err (Refused r)) = refused_short (number r)
 pub no_lines : (sheet : Sheet) {m : Message} (line : ℕ) → sheet ≡ Err m → line ≢ 0 → lines_in sheet < line
 no_lines sheet line is some = rw is (omega (arith, some))
 
-pub beyond_lines : (sheet : Sheet) {page : Page} {n line : ℕ} → sheet ≡ Ok page → n ≡ length page.nodes → n < line → lines_in sheet < line
+pub beyond_lines : (sheet : Sheet) {page : Page} {n line : ℕ} → sheet ≡ Ok page → n ≡ page.lines → n < line → lines_in sheet < line
 beyond_lines sheet is e h = rw is (omega arith)
 
 -- ---- which piece it is
@@ -200,19 +201,22 @@ module _ (page : Sheet) (ks ws : List ℕ) (p : Printable page ks ws) where
 
   pub whole_put : (line part room : ℕ) → longest_text ≤ room → put_of page ks ws line part room ≡ piece_of page ks ws line part
   whole_put line part room h =
-      rw (le-leb longest_text room h, le-leb (length (piece_of page ks ws line part)) longest_text (piece_short line part)) refl
+      rw (le-leb longest_text room h, le-leb (lines_in page) terms p.few, le-leb (length (piece_of page ks ws line part)) longest_text (piece_short line part)) refl
 
 -- what is put is nothing, or the piece
 module _ (page : Sheet) (ks ws : List ℕ) (line part room : ℕ) where
   pub no_room : room < longest_text → [] ≡ put_of page ks ws line part room
   no_room h = rw (lt-leb longest_text room h) refl
 
-  pub may_be_put : longest_text ≤ room → short (piece_of page ks ws line part) ≡ put_of page ks ws line part room
-  may_be_put h = rw (le-leb longest_text room h) refl
+  pub too_many : longest_text ≤ room → terms < lines_in page → [] ≡ put_of page ks ws line part room
+  too_many h k = rw (le-leb longest_text room h, lt-leb (lines_in page) terms k) refl
+
+  pub may_be_put : longest_text ≤ room → lines_in page ≤ terms → short (piece_of page ks ws line part) ≡ put_of page ks ws line part room
+  may_be_put h k = rw (le-leb longest_text room h, le-leb (lines_in page) terms k) refl
 
   -- what is put has room
   pub put_fits : length (put_of page ks ws line part room) ≤ room
-  put_fits = go (leb longest_text room) refl
+  put_fits = go (leb longest_text room) (leb (lines_in page) terms) refl
     where
       piece : List ℕ
       piece = piece_of page ks ws line part
@@ -221,6 +225,7 @@ module _ (page : Sheet) (ks ws : List ℕ) (line part room : ℕ) where
       is_short true e = leb-true (length piece) longest_text e
       is_short false e = omega arith
 
-      go : (t : Bool) → leb longest_text room ≡ t → length (cond t (short piece) []) ≤ room
-      go true e = omega (arith, is_short (leb (length piece) longest_text) refl, leb-true longest_text room e)
-      go false e = omega arith
+      go : (t u : Bool) → leb longest_text room ≡ t → length (cond (t && u) (short piece) []) ≤ room
+      go true true e = omega (arith, is_short (leb (length piece) longest_text) refl, leb-true longest_text room e)
+      go true false e = omega arith
+      go false u e = omega arith

@@ -1,12 +1,12 @@
 -- A sheet in pieces, line by line: the first line is one piece; of each further line the index, the text and the line end are one each.
 -- Assumes nothing.
-use Rattle.std.specs.Prelude.{◌≡◌, cond, List, [], ◌++◌, ℕ, zero, suc, ◌≤◌, ◌<◌, leb, ltb, length, drop, Result, Ok, Err}
+use Rattle.std.specs.Prelude.{◌≡◌, ◌&&◌, cond, List, [], ◌++◌, ℕ, zero, suc, ◌≤◌, ◌<◌, leb, ltb, length, drop, Result, Ok, Err}
 use Rattle.low_bytes.specs.Output.{longest_text}
 use Rattle.text.specs.Text.{decimal}
 use Rattle.pool.specs.Pool.{node_in}
 use Rattle.walks.specs.Print.{text_of}
 use Rattle.refusals.specs.Numbers.{number}
-use Rattle.taylor.specs.Coefficients.{at}
+use Rattle.taylor.specs.Coefficients.{terms, at}
 use Rattle.taylor.specs.Expand.{Point}
 use Rattle.sheet_text.specs.Sheet.{line_end, space, colon, usage_text, refused_text, point_text}
 use Rattle.sheet_page.specs.declared.first.Page.{Page}
@@ -29,13 +29,15 @@ head_of (Ok page) = first_line page.var page.order page.point
 head_of (Err Usage) = usage_text ++ line_end
 head_of (Err (Refused r)) = refused_line (number r)
 
--- the coefficients, of which there are none where a message stands
+-- the entries, of which the lines show the first ones; there are none where a message stands
 abbrev pub nodes_in : Sheet → List ℕ
 nodes_in (Ok page) = page.nodes
 nodes_in (Err m) = []
 
+-- how many coefficients follow the first line
 abbrev pub lines_in : Sheet → ℕ
-lines_in sheet = length (nodes_in sheet)
+lines_in (Ok page) = page.lines
+lines_in (Err m) = 0
 
 -- how many pieces a line has at most
 abbrev pub pieces : ℕ
@@ -73,13 +75,14 @@ whole_of sheet ks ws = lines_up_to sheet ks ws (suc (lines_in sheet))
 abbrev pub short : List ℕ → List ℕ
 short piece = cond (leb (length piece) longest_text) piece []
 
--- what is put of a piece: nothing where the output has no room for the longest text
+-- what is put of a piece: nothing where the output has no room for the longest text, or the page more lines than an expansion has entries
 abbrev pub put_of : Sheet → List ℕ → List ℕ → ℕ → ℕ → ℕ → List ℕ
-put_of sheet ks ws line part room = cond (leb longest_text room) (short (piece_of sheet ks ws line part)) []
+put_of sheet ks ws line part room = cond (leb longest_text room && leb (lines_in sheet) terms) (short (piece_of sheet ks ws line part)) []
 
 -- "19 here means one coefficient's text above 65,535 bytes": no text is, and every piece is put whole (`whole_put` in proofs/)
 pub record Printable (sheet : Sheet) (ks ws : List ℕ) : Type 0 where
-  pub short : (i : ℕ) → i < (lines_in sheet) → length (text_at sheet ks ws i) ≤ longest_text
+  pub few : lines_in sheet ≤ terms
+  pub short : (i : ℕ) → i < lines_in sheet → length (text_at sheet ks ws i) ≤ longest_text
 
 -- a piece at the front of the output, which is otherwise as before
 pub record AtFront (text before : List ℕ) (n : ℕ) (after : List ℕ) : Type 0 where

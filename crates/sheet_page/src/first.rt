@@ -3,12 +3,12 @@ ghost use Rattle.std.specs.Prelude.{◌≡◌, ◌++◌};
 ghost use Rattle.low_bytes.specs.Output.{Wrote};
 ghost use Rattle.text.specs.Text.{decimal};
 ghost use Rattle.sheet_text.specs.Sheet.{point_text, colon};
-ghost use Rattle.sheet_page.specs.Pages.{refused_line, first_line, head_of};
+ghost use Rattle.sheet_page.specs.Pages.{refused_line, first_line, head_of, lines_in};
 ghost use Rattle.sheet_page.specs.declared.first.Message.TheVariants.{Refused};
 
 use low_bytes::{Place, write};
 use refusals::Refusal;
-use taylor::Coefficients;
+use taylor::TERMS;
 
 // What a sheet without coefficients says: that the line has not the form, or why there are none.
 #[derive(Clone, Copy, Debug, PartialEq, Eq)]
@@ -25,13 +25,24 @@ impl From<Refusal> for Message {
     }
 }
 
-// What was asked for, and the coefficients, which are nodes of a pool. A sheet is a page or a message.
+// What was asked for, how many coefficients follow, and an expansion's entries, the first of which they are: nodes of a pool. A sheet is a page or a message.
 #[derive(Clone, Copy)]
 pub struct Page {
     pub var: u32,
     pub order: u32,
     pub point: Option<i64>,
-    pub nodes: Coefficients,
+    pub lines: u32,
+    pub nodes: [u32; TERMS],
+}
+
+// How many coefficients follow the first line.
+pub fn lines_of(sheet: &Result<Page, Message>) -> u32
+    ensures { result ≡ lines_in sheet.now }
+{
+    match sheet {
+        Ok(page) => page.lines,
+        Err(_) => 0,
+    }
 }
 
 // `refused`, a space and the number.

@@ -4,5 +4,5 @@
 mod first;
 mod pieces;
 
-pub use first::{Message, Page};
+pub use first::{Message, Page, lines_of};
 pub use pieces::{PIECES, piece};

@@ -6,9 +6,10 @@ ghost use Rattle.walks.specs.Print.{text_of};
 ghost use Rattle.taylor.specs.Coefficients.{at};
 ghost use Rattle.sheet_page.specs.Pages.{piece_of_line, piece_of, short, put_of, AtFront};
 
-use crate::first::{Message, Page, head, label};
+use crate::first::{Message, Page, head, label, lines_of};
 use low_bytes::Place;
 use pool::Tables;
+use taylor::TERMS;
 
 // How many pieces a line has at most. A piece goes by a number, as its line does, since the program counts through both.
 pub const PIECES: u32 = 3;
@@ -34,14 +35,17 @@ fn piece_of_line(page: &Page, tables: Tables, index: u32, part: u32, out: &mut [
 {
     match part {
         0 => label(out, index).number(),
-        1 => text_of(tables, page.nodes.at(index), out),
+        1 => {
+            let node = page.nodes.get(index as usize).copied().unwrap_or(0);
+            text_of(tables, node, out)
+        }
         2 => low_bytes::write(out, Place::front(), b"\n").number(),
         _ => 0,
     }
 }
 
 // A piece, where there is room for the longest text.
-#[tactic(auto, using(crate::proofs::Whole::nothing_put, crate::proofs::Whole::one_first_piece, crate::proofs::Whole::no_line, crate::proofs::Whole::no_lines, crate::proofs::Whole::beyond_lines, crate::proofs::Whole::of_line))]
+#[tactic(auto, using(crate::proofs::Whole::nothing_put, crate::proofs::Whole::one_first_piece, crate::proofs::Whole::no_line, crate::proofs::Whole::no_lines, crate::proofs::Whole::beyond_lines))]
 fn piece_of(
     sheet: &Result<Page, Message>,
     tables: Tables,
@@ -61,7 +65,7 @@ fn piece_of(
     }
     match sheet {
         Ok(page) => {
-            if page.nodes.len() < line {
+            if page.lines < line {
                 return 0;
             }
             piece_of_line(page, tables, line - 1, part, out)
@@ -71,7 +75,7 @@ fn piece_of(
 }
 
 // A piece, put at the front of the output: how many bytes it has, 0 where there is none or it cannot be put.
-#[tactic(auto, using(crate::proofs::Whole::put_as, crate::proofs::Whole::nothing_put, crate::proofs::Whole::no_room, crate::proofs::Whole::may_be_put))]
+#[tactic(auto, using(crate::proofs::Whole::put_as, crate::proofs::Whole::nothing_put, crate::proofs::Whole::no_room, crate::proofs::Whole::too_many, crate::proofs::Whole::may_be_put))]
 pub fn piece(
     sheet: &Result<Page, Message>,
     tables: Tables,
@@ -82,6 +86,9 @@ pub fn piece(
     ensures { AtFront (put_of sheet.now tables.entry.kinds.now tables.entry.words.now line part (length out.old)) out.old result out.new }
 {
     if out.len() < low_bytes::TEXT_MAX {
+        return 0;
+    }
+    if lines_of(sheet) as usize > TERMS {
         return 0;
     }
     piece_of(sheet, tables, line, part, out)

@@ -18,5 +18,5 @@ returns c =
     let P = c.expand_file.new.pool in
     let cs = c.nodes_of-nodes.result in
     let short : all_short (node_at P) cs ≡ true = sym (rw (c.tables.ensures.kinds, c.tables.ensures.words) at c.all_short.ensures) ∙ c.if-not-all_short.false in
-    lines_prepared a.var a.order a.point cs P.kinds P.words short
+    lines_prepared a.var a.order a.point c.len.result c.entries_of.result P.kinds P.words c.len.ensures.is c.len.ensures.least c.len.ensures.most c.entries_of.ensures short
     (rw c.nodes_of-nodes.ensures (coefficients_found a.file.now a.var a.point a.order P c.expand_file.ensures c.in_ok-expansion.was ∙ all_printed P _ (rw c.nodes_of-nodes.ensures at short)))
