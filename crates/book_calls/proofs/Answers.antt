@@ -48,7 +48,9 @@ pub record Done (work : Work Expansion) (ks ws : List ℕ) (n : ℕ) (r : Series
   pub count : n' ≡ finish.count
 
 pub done_by : {work : Work Expansion} {ks ws : List ℕ} {n : ℕ} {r : Series} {ks' ws' : List ℕ} {n' : ℕ} → Answered work ks ws n r ks' ws' n' → Done work ks ws n r ks' ws' n'
-done_by {work} {ks} {ws} {n} {r} {ks'} {ws'} {n'} h = go (demand refused (is_pool ks ws n) broken_pool (work (lent_pool ks ws n))) refl (rw h.accepted at h.contract)
+done_by {work} {ks} {ws} {n} {r} {ks'} {ws'} {n'} h =
+    let answered : h.outcome ≡ Ok r = h.accepted in
+    go (demand refused (is_pool ks ws n) broken_pool (work (lent_pool ks ws n))) refl (rw answered at h.contract)
   where
     go :
         (x : Result Expansion) → demand refused (is_pool ks ws n) broken_pool (work (lent_pool ks ws n)) ≡ x → returned (Ok r) ks' ws' n' ≡ leaves accepted refused_outcome ks ws n x

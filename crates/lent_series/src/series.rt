@@ -76,10 +76,11 @@ impl Series {
             return Ok(Expansion::Constant(self.coeffs[0] as u32));
         }
         // entry by entry: past the list's end there may be any numbers, which need not fit a node number
-        let mut list = Coefficients::one(self.coeffs[0] as u32);
-        for i in 1..self.order as usize {
-            list.push(self.coeffs[i] as u32);
+        let mut entries = [0; TERMS];
+        for i in 0..self.order as usize {
+            entries[i] = self.coeffs[i] as u32;
         }
+        let list = Coefficients::first_of(&entries, self.order as u32);
         Ok(Expansion::Polynomial(list))
     }
 }

@@ -97,7 +97,7 @@ pub fn decimal_text(n: u64) -> Text
     text
 }
 
-// A literal as text, for callers that want one: nothing here calls it, since printing writes literals to its output with no text between.
+// A literal as text, for callers that want one, as the program `numbers`: printing writes literals to its output with no text between.
 #[tactic(auto, unfolding(crate::specs::Text::signed_decimal), using(crate::proofs::Digits::decimal_is_short))]
 pub fn signed_text(z: i64) -> Text
     ensures { result ≡ signed_decimal z }
