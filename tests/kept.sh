@@ -15,7 +15,7 @@ timeout 300 valgrind --tool=callgrind --callgrind-out-file="$out/counts" --combi
   "$out/kept" > "$out/calls" 2> "$out/errors" || { echo "the calls did not end well within 300 seconds"; tail -n 3 "$out/errors"; exit 1; }
 
 # The bounds in instructions, with what was counted:
-# - every call looks at both tables of 4,096 entries and copies them: 200,000 (165,000 counted);
+# - every call looks at both tables of 4,096 entries, and one that appends copies them: 200,000 (165,000 counted);
 # - a walk visits each node that it reaches once: 1,000 for each (40 to 790 counted, where it is not refused at once), which work for each two of 4,096 nodes would exceed;
 # - what works on expansions appends as many nodes as there is room for: 500 for each of 4,096 (260 counted);
 # - a text is made up to 65,536 bytes: 150 for each (94 counted);

@@ -1,5 +1,5 @@
 #!/usr/bin/env python3
-"""Prints the lemmas that stood in proofs/ at a commit and stand nowhere now, by file, with the functions whose proofs cited that file: `python3 tools/design_gone.py COMMIT`.
+"""Prints the lemmas and definitions that stood in proofs/ at a commit and do not stand there now, by file, with the functions whose proofs cited that file: `python3 tools/design_gone.py COMMIT`.
 Their contracts state now what those lemmas were steps of. A line of a file that no function's proof cited says which other files did. docs/DESIGN-PASS.md has what it printed."""
 import collections
 import glob
@@ -29,10 +29,13 @@ def of_function(name):
 
 
 def lemmas(files):
-    out = collections.defaultdict(list)
+    """file -> name -> statement, of lemmas, records and definitions"""
+    out = collections.defaultdict(dict)
     for name, text in files.items():
         if not of_function(name):
-            out[name] += [m for m in re.findall(r"^ *pub (?:abbrev |record |data )?([^\s:]+) ", text, re.M) if m not in ("mod", "use", "record", "data", "abbrev")]
+            for m in re.finditer(r"^ *(?:pub (?:record |data )?|(?:abbrev|unfoldable) pub )([^\s:]+) (.*?)(?=^ *(?:unfolding |pub |abbrev |unfoldable |module |record |--|\1 )|\Z)", text, re.M | re.S):
+                if m.group(1) not in ("mod", "use"):
+                    out[name].setdefault(m.group(1), " ".join(m.group(2).split()))
     return out
 
 
@@ -54,9 +57,11 @@ def users(name, seen):
     return out
 
 
-kept = {x for names in lemmas(now).values() for x in names}
+# kept are those that have their name in the crate still, or stand with it word for word in another: a lemma of another crate by the same name is another one
+in_crate = {(name.split("/")[1], x) for name, names in lemmas(now).items() for x in names}
+moved = {(x, s) for names in lemmas(now).values() for x, s in names.items()}
 for name, names in sorted(lemmas(before).items()):
-    gone = [x for x in dict.fromkeys(names) if x not in kept]
+    gone = [x for x, s in names.items() if (name.split("/")[1], x) not in in_crate and (x, s) not in moved]
     if gone:
         crate, file = re.match(r"crates/(\w+)/proofs/(.+)$", name).groups()
         whose = sorted(f.split("::", 1)[1] if f.startswith(crate + "::") else f for f in users(name, {name}))
