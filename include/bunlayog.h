@@ -24,15 +24,16 @@
  * Calls at once. All functions may run at once on different pools. Functions that only read a pool may run at once on the same one.
  *
  * Stack in bytes, as measured (docs/MEASUREMENTS.md has more figures, and the worst pool for each):
- *   check, taylor_order, taylor_from_coefficients       1,344
+ *   check, taylor_order                                 1,024
+ *   taylor_from_coefficients                            1,360
  *   run_strip                                           1,128
- *   lit, var and the constructors                      81,928
- *   the other operations on expansions                 86,136
+ *   lit, var and the constructors                      81,976
+ *   the other operations on expansions                 86,072
  *   write, read                                       369,136
  *   strip                                             282,736
  *   substitute_var, derive, evaluate, evaluate_residue,
- *   print                                             530,520
- *   taylor_coeffs, taylor_coeffs_at                   761,256
+ *   print                                             495,624
+ *   taylor_coeffs, taylor_coeffs_at                   761,864
  *
  * The archive is for x86-64 Linux. It calls memcpy and memset and nothing else, and has no data that can be written.
  */
