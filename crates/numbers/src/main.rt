@@ -7,7 +7,7 @@ use std::io;
 use std::io::Print;
 use text::Text;
 
-// A line: what is asked, and a text that is answered, by `text`, whose contracts say which bytes a number has, as no Display does.
+// A line: what is asked, and a text that is answered, by `text`, whose contracts say which bytes a number has.
 fn put_text(rt: &impl Print, what: &str, answer: Text) -> io::Result<()> {
     print!(rt; "{what}: ")?;
     rt.write_all(answer.as_bytes())?;

@@ -1,3 +1,4 @@
 pub mod Refusals
 pub mod Demand
 pub mod Numbers
+pub mod Shown

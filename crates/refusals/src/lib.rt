@@ -1,8 +1,14 @@
 // The refusals and their numbers. The names are those of specs/Refusals.antt, where the words of the papers for each stand.
 #![tactic(auto)]
 
-ghost use Rattle.std.specs.Prelude.{◌≡◌};
+ghost use Rattle.std.specs.Prelude.{◌≡◌, Some};
 ghost use Rattle.refusals.specs.Numbers.{number};
+ghost use Rattle.refusals.specs.Shown.{shown};
+
+use std::fmt;
+
+#[cfg(test)]
+mod tests;
 
 // Why a call is refused, with the number that callers get.
 #[derive(Clone, Copy, Debug, PartialEq, Eq)]
@@ -44,5 +50,14 @@ impl From<Refusal> for u32 {
 
     fn from(refusal: Refusal) -> u32 {
         refusal.number()
+    }
+}
+
+// For callers that print by std. No program does: they make their lines of `number`.
+impl fmt::Display for Refusal {
+    ghost output = { λ refusal. Some (shown refusal) };
+
+    fn fmt<W: fmt::Write>(&self, f: &mut fmt::Formatter<W>) -> fmt::Result {
+        write!(f, "refusal {}", self.number())
     }
 }

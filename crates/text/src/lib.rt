@@ -1,4 +1,4 @@
-// Numbers and variables as text, byte by byte: the definitions say which bytes, which no Display does, since its contract says none; and there is no heap for `format!`.
+// Numbers and variables as text, byte by byte: the definitions of specs/ say which bytes, where std's Display of a number says them by std's own; and there is no heap for `format!`.
 #![tactic(auto)]
 
 ghost use Rattle.std.specs.Prelude.{◌≡◌, [], ◌∷◌, ◌+◌, ◌<◌, ◌≤◌, length};
