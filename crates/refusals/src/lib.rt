@@ -53,7 +53,7 @@ impl From<Refusal> for u32 {
     }
 }
 
-// For callers that print by std. No program does: they make their lines of `number`.
+// For callers that print a refusal by std. No program does: their lines are made of its number.
 impl fmt::Display for Refusal {
     ghost output = { λ refusal. Some (shown refusal) };
 
